@@ -1,0 +1,10 @@
+pub mod Split
+pub mod Bools
+pub mod Within
+pub mod Each
+pub mod Sum
+pub mod Slots
+pub mod Stored
+pub mod Part
+pub mod Concat
+pub mod Runs

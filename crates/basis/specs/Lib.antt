@@ -1,0 +1,4 @@
+pub mod Range
+pub mod Slots
+pub mod Part
+pub mod Stored
