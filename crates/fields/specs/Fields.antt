@@ -1,0 +1,31 @@
+-- The fields of a job, read off the struct.
+-- Assumes nothing.
+use Prim.Native.Nat.{ℕ, _-_}
+use lib.ListN.{getD, replicate}
+use lib.IntN.{pos}
+use Rattle.fields.specs.declared.Section.{Section}
+use Rattle.fields.specs.declared.Job.{Job}
+
+abbrev pub blankSection : Section
+blankSection = record { parent = 0; kind = 0; fixtures = 0; decimetres = 0; elevation = pos 0; free = 0 }
+
+-- the job after a refusal
+unfoldable pub blankJob : Job
+blankJob =
+    record {
+      head = record { tenths = 0; sections = 0; hours = 0; meter = 0; guaranteed = 0; delivered = 0; limit = 0 };
+      residents = replicate 12 0;
+      sections = replicate 64 blankSection;
+    }
+
+-- S
+abbrev pub countOf : Job → ℕ
+countOf job = job .head .sections
+
+-- section i
+abbrev pub sectionOf : Job → ℕ → Section
+sectionOf job i = getD (job .sections) i blankSection
+
+-- U of a kind, 1 to 12
+abbrev pub residentsOf : Job → ℕ → ℕ
+residentsOf job kind = getD (job .residents) (kind - 1) 0

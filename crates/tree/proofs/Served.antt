@@ -1,0 +1,101 @@
+-- What a section serves: the sums over the sections at or below it, and the set of them.
+-- Assumes nothing.
+use mathlib.Core.Path.{_≡_, sym, _∙_}
+use mathlib.Core.Logic.{⊎-elim}
+use mathlib.Core.Bool.{true, false, cond}
+use Prim.Native.Nat.{ℕ, zero, suc, _+_, _^_, _≤_, _<_}
+use native.Mathlib.Omega.{arith}
+use lib.Dec.{eqb}
+use lib.Pow.{pow-pos}
+use borrow.Author.Tests.{eq-eqb, ne-eqb}
+use Rattle.basis.specs.Range.{sumTo}
+use Rattle.basis.proofs.Split.{lt-or-ge, eq-or-ne}
+use Rattle.basis.proofs.Sum.{sum-ext, sum-one, sum-two}
+use Rattle.fields.specs.declared.Job.{Job}
+use Rattle.fields.specs.Fields.{countOf, sectionOf}
+use Rattle.tree.specs.Tree.{below, ownOf, servedOf, houseOf, setOf, Rooted}
+use Rattle.tree.proofs.Below.{below-self, below-up, below-under, below-pump}
+use Rattle.tree.proofs.Climb.{climb, climb-stop, climb-step}
+use Rattle.tree.proofs.Taken.{part}
+
+-- the parent of a section; of the pump nothing is asked
+abbrev pub upOf : Job → ℕ → ℕ
+upOf job = λ j. sectionOf job j .parent
+
+module _ {job : Job} (r : Rooted job) where
+  climb-at : (i j : ℕ) → j ≤ i → j ≤ countOf job → eqb (climb (upOf job) (countOf job) i j) i ≡ below job i j
+  climb-at i j h k =
+      rw (climb-stop (upOf job) (countOf job) i j h)
+      (⊎-elim
+      (λ e. rw (eq-eqb j i e, e) (sym (below-self job i)))
+      (λ ne. rw (ne-eqb j i ne) (sym (below-under r i j (under ne) k)))
+      (eq-or-ne j i))
+    where
+      under : (j ≡ i → ⊥) → j < i
+      under ne = omega arith
+
+  climb-over : (i j : ℕ) → i < j → j ≤ countOf job → eqb (climb (upOf job) (countOf job) i (upOf job j)) i ≡ below job i (upOf job j) →
+      eqb (climb (upOf job) (countOf job) i j) i ≡ below job i j
+  climb-over i j h k e =
+      rw (climb-step (countOf job) (upOf job) (r .lower) i j h k) (e ∙ sym (below-up r i j (λ z. omega arith) (omega arith) k))
+
+  climb-below : (m i j : ℕ) → j ≤ m → j ≤ countOf job → eqb (climb (upOf job) (countOf job) i j) i ≡ below job i j
+  climb-below zero i j h k = climb-at i j (omega arith) k
+  climb-below (suc m) i j h k =
+      ⊎-elim
+      (λ lt. let l : upOf job j < j = r .lower j (omega arith) k in
+      climb-over i j lt k (climb-below m i (upOf job j) (omega arith) (omega arith)))
+      (λ ge. climb-at i j ge k)
+      (lt-or-ge i j)
+
+  -- at the end of the way up a place holds the values of the sections at or below its own
+  pub part-below : (f : ℕ → ℕ) (i : ℕ) → part (countOf job) (upOf job) f i i ≡ sumTo (countOf job) (λ j. cond (below job i j) (f j) 0)
+  unfolding part
+  part-below f i = sum-ext (countOf job) _ _ (λ j p q. rw (climb-below (countOf job) i j q q))
+
+  pub served-house : (kind : ℕ) → servedOf job 0 kind ≡ houseOf job kind
+  unfolding servedOf houseOf
+  served-house kind = sum-ext (countOf job) _ _ (λ j p q. rw (below-pump r j q))
+
+  module _ (i : ℕ) (a : 0 < i) (b : i ≤ countOf job)
+      (alone : (j : ℕ) → 0 < j → j ≤ countOf job → sectionOf job j .parent ≡ i → ⊥) where
+    not-below : (m j : ℕ) → j ≤ m → j ≤ countOf job → (j ≡ i → ⊥) → below job i j ≡ false
+    not-below zero j h k ne = below-under r i j (omega arith) k
+    not-below (suc m) j h k ne =
+        ⊎-elim
+        (λ p. let l : sectionOf job j .parent < j = r .lower j p k in
+        below-up r i j ne p k ∙ not-below m (sectionOf job j .parent) (omega arith) (omega arith) (alone j p k))
+        (λ z. below-under r i j (omega arith) k)
+        (lt-or-ge 0 j)
+
+    below-alone : (j : ℕ) → j ≤ countOf job → below job i j ≡ eqb j i
+    below-alone j k =
+        ⊎-elim
+        (λ e. rw (eq-eqb j i e, e) (below-self job i))
+        (λ ne. rw (ne-eqb j i ne) (not-below j j (omega arith) k ne))
+        (eq-or-ne j i)
+
+    -- a section that is no one's parent is a set of one
+    pub set-alone : setOf job i ≡ 2 ^ i
+    unfolding setOf
+    set-alone =
+        sum-ext (countOf job) _ (λ j. cond (eqb j i) (2 ^ j) 0) (λ j p q. rw (below-alone j q)) ∙
+        sum-one (countOf job) i (λ j. 2 ^ j) a b
+
+  -- and a parent is not
+  pub set-more : (i j : ℕ) → 0 < i → i ≤ countOf job → 0 < j → j ≤ countOf job → sectionOf job j .parent ≡ i → setOf job i ≡ 2 ^ i → ⊥
+  unfolding setOf
+  set-more i j a b p q e s =
+      let l : sectionOf job j .parent < j = r .lower j p q in
+      let under : below job i j ≡ true = below-up r i j (λ z. omega arith) p q ∙ rw e (below-self job i) in
+      let two : cond (below job i i) (2 ^ i) 0 + cond (below job i j) (2 ^ j) 0 ≤ 2 ^ i =
+      rw s at (sum-two (countOf job) i j (λ k. cond (below job i k) (2 ^ k) 0) a b p q (λ z. omega arith)) in
+      let both : 2 ^ i + 2 ^ j ≤ 2 ^ i = rw (below-self job i, under) at two in
+      omega (arith, pow-pos j)
+
+-- the house's fixtures are those of the sections up to the last
+pub house-same : (a b : Job) → countOf a ≡ countOf b → ((j : ℕ) → 0 < j → j ≤ countOf a → sectionOf a j ≡ sectionOf b j) →
+    (kind : ℕ) → houseOf a kind ≡ houseOf b kind
+unfolding houseOf ownOf
+house-same a b e same kind =
+    sum-ext (countOf a) _ (λ j. ownOf b kind j) (λ j p q. rw (same j p q)) ∙ rw e
