@@ -1,0 +1,7 @@
+pub mod HeadBounds
+pub mod Elevation
+pub mod SectionBounds
+pub mod Kept
+pub mod Ends
+pub mod House
+pub mod Same
