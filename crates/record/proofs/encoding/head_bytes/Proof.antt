@@ -1,0 +1,26 @@
+-- `record::encoding::head_bytes` meets its contract.
+-- Assumes nothing.
+use Rattle.wire.specs.Wire.{bytesOf}
+use Rattle.record.specs.Record.{headBytes}
+use borrow.Author.Needs.{needs}
+use Rattle.record.proofs.encoding.head_bytes.Statement.{statement}
+use Rattle.record.proofs.encoding.head_bytes.Tie as tie
+
+returns : tie.Need-returns
+unfolding headBytes bytesOf
+returns c = rw (
+  c .before .before .before .before .bytes32 .ensures,
+  c .before .before .before .before .before .wide .ensures .0,
+  c .before .before .before .bytes16 .ensures,
+  c .before .before .bytes162 .ensures,
+  c .before .bytes163 .ensures,
+  c .bytes164 .ensures,
+)
+
+pub head-bytes-spec : {M : Type 1} → statement M
+head-bytes-spec =
+    tie.close
+    (tie.spec (λ c κs. search needs) (λ c. search needs) (λ c. search needs) (λ c κs. search needs) (λ c κs. search needs)
+    (λ c κs. search needs) (λ c κs. search needs) (λ c κs. search needs) (λ c. search needs) (λ c. search needs) (λ c. search needs)
+    (λ c. search needs) (λ c. search needs) (λ c. search needs) (λ c. search needs) (λ c. search needs) (λ c. search needs)
+    (λ c. search needs) (λ c. search needs) (λ c. search needs) returns)
