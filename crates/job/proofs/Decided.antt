@@ -1,0 +1,114 @@
+-- The numbers of reading, writing and copying, part by part of their lists of checks.
+-- Assumes nothing.
+use mathlib.Core.Path.{_≡_, refl, sym, _∙_}
+use mathlib.Core.Bool.{Bool, true, false, not, cond}
+use mathlib.Core.List.{List, [], _∷_, _++_}
+use Prim.{Unit, tt}
+use Prim.Native.Nat.{ℕ, _≤_, _<_}
+use native.Mathlib.Omega.{arith}
+use lib.ListN.{length}
+use lib.Dec.{ltb, eqb}
+use borrow.Author.Tests.{lt-ltb, le-ltb, ltb-false, eq-eqb, ne-eqb, not-false}
+use Rattle.answer.specs.Checks.{firstNo}
+use Rattle.answer.proofs.First.{Numbered, first-none, first-found, first-next, first-clear, first-after, first-before, first-split, numbered-append}
+use Rattle.wire.specs.Wire.{byteAt, beAt}
+use Rattle.fields.specs.declared.Job.{Job}
+use Rattle.fields.specs.Fields.{blankJob, countOf}
+use Rattle.rules.specs.Rules.{headOk, fieldChecks}
+use Rattle.record.specs.Record.{lengthOf, headAt, decode}
+use Rattle.job.specs.Calls.{shapeChecks, readChecks, readNo, readJob, writeChecks, writeNo, copyChecks, copyNo}
+
+shape-numbered : (b : List ℕ) → Numbered (shapeChecks b)
+unfolding shapeChecks
+shape-numbered b = (omega arith, (omega arith, (omega arith, (omega arith, tt))))
+
+fields-numbered : (job : Job) → Numbered (fieldChecks job)
+unfolding fieldChecks
+fields-numbered job = (omega arith, (omega arith, (omega arith, tt)))
+
+-- reading: 1 to 4 where they find something, else 5 to 7 of the fields
+module _ (b : List ℕ) where
+  pub read-shape : (firstNo (shapeChecks b) ≡ 0 → ⊥) → readNo b ≡ firstNo (shapeChecks b)
+  unfolding readNo readChecks
+  read-shape n = first-before (shapeChecks b) (fieldChecks (decode b)) (shape-numbered b) n
+
+  pub read-fields : firstNo (shapeChecks b) ≡ 0 → readNo b ≡ firstNo (fieldChecks (decode b))
+  unfolding readNo readChecks
+  read-fields e = first-after (shapeChecks b) (fieldChecks (decode b)) (shape-numbered b) e
+
+  pub read-refused : (readNo b ≡ 0 → ⊥) → readJob b ≡ blankJob
+  unfolding readJob
+  read-refused n = rw (ne-eqb (readNo b) 0 n)
+
+  pub read-accepted : readNo b ≡ 0 → readJob b ≡ decode b
+  unfolding readJob
+  read-accepted e = rw (eq-eqb (readNo b) 0 e)
+
+  pub read-checked : firstNo (shapeChecks b) ≡ 0 → readJob b ≡ cond (eqb (firstNo (fieldChecks (decode b))) 0) (decode b) blankJob
+  unfolding readJob
+  read-checked e = rw (read-fields e)
+
+-- what holds where the reader finds nothing
+pub record Readable (b : List ℕ) : Type 0 where
+  pub shape : firstNo (shapeChecks b) ≡ 0
+  pub fields : firstNo (fieldChecks (decode b)) ≡ 0
+
+pub readable : (b : List ℕ) → readNo b ≡ 0 → Readable b
+unfolding readNo readChecks
+readable b e =
+    let parts = first-split (shapeChecks b) (fieldChecks (decode b)) (shape-numbered b) e in
+    record { shape = parts .0; fields = parts .1 }
+
+-- copying: the reader's number where it finds something, else 14
+module _ (b : List ℕ) (room : ℕ) where
+  read-numbered : Numbered (readChecks b)
+  unfolding readChecks
+  read-numbered = numbered-append (shapeChecks b) (fieldChecks (decode b)) (shape-numbered b) (fields-numbered (decode b))
+
+  pub copy-refused : (readNo b ≡ 0 → ⊥) → copyNo b room ≡ readNo b
+  unfolding copyNo copyChecks readNo
+  copy-refused n = first-before (readChecks b) ((ltb room (length b), 14) ∷ []) read-numbered n
+
+  pub copy-room : readNo b ≡ 0 → copyNo b room ≡ firstNo ((ltb room (length b), 14) ∷ [])
+  unfolding copyNo copyChecks readNo
+  copy-room e = first-after (readChecks b) ((ltb room (length b), 14) ∷ []) read-numbered e
+
+-- writing: 3, else 5 to 7, else 14
+module _ (job : Job) (room : ℕ) where
+  pub write-range : headOk (job .head) ≡ false → writeNo job room ≡ 3
+  unfolding writeNo writeChecks
+  write-range e = first-found 3 _ (rw e)
+
+  module _ (head : headOk (job .head) ≡ true) where
+    pub write-fields : (firstNo (fieldChecks job) ≡ 0 → ⊥) → writeNo job room ≡ firstNo (fieldChecks job)
+    unfolding writeNo writeChecks
+    write-fields n = first-next 3 _ (rw head) ∙ first-before (fieldChecks job) _ (fields-numbered job) n
+
+    module _ (fields : firstNo (fieldChecks job) ≡ 0) where
+      pub write-room : writeNo job room ≡ firstNo ((ltb room (lengthOf (countOf job)), 14) ∷ [])
+      unfolding writeNo writeChecks
+      write-room = first-next 3 _ (rw head) ∙ first-after (fieldChecks job) _ (fields-numbered job) fields
+
+      pub write-short : room < lengthOf (countOf job) → writeNo job room ≡ 14
+      write-short h = write-room ∙ first-found 14 [] (lt-ltb room (lengthOf (countOf job)) h)
+
+      pub write-done : lengthOf (countOf job) ≤ room → writeNo job room ≡ 0
+      write-done h = write-room ∙ first-next 14 [] (le-ltb room (lengthOf (countOf job)) h) ∙ first-none
+
+-- what holds where the writer finds nothing
+pub record Writable (job : Job) (room : ℕ) : Type 0 where
+  pub head : headOk (job .head) ≡ true
+  pub fields : firstNo (fieldChecks job) ≡ 0
+  pub fits : lengthOf (countOf job) ≤ room
+
+pub writable : (job : Job) (room : ℕ) → writeNo job room ≡ 0 → Writable job room
+unfolding writeNo writeChecks
+writable job room e =
+    let three = first-clear (not (headOk (job .head))) 3 _ (omega arith) e in
+    let rest = first-split (fieldChecks job) _ (fields-numbered job) (three .1) in
+    let last = first-clear (ltb room (lengthOf (countOf job))) 14 [] (omega arith) (rest .1) in
+    record {
+      head = not-false (headOk (job .head)) (three .0);
+      fields = rest .0;
+      fits = ltb-false room (lengthOf (countOf job)) (last .0);
+    }

@@ -1,0 +1,144 @@
+-- Written and read again, a job has the same fields; read and written, an accepted record has the same bytes; and the writer does not refuse it.
+-- Assumes nothing.
+use mathlib.Core.Path.{_≡_, refl, sym, ap, _∙_}
+use mathlib.Core.Bool.{true}
+use mathlib.Core.List.{List, [], _∷_, append-assoc}
+use Prim.Native.Nat.{ℕ, _+_, _≤_, _<_}
+use native.Mathlib.Omega.{arith}
+use lib.ListN.{length, getD}
+use lib.Dec.{ltb}
+use borrow.Author.Tests.{le-ltb}
+use Rattle.basis.proofs.Slots.{slots-in}
+use Rattle.answer.specs.Checks.{firstNo}
+use Rattle.answer.proofs.First.{first-none, first-next}
+use Rattle.wire.specs.Wire.{byteAt, beAt, bytesOf}
+use Rattle.wire.proofs.Fields.{be-bytes}
+use Rattle.fields.specs.declared.Job.{Job}
+use Rattle.fields.specs.Fields.{blankSection, countOf, sectionOf}
+use Rattle.rules.specs.Rules.{headOk, fieldChecks}
+use Rattle.rules.proofs.HeadBounds.{HeadIn, head-in}
+use Rattle.rules.proofs.SectionBounds.{SectionIn}
+use Rattle.rules.proofs.Elevation.{elevation-small}
+use Rattle.rules.proofs.Kept.{sections-in, kept-sections}
+use Rattle.rules.proofs.Same.{checks-same}
+use Rattle.record.specs.Record.{lengthOf, headAt, headBytes, decode, encode, kept, SectionFits, JobFits}
+use Rattle.record.proofs.Lengths.{encode-length}
+use Rattle.record.proofs.RoundTrip.{encode-decode, decode-encode}
+use Rattle.job.specs.Calls.{readNo, readJob, writeNo, copyNo}
+use Rattle.job.proofs.Shape.{Shaped, shaped, few, well-formed}
+use Rattle.job.proofs.Decided.{readable, read-fields, read-accepted, Writable, writable, write-room, copy-room}
+
+-- an accepted record, read and written
+module _ (b : List ℕ) (accepted : readNo b ≡ 0) where
+  read-shaped : Shaped b
+  read-shaped = shaped b (readable b accepted .shape)
+
+  read-head : headOk (decode b .head) ≡ true
+  unfolding decode
+  read-head = read-shaped .head
+
+  read-length : lengthOf (countOf (decode b)) ≡ length b
+  unfolding decode headAt
+  read-length = sym (read-shaped .whole)
+
+  fields-read : readJob b ≡ decode b
+  fields-read = read-accepted b accepted
+
+  -- it has the same bytes
+  pub same-bytes : ((k : ℕ) → byteAt b k < 256) → encode (readJob b) ≡ b
+  same-bytes byte =
+      let s : Shaped b = read-shaped in rw fields-read (encode-decode b byte (few s) (s .stated) (s .version) (s .whole))
+
+  -- the writer gives 14 or nothing, as the room is
+  pub rewritten : (room : ℕ) → writeNo (readJob b) room ≡ firstNo ((ltb room (length b), 14) ∷ [])
+  rewritten room = rw fields-read (write-room (decode b) room read-head (readable b accepted .fields) ∙ rw read-length)
+
+  -- and copying gives what the writer gives
+  pub copied : (room : ℕ) → copyNo b room ≡ writeNo (readJob b) room
+  copied room = copy-room b room accepted ∙ sym (rewritten room)
+
+  -- with enough room it is not refused
+  pub not-refused : (room : ℕ) → length b ≤ room → writeNo (readJob b) room ≡ 0
+  not-refused room h = rewritten room ∙ first-next 14 [] (le-ltb room (length b) h) ∙ first-none
+
+-- what no rule bounds, and the types hold: residents of twelve kinds, and fixtures, of 16 bits each
+pub record Sixteen (job : Job) : Type 0 where
+  pub kinds : length (job .residents) ≡ 12
+  pub residents : (c : ℕ) → c < 12 → getD (job .residents) c 0 < 65536
+  pub fixtures : (i : ℕ) → 0 < i → i ≤ countOf job → sectionOf job i .fixtures < 65536
+
+-- a job that is written, and read again
+module _ (job : Job) (sixteen : Sixteen job) (room : ℕ) (done : writeNo job room ≡ 0) where
+  may : Writable job room
+  may = writable job room done
+
+  bounds : HeadIn (job .head)
+  bounds = head-in (job .head) (may .head)
+
+  section-fits : (i : ℕ) → 0 < i → i ≤ countOf job → SectionFits (sectionOf job i)
+  section-fits i a h =
+      let s : SectionIn i (sectionOf job i) = sections-in job (kept-sections job (may .fields)) i a h in
+      record {
+        fixtures = sixteen .fixtures i a h;
+        decimetres = omega arith;
+        elevation = omega (arith, elevation-small (sectionOf job i .elevation) (s .elevation));
+        free = omega arith;
+      }
+
+  fits : JobFits job
+  fits =
+      let h : HeadIn (job .head) = bounds in
+      record {
+        head = record { meter = omega arith; guaranteed = omega arith; delivered = omega arith; limit = omega arith };
+        kinds = sixteen .kinds;
+        residents = sixteen .residents;
+        sections = section-fits;
+      }
+
+  few-again : countOf job ≤ 63
+  few-again = bounds .sections .high
+
+  -- a record keeps the first S sections
+  pub same-sections : (i : ℕ) → 0 < i → i ≤ countOf job → sectionOf (kept job) i ≡ sectionOf job i
+  unfolding kept
+  same-sections i a h =
+      slots-in 64 1 (countOf job + 1) blankSection (sectionOf job) i blankSection (omega arith) (omega arith)
+      (omega (arith, few-again))
+
+  again : decode (encode job) ≡ kept job
+  again = decode-encode job fits
+
+  head-again : headAt (encode job) ≡ job .head
+  unfolding decode kept
+  head-again = ap (λ (j : Job). j .head) again
+
+  same-checks : fieldChecks job ≡ fieldChecks (kept job)
+  unfolding kept
+  same-checks = checks-same job (kept job) refl refl (λ i a h. sym (same-sections i a h))
+
+  fields-again : firstNo (fieldChecks (decode (encode job))) ≡ 0
+  fields-again = rw (again, ← same-checks) (may .fields)
+
+  stated-again : beAt 4 (encode job) 0 ≡ length (encode job)
+  unfolding encode headBytes
+  stated-again =
+      let few : countOf job ≤ 63 = few-again in
+      rw (encode-length job, append-assoc (bytesOf 4 (lengthOf (countOf job))) _ _) (be-bytes 4 (lengthOf (countOf job)) _ (omega arith))
+
+  version-again : byteAt (encode job) 4 ≡ 1
+  unfolding encode headBytes bytesOf
+  version-again = refl
+
+  shape-again : length (encode job) ≡ lengthOf (byteAt (encode job) 6)
+  unfolding encode headBytes bytesOf
+  shape-again = encode-length job
+
+  -- it is accepted, with the fields that a record keeps
+  pub accepted-again : readNo (encode job) ≡ 0
+  accepted-again =
+      let long : 40 ≤ length (encode job) = rw (encode-length job) (omega arith) in
+      let head : headOk (headAt (encode job)) ≡ true = rw head-again (may .head) in
+      read-fields (encode job) (well-formed (encode job) long stated-again version-again head shape-again) ∙ fields-again
+
+  pub same-fields : readJob (encode job) ≡ kept job
+  same-fields = read-accepted (encode job) accepted-again ∙ again

@@ -1,0 +1,48 @@
+-- `job::read` meets its contract.
+-- Assumes nothing.
+use mathlib.Core.Path.{_≡_, sym, ap, _∙_}
+use Prim.Native.Nat.{_≤_}
+use native.Mathlib.Omega.{arith}
+use borrow.Author.Needs.{needs}
+use Rattle.answer.specs.Answer.{numberOf}
+use Rattle.answer.specs.Checks.{firstNo}
+use Rattle.wire.specs.Wire.{byteAt}
+use Rattle.record.specs.Record.{headAt, decode}
+use Rattle.job.specs.Calls.{shapeChecks}
+use Rattle.job.proofs.Shape.{Shaped, shaped, few}
+use Rattle.job.proofs.Decided.{read-shape, read-fields, read-refused, read-checked}
+use Rattle.job.proofs.read.Statement.{statement}
+use Rattle.job.proofs.read.Tie as tie
+
+-- the number tested is that of 1 to 4
+found : (c : tie.After-number) → c .number .result ≡ firstNo (shapeChecks (c .before .before .before .args .b .now))
+found c = c .number .ensures ∙ c .before .shape-refusal .ensures
+
+passed : (c : tie.Else1) → firstNo (shapeChecks (c .before .before .before .before .args .b .now)) ≡ 0
+passed c = sym (found (c .before)) ∙ c .if1 .left
+
+job-of-requires : tie.Need-job-of-requires
+job-of-requires c κs = let s = shaped _ (passed c) in (few s, omega (arith, s .whole))
+
+checked-requires : tie.Need-checked-requires
+unfolding decode headAt
+checked-requires c κs = rw (c .job-of .ensures) (few (shaped _ (passed (c .before))))
+
+failed : (c : tie.Then1) → firstNo (shapeChecks (c .before .before .before .before .args .b .now)) ≡ 0 → ⊥
+failed c e = c .if1 .taken (found (c .before) ∙ e)
+
+returns : tie.Need-returns
+returns c =
+    let no = failed (c .before) in (
+      ap numberOf (c .refused .ensures .0) ∙ c .before .before .before .shape-refusal .ensures ∙ sym (read-shape _ no),
+      c .refused .ensures .1 ∙ sym (read-refused _ (λ e. no (sym (read-shape _ no) ∙ e))),
+    )
+
+returns-2 : tie.Need-returns-2
+returns-2 c =
+    let e = passed (c .before .before) in
+    let job = c .before .job-of .ensures in
+    (rw job at (c .checked .ensures .0) ∙ sym (read-fields _ e), rw job at (c .checked .ensures .1) ∙ sym (read-checked _ e))
+
+pub read-spec : {M : Type 1} → statement M
+read-spec = tie.close (tie.spec (λ c κs. search needs) (λ c κs. search needs) (λ c κs. search needs) returns job-of-requires checked-requires returns-2)

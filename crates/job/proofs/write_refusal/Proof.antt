@@ -1,0 +1,45 @@
+-- `job::write_refusal` meets its contract.
+-- Assumes nothing.
+use mathlib.Core.Path.{_≡_, sym, _∙_}
+use mathlib.Core.Bool.{true, false}
+use Prim.Native.Nat.{_≤_}
+use native.Mathlib.Omega.{arith}
+use borrow.Author.Needs.{needs}
+use borrow.Author.Tests.{not-true, not-false}
+use Rattle.answer.specs.Checks.{firstNo}
+use Rattle.rules.specs.Rules.{headOk, fieldChecks}
+use Rattle.rules.proofs.HeadBounds.{head-in}
+use Rattle.job.proofs.Decided.{write-range, write-fields, write-short, write-done}
+use Rattle.job.proofs.write_refusal.Statement.{statement}
+use Rattle.job.proofs.write_refusal.Tie as tie
+
+-- what each test has shown, at its place
+inside : (c : tie.Else1) → headOk (c .before .before .args .job .head) ≡ true
+inside c = sym (c .before .head-ok .ensures) ∙ not-false (c .before .head-ok .result) (c .if1 .left)
+
+found : (c : tie.After-number) → c .number .result ≡ firstNo (fieldChecks (c .before .before .before .before .args .job))
+found c = c .number .ensures ∙ c .before .broken-rule .ensures
+
+returns : tie.Need-returns
+returns c = sym (write-range _ _ (sym (c .before .head-ok .ensures) ∙ not-true (c .before .head-ok .result) (c .if1 .taken)))
+
+broken-rule-requires : tie.Need-broken-rule-requires
+broken-rule-requires c κs = head-in _ (inside c) .sections .high
+
+returns-2 : tie.Need-returns-2
+returns-2 c =
+    let at = c .before in
+    at .before .broken-rule .ensures ∙ sym (write-fields _ _ (inside (at .before .before)) (λ e. c .if2 .taken (found at ∙ e)))
+
+returns-3 : tie.Need-returns-3
+returns-3 c =
+    let at = c .before .before .before in
+    sym (write-short _ _ (inside (at .before .before)) (sym (found at) ∙ c .before .before .if2 .left) (omega arith))
+
+returns-4 : tie.Need-returns-4
+returns-4 c =
+    let at = c .before .before .before in
+    sym (write-done _ _ (inside (at .before .before)) (sym (found at) ∙ c .before .before .if2 .left) (omega arith))
+
+pub write-refusal-spec : {M : Type 1} → statement M
+write-refusal-spec = tie.close (tie.spec (λ c κs. search needs) returns broken-rule-requires (λ c κs. search needs) returns-2 (λ c. search needs) (λ c. search needs) (λ c. search needs) returns-3 returns-4)

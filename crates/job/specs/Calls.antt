@@ -1,0 +1,59 @@
+-- Reading and writing a record: the checks in the order of document 01, "Refused orders", and what is given back.
+-- Assumes nothing.
+use Prim.Native.Nat.{ℕ}
+use mathlib.Core.Bool.{Bool, not, _||_, cond}
+use mathlib.Core.List.{List, [], _∷_, _++_}
+use lib.ListN.{length}
+use lib.Dec.{ltb, eqb}
+use Rattle.basis.specs.Stored.{stored}
+use Rattle.answer.specs.Checks.{firstNo}
+use Rattle.wire.specs.Wire.{byteAt, beAt}
+use Rattle.fields.specs.declared.Job.{Job}
+use Rattle.fields.specs.Fields.{blankJob, countOf}
+use Rattle.rules.specs.Rules.{headOk, fieldChecks}
+use Rattle.record.specs.Record.{lengthOf, headAt, decode}
+
+-- 1: job under 40 bytes, or its length isn't the bytes lent
+unfoldable pub wrongLength : List ℕ → Bool
+wrongLength b = ltb (length b) 40 || not (eqb (beAt 4 b 0) (length b))
+
+-- 2: version not 1
+unfoldable pub wrongVersion : List ℕ → Bool
+wrongVersion b = not (eqb (byteAt b 4) 1)
+
+-- 4: length isn't 40 + 10 × S
+unfoldable pub wrongCount : List ℕ → Bool
+wrongCount b = not (eqb (length b) (lengthOf (byteAt b 6)))
+
+-- 1 to 4, of the record as it stands
+unfoldable pub shapeChecks : List ℕ → List (Bool × ℕ)
+shapeChecks b = (wrongLength b, 1) ∷ (wrongVersion b, 2) ∷ (not (headOk (headAt b)), 3) ∷ (wrongCount b, 4) ∷ []
+
+-- reading: 1 to 4, and then 5 to 7 of its fields
+unfoldable pub readChecks : List ℕ → List (Bool × ℕ)
+readChecks b = shapeChecks b ++ fieldChecks (decode b)
+
+unfoldable pub readNo : List ℕ → ℕ
+readNo b = firstNo (readChecks b)
+
+-- the fields of an accepted record; all zero after a refusal
+unfoldable pub readJob : List ℕ → Job
+readJob b = cond (eqb (readNo b) 0) (decode b) blankJob
+
+-- the buffer after a call that gives a number: the bytes at its front and the rest as it was where the number is 0, else all of it as it was
+abbrev pub bufferAfter : ℕ → List ℕ → List ℕ → List ℕ
+bufferAfter n bytes out = cond (eqb n 0) (stored out 0 bytes) out
+
+-- writing into so many bytes: 3, 5 to 7, and 14 where the result buffer is too short
+unfoldable pub writeChecks : Job → ℕ → List (Bool × ℕ)
+writeChecks job room = (not (headOk (job .head)), 3) ∷ (fieldChecks job ++ ((ltb room (lengthOf (countOf job)), 14) ∷ []))
+
+unfoldable pub writeNo : Job → ℕ → ℕ
+writeNo job room = firstNo (writeChecks job room)
+
+-- reading and writing again into so many bytes: 1 to 7, and 14
+unfoldable pub copyChecks : List ℕ → ℕ → List (Bool × ℕ)
+copyChecks b room = readChecks b ++ ((ltb room (length b), 14) ∷ [])
+
+unfoldable pub copyNo : List ℕ → ℕ → ℕ
+copyNo b room = firstNo (copyChecks b room)

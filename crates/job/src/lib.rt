@@ -1,0 +1,124 @@
+// Reading a job record and writing one.
+use answer::Answer;
+use fields::Job;
+ghost use mathlib.Core.Path.{_≡_};
+ghost use mathlib.Core.Bool.{cond};
+ghost use Prim.Native.Nat.{_≤_};
+ghost use lib.Dec.{eqb};
+ghost use lib.ListN.{length};
+ghost use Rattle.answer.specs.Answer.{numberOf};
+ghost use Rattle.answer.specs.Checks.{firstNo};
+ghost use Rattle.fields.specs.Fields.{blankJob, countOf};
+ghost use Rattle.rules.specs.Rules.{fieldChecks};
+ghost use Rattle.record.specs.Record.{encode};
+ghost use Rattle.job.specs.Calls.{shapeChecks, readNo, readJob, writeNo, copyNo, bufferAfter};
+
+// What reading gives: the answer, and the fields, all zero after a refusal.
+pub struct Reading {
+    pub answer: Answer,
+    pub job: Job,
+}
+
+fn refused(answer: Answer) -> Reading
+    ensures { λ r. ⌜ (r .answer ≡ answer) × (r .job ≡ blankJob) ⌝ }
+{
+    Reading {
+        answer,
+        job: fields::blank_job(),
+    }
+}
+
+fn wide(x: u32) -> usize
+    ensures { λ r. ⌜ r ≡ x ⌝ }
+{
+    x as usize
+}
+
+// 1 to 4, of the record as it stands.
+fn shape_refusal(b: &[u8]) -> Answer
+    ensures { λ r. ⌜ numberOf r ≡ firstNo (shapeChecks (now (b .entry))) ⌝ }
+{
+    if b.len() < 40 {
+        return Answer::Length;
+    }
+    if wide(wire::be32(b, 0)) != b.len() {
+        return Answer::Length;
+    }
+    if b[4] != 1 {
+        return Answer::Version;
+    }
+    let head = record::head_of(b);
+    let count = head.sections as usize;
+    if !rules::head_ok(head) {
+        return Answer::Range;
+    }
+    if b.len() != 40 + 10 * count {
+        return Answer::Count;
+    }
+    Answer::Done
+}
+
+// 5 to 7, of fields that passed 3.
+fn checked(job: Job) -> Reading
+    requires { ⌜ countOf job ≤ 63 ⌝ }
+    ensures { λ r. ⌜ (numberOf (r .answer) ≡ firstNo (fieldChecks job)) × (r .job ≡ cond (eqb (firstNo (fieldChecks job)) 0) job blankJob) ⌝ }
+{
+    let answer = rules::broken_rule(job);
+    if answer::number(answer) != 0 {
+        return refused(answer);
+    }
+    Reading { answer, job }
+}
+
+// Any bytes give a job or a number from 1 to 7.
+pub fn read(b: &[u8]) -> Reading
+    ensures { λ r. ⌜ (numberOf (r .answer) ≡ readNo (now (b .entry))) × (r .job ≡ readJob (now (b .entry))) ⌝ }
+{
+    let answer = shape_refusal(b);
+    if answer::number(answer) != 0 {
+        return refused(answer);
+    }
+    checked(record::job_of(b))
+}
+
+// 3, 5, 6, 7 and 14, of fields and a buffer.
+fn write_refusal(job: Job, room: usize) -> Answer
+    ensures { λ r. ⌜ numberOf r ≡ writeNo job room ⌝ }
+{
+    if !rules::head_ok(job.head) {
+        return Answer::Range;
+    }
+    let answer = rules::broken_rule(job);
+    if answer::number(answer) != 0 {
+        return answer;
+    }
+    let count = job.head.sections as usize;
+    if room < 40 + 10 * count {
+        return Answer::Room;
+    }
+    Answer::Done
+}
+
+// The record's bytes at the front of the buffer, or a number and the buffer as it was.
+pub fn write(job: Job, out: &mut [u8]) -> Answer
+    ensures { λ r. ⌜ (numberOf r ≡ writeNo job (length (now (out .entry)))) × (now (out .exit) ≡ bufferAfter (numberOf r) (encode job) (now (out .entry))) ⌝ }
+{
+    let answer = write_refusal(job, out.len());
+    if answer::number(answer) != 0 {
+        return answer;
+    }
+    record::put_job(out, job);
+    answer
+}
+
+// Reads a record and writes it again.
+pub fn copy(b: &[u8], out: &mut [u8]) -> Answer
+    ensures { λ r. ⌜ (numberOf r ≡ copyNo (now (b .entry)) (length (now (out .entry)))) × (now (out .exit) ≡ bufferAfter (numberOf r) (now (b .entry)) (now (out .entry))) ⌝ }
+{
+    let reading = read(b);
+    let answer = reading.answer;
+    if answer::number(answer) != 0 {
+        return answer;
+    }
+    write(reading.job, out)
+}
