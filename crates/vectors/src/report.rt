@@ -1,0 +1,70 @@
+// The fields of a job, in lines.
+use crate::print;
+use fields::Head;
+use fields::Job;
+use fields::Section;
+
+fn wide8(x: u8) -> u64 {
+    x as u64
+}
+
+fn wide16(x: u16) -> u64 {
+    x as u64
+}
+
+pub fn job(job: Job) {
+    let count = job.head.sections;
+    let by_kind = job.residents;
+    let by_number = job.sections;
+    head(job.head);
+    residents(by_kind);
+    sections(by_number, count as usize);
+}
+
+fn head(h: Head) {
+    let mut out = [0u8; 4096];
+    let at = print::text(&mut out, 0, b"head");
+    let at = print::number(&mut out, at, wide8(h.tenths));
+    let at = print::number(&mut out, at, wide8(h.sections));
+    let at = print::number(&mut out, at, wide8(h.hours));
+    let at = print::number(&mut out, at, wide16(h.meter));
+    let at = print::number(&mut out, at, wide16(h.guaranteed));
+    let at = print::number(&mut out, at, wide16(h.delivered));
+    let at = print::number(&mut out, at, wide16(h.limit));
+    print::end(&mut out, at);
+}
+
+fn residents(residents: [u16; 12]) {
+    let mut out = [0u8; 4096];
+    let mut at = print::text(&mut out, 0, b"residents");
+    let mut c: usize = 0;
+    while c < 12 {
+        at = print::number(&mut out, at, wide16(residents[c]));
+        c += 1;
+    }
+    print::end(&mut out, at);
+}
+
+fn section(i: usize, s: Section) {
+    let mut out = [0u8; 4096];
+    let at = print::text(&mut out, 0, b"section");
+    let at = print::number(&mut out, at, i as u64);
+    let at = print::number(&mut out, at, wide8(s.parent));
+    let at = print::number(&mut out, at, wide8(s.kind));
+    let at = print::number(&mut out, at, wide16(s.fixtures));
+    let at = print::number(&mut out, at, wide16(s.decimetres));
+    let at = print::signed(&mut out, at, s.elevation);
+    let at = print::number(&mut out, at, wide16(s.free));
+    print::end(&mut out, at);
+}
+
+// Sections 1 to count.
+fn sections(sections: [Section; 64], count: usize) {
+    let mut i: usize = 1;
+    while i < 64 {
+        if i <= count {
+            section(i, sections[i]);
+        }
+        i += 1;
+    }
+}
