@@ -1,7 +1,7 @@
 -- Tests joined by "and" and "or", and a test that cannot hold.
 -- Assumes nothing.
 use mathlib.Core.Path.{_≡_, refl}
-use mathlib.Core.Bool.{Bool, true, false, _&&_}
+use mathlib.Core.Bool.{Bool, true, false, _&&_, _||_}
 use Prim.Native.Nat.{ℕ}
 use native.Mathlib.Omega.{arith}
 
@@ -15,6 +15,14 @@ left false b e = e
 pub right : (a b : Bool) → (a && b) ≡ true → b ≡ true
 right true b e = e
 right false b e = absurd (apart e refl)
+
+pub not-both : (a b : Bool) → (a && b) ≡ false → a ≡ true → b ≡ true → ⊥
+not-both true b e p q = apart q e
+not-both false b e p q = apart p refl
+
+pub neither : (a b : Bool) → (a || b) ≡ false → (a ≡ false) × (b ≡ false)
+neither true b e = absurd (apart refl e)
+neither false b e = (refl, e)
 
 -- what cannot be true is false
 pub never : (t : Bool) → (t ≡ true → ⊥) → t ≡ false

@@ -9,6 +9,7 @@ use native.Mathlib.Omega.{arith}
 use borrow.Author.Tests.{not-false}
 use Rattle.basis.specs.Range.{allTo, anyTo}
 use Rattle.basis.proofs.Bools.{left, right, never, apart, same}
+use Rattle.basis.proofs.Split.{either}
 
 pub all-none : (f : ℕ → Bool) → allTo 0 f ≡ true
 unfolding allTo
@@ -76,3 +77,30 @@ any-each n f e = rw (any-not n f, all-each n (λ t. not (f t)) (λ t h k. ap not
 
 pub any-ext : (n : ℕ) (f g : ℕ → Bool) → ((t : ℕ) → 0 < t → t ≤ n → f t ≡ g t) → anyTo n f ≡ anyTo n g
 any-ext n f g e = any-not n f ∙ rw (all-ext n (λ t. not (f t)) (λ t. not (g t)) (λ t h k. ap not (e t h k))) (sym (any-not n g))
+
+-- a number from 1 to n for which the test holds
+pub record Found (n : ℕ) (f : ℕ → Bool) : Type 0 where
+  pub place : ℕ
+  pub low : 0 < place
+  pub high : place ≤ n
+  pub holds : f place ≡ true
+
+any-one : (n : ℕ) (f : ℕ → Bool) → anyTo (suc n) f ≡ (anyTo n f || f (suc n))
+unfolding anyTo
+any-one n f = refl
+
+pub any-found : (n : ℕ) (f : ℕ → Bool) → anyTo n f ≡ true → Found n f
+any-found zero f e = absurd (apart e (any-none f))
+any-found (suc n) f e =
+    ⊎-elim
+    (λ t. record { place = suc n; low = omega arith; high = omega arith; holds = t })
+    (λ t. let r : Found n f = any-found n f (first t) in
+    record { place = r .place; low = r .low; high = omega (arith, r .high); holds = r .holds })
+    (either (f (suc n)))
+  where
+    or-false : (a : Bool) → (a || false) ≡ a
+    or-false true = refl
+    or-false false = refl
+
+    first : f (suc n) ≡ false → anyTo n f ≡ true
+    first t = sym (or-false (anyTo n f)) ∙ rw (← t) (sym (any-one n f) ∙ e)

@@ -8,3 +8,4 @@ pub mod Stored
 pub mod Part
 pub mod Concat
 pub mod Runs
+pub mod Round

@@ -5,7 +5,7 @@ use mathlib.Core.Logic.{⊎-elim}
 use mathlib.Core.Bool.{Bool, true, false, cond}
 use Prim.Native.Nat.{ℕ, zero, suc, _+_, _*_, _^_, _≤_, _<_}
 use native.Mathlib.Omega.{arith}
-use native.Mathlib.Nat.{suc-mul}
+use native.Mathlib.Nat.{suc-mul, mul-add}
 use lib.Dec.{eqb}
 use lib.Pow.{pow-pos, pow-add}
 use borrow.Author.Tests.{eq-eqb, ne-eqb}
@@ -42,6 +42,13 @@ sum-le (suc n) b f h =
     rw (sum-more n f, suc-mul n b)
     (omega (arith, h (suc n) (omega arith) (omega arith), sum-le n b f (λ j p q. h j p (omega arith))))
 
+-- each term at most b times another's
+pub sum-scale : (n b : ℕ) (f g : ℕ → ℕ) → ((j : ℕ) → 0 < j → j ≤ n → f j ≤ b * g j) → sumTo n f ≤ b * sumTo n g
+sum-scale zero b f g h = rw (sum-none f) (omega arith)
+sum-scale (suc n) b f g h =
+    rw (sum-more n f, sum-more n g, mul-add b (sumTo n g) (g (suc n)))
+    (omega (arith, h (suc n) (omega arith) (omega arith), sum-scale n b f g (λ j p q. h j p (omega arith))))
+
 sum-zero : (n : ℕ) → sumTo n (λ j. 0) ≡ 0
 sum-zero zero = sum-none (λ j. 0)
 sum-zero (suc n) = sum-more n (λ j. 0) ∙ rw (sum-zero n)
@@ -71,6 +78,19 @@ cond-le false v = omega arith
 -- some of the terms
 pub sum-some : (n : ℕ) (b : ℕ → Bool) (f : ℕ → ℕ) → sumTo n (λ j. cond (b j) (f j) 0) ≤ sumTo n f
 sum-some n b f = sum-mono n _ f (λ j p q. cond-le (b j) (f j))
+
+-- one term is at most the whole
+pub sum-at : (n j : ℕ) (f : ℕ → ℕ) → 0 < j → j ≤ n → f j ≤ sumTo n f
+sum-at n j f a b = rw (← sum-one n j f a b) (sum-some n (λ k. eqb k j) f)
+
+cond-more : (a b : Bool) (v : ℕ) → (a ≡ true → b ≡ true) → cond a v 0 ≤ cond b v 0
+cond-more false b v h = omega arith
+cond-more true b v h = let e : b ≡ true = h refl in rw e (omega arith)
+
+-- more of the terms
+pub sum-wider : (n : ℕ) (a b : ℕ → Bool) (f : ℕ → ℕ) → ((j : ℕ) → 0 < j → j ≤ n → a j ≡ true → b j ≡ true) →
+    sumTo n (λ j. cond (a j) (f j) 0) ≤ sumTo n (λ j. cond (b j) (f j) 0)
+sum-wider n a b f h = sum-mono n _ _ (λ j p q. cond-more (a j) (b j) (f j) (h j p q))
 
 -- two terms are at most the whole
 pub sum-two : (n i j : ℕ) (f : ℕ → ℕ) → 0 < i → i ≤ n → 0 < j → j ≤ n → (i ≡ j → ⊥) → f i + f j ≤ sumTo n f

@@ -2,3 +2,4 @@ pub mod Range
 pub mod Slots
 pub mod Part
 pub mod Stored
+pub mod Round

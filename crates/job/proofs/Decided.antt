@@ -59,19 +59,19 @@ readable b e =
     let parts = first-split (shapeChecks b) (fieldChecks (decode b)) (shape-numbered b) e in
     record { shape = parts .0; fields = parts .1 }
 
+pub read-numbered : (b : List ℕ) → Numbered (readChecks b)
+unfolding readChecks
+read-numbered b = numbered-append (shapeChecks b) (fieldChecks (decode b)) (shape-numbered b) (fields-numbered (decode b))
+
 -- copying: the reader's number where it finds something, else 14
 module _ (b : List ℕ) (room : ℕ) where
-  read-numbered : Numbered (readChecks b)
-  unfolding readChecks
-  read-numbered = numbered-append (shapeChecks b) (fieldChecks (decode b)) (shape-numbered b) (fields-numbered (decode b))
-
   pub copy-refused : (readNo b ≡ 0 → ⊥) → copyNo b room ≡ readNo b
   unfolding copyNo copyChecks readNo
-  copy-refused n = first-before (readChecks b) ((ltb room (length b), 14) ∷ []) read-numbered n
+  copy-refused n = first-before (readChecks b) ((ltb room (length b), 14) ∷ []) (read-numbered b) n
 
   pub copy-room : readNo b ≡ 0 → copyNo b room ≡ firstNo ((ltb room (length b), 14) ∷ [])
   unfolding copyNo copyChecks readNo
-  copy-room e = first-after (readChecks b) ((ltb room (length b), 14) ∷ []) read-numbered e
+  copy-room e = first-after (readChecks b) ((ltb room (length b), 14) ∷ []) (read-numbered b) e
 
 -- writing: 3, else 5 to 7, else 14
 module _ (job : Job) (room : ℕ) where

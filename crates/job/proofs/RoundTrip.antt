@@ -19,7 +19,7 @@ use Rattle.rules.specs.Rules.{headOk, fieldChecks}
 use Rattle.rules.proofs.HeadBounds.{HeadIn, head-in}
 use Rattle.rules.proofs.SectionBounds.{SectionIn}
 use Rattle.rules.proofs.Elevation.{elevation-small}
-use Rattle.rules.proofs.Kept.{sections-in, kept-sections}
+use Rattle.rules.proofs.Kept.{sections-in, kept-of}
 use Rattle.rules.proofs.Same.{checks-same}
 use Rattle.record.specs.Record.{lengthOf, headAt, headBytes, decode, encode, kept, SectionFits, JobFits}
 use Rattle.record.proofs.Lengths.{encode-length}
@@ -33,7 +33,7 @@ module _ (b : List ℕ) (accepted : readNo b ≡ 0) where
   read-shaped : Shaped b
   read-shaped = shaped b (readable b accepted .shape)
 
-  read-head : headOk (decode b .head) ≡ true
+  pub read-head : headOk (decode b .head) ≡ true
   unfolding decode
   read-head = read-shaped .head
 
@@ -77,7 +77,7 @@ module _ (job : Job) (sixteen : Sixteen job) (room : ℕ) (done : writeNo job ro
 
   section-fits : (i : ℕ) → 0 < i → i ≤ countOf job → SectionFits (sectionOf job i)
   section-fits i a h =
-      let s : SectionIn i (sectionOf job i) = sections-in job (kept-sections job (may .fields)) i a h in
+      let s : SectionIn i (sectionOf job i) = sections-in job (kept-of job (may .fields) .sections) i a h in
       record {
         fixtures = sixteen .fixtures i a h;
         decimetres = omega arith;

@@ -19,7 +19,8 @@ pub struct Reading {
     pub job: Job,
 }
 
-fn refused(answer: Answer) -> Reading
+// A refusal, with a job whose fields are all zero.
+pub fn refused(answer: Answer) -> Reading
     ensures { λ r. ⌜ (r .answer ≡ answer) × (r .job ≡ blankJob) ⌝ }
 {
     Reading {

@@ -17,8 +17,8 @@ use Rattle.tree.proofs.Served.{set-alone, set-more}
 use Rattle.rules.specs.Rules.{childless}
 
 -- refusal 6 at section i
-abbrev pub emptyAt : Job → ℕ → Bool
-emptyAt job i = eqb (sectionOf job i .kind) 0 && childless job i
+abbrev pub childlessZeroAt : Job → ℕ → Bool
+childlessZeroAt job i = eqb (sectionOf job i .kind) 0 && childless job i
 
 module _ {job : Job} (r : Rooted job) (i : ℕ) (h : 0 < i) (k : i ≤ countOf job) where
   abbrev child : ℕ → Bool
@@ -42,7 +42,7 @@ module _ {job : Job} (r : Rooted job) (i : ℕ) (h : 0 < i) (k : i ≤ countOf j
       same (childless job i) (eqb (setOf job i) (2 ^ i)) (λ e. eq-eqb (setOf job i) (2 ^ i) (alone e))
       (λ e. no-child (eqb-true (setOf job i) (2 ^ i) e))
 
-  pub empty-set : (x : ℕ) → x ≡ setOf job i → emptyAt job i ≡ (eqb (sectionOf job i .kind) 0 && eqb x ((1 * 2 ^ i) % 2 ^ 64))
-  empty-set x e =
+  pub zero-set : (x : ℕ) → x ≡ setOf job i → childlessZeroAt job i ≡ (eqb (sectionOf job i .kind) 0 && eqb x ((1 * 2 ^ i) % 2 ^ 64))
+  zero-set x e =
       let few = r .few in
       rw (childless-set, e, shifted i (omega arith))

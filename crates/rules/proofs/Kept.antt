@@ -1,7 +1,7 @@
--- What the sections' rules say of the job: bounds on each section, parents before their sections, and no kind over 12.
+-- What the rules say of the job: which of 5 to 7 it keeps, bounds on each section, parents before their sections, and no kind over 12.
 -- Assumes nothing.
 use mathlib.Core.Path.{_≡_}
-use mathlib.Core.Bool.{true, not}
+use mathlib.Core.Bool.{true, false, not}
 use Prim.Native.Nat.{ℕ, _≤_, _<_}
 use native.Mathlib.Omega.{arith}
 use borrow.Author.Tests.{not-false}
@@ -12,14 +12,23 @@ use Rattle.fields.specs.declared.Job.{Job}
 use Rattle.fields.specs.Fields.{countOf, sectionOf}
 use Rattle.tree.specs.Tree.{Rooted}
 use Rattle.tree.specs.Rows.{Kinds}
-use Rattle.rules.specs.Rules.{sectionOk, sectionsOk, fieldChecks}
+use Rattle.rules.specs.Rules.{sectionOk, sectionsOk, childlessZero, unmatched, fieldChecks}
 use Rattle.rules.proofs.SectionBounds.{SectionIn, section-in}
 
+-- a job that keeps 5, 6 and 7
+pub record Kept (job : Job) : Type 0 where
+  pub sections : sectionsOk job ≡ true
+  pub ends : childlessZero job ≡ false
+  pub residents : unmatched job ≡ false
+
 module _ (job : Job) where
-  -- where 5 to 7 find nothing, 5 does not
-  pub kept-sections : firstNo (fieldChecks job) ≡ 0 → sectionsOk job ≡ true
+  pub kept-of : firstNo (fieldChecks job) ≡ 0 → Kept job
   unfolding fieldChecks
-  kept-sections e = not-false (sectionsOk job) (first-clear (not (sectionsOk job)) 5 _ (omega arith) e .0)
+  kept-of e =
+      let five = first-clear (not (sectionsOk job)) 5 _ (omega arith) e in
+      let six = first-clear (childlessZero job) 6 _ (omega arith) (five .1) in
+      let seven = first-clear (unmatched job) 7 _ (omega arith) (six .1) in
+      record { sections = not-false (sectionsOk job) (five .0); ends = six .0; residents = seven .0 }
 
   pub sections-in : sectionsOk job ≡ true → (i : ℕ) → 0 < i → i ≤ countOf job → SectionIn i (sectionOf job i)
   unfolding sectionsOk

@@ -7,9 +7,9 @@ use Rattle.basis.proofs.Each.{all-ext, any-ext}
 use Rattle.fields.specs.declared.Job.{Job}
 use Rattle.fields.specs.Fields.{countOf, sectionOf}
 use Rattle.tree.proofs.Served.{house-same}
-use Rattle.rules.proofs.Ends.{emptyAt}
+use Rattle.rules.proofs.Ends.{childlessZeroAt}
 use Rattle.rules.proofs.House.{oddAt}
-use Rattle.rules.specs.Rules.{sectionOk, sectionsOk, childless, emptyEnd, unmatched, fieldChecks}
+use Rattle.rules.specs.Rules.{sectionOk, sectionsOk, childless, childlessZero, unmatched, fieldChecks}
 
 module _ (job job′ : Job) (heads : job .head ≡ job′ .head) (residents : job .residents ≡ job′ .residents)
     (sections : (i : ℕ) → 0 < i → i ≤ countOf job → sectionOf job i ≡ sectionOf job′ i) where
@@ -28,10 +28,10 @@ module _ (job job′ : Job) (heads : job .head ≡ job′ .head) (residents : jo
         counts,
       )
 
-  ends-same : emptyEnd job ≡ emptyEnd job′
-  unfolding emptyEnd
+  ends-same : childlessZero job ≡ childlessZero job′
+  unfolding childlessZero
   ends-same =
-      any-ext (countOf job) (emptyAt job) (emptyAt job′) (λ i h k. rw (sections i h k, childless-same i)) ∙
+      any-ext (countOf job) (childlessZeroAt job) (childlessZeroAt job′) (λ i h k. rw (sections i h k, childless-same i)) ∙
       rw counts
 
   unmatched-same : unmatched job ≡ unmatched job′

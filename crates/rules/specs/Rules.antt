@@ -42,8 +42,8 @@ unfoldable pub childless : Job → ℕ → Bool
 childless job i = not (anyTo (countOf job) (λ j. eqb (sectionOf job j .parent) i))
 
 -- 6: a childless section has kind 0
-unfoldable pub emptyEnd : Job → Bool
-emptyEnd job = anyTo (countOf job) (λ i. eqb (sectionOf job i .kind) 0 && childless job i)
+unfoldable pub childlessZero : Job → Bool
+childlessZero job = anyTo (countOf job) (λ i. eqb (sectionOf job i .kind) 0 && childless job i)
 
 -- 7: residents without fixtures, or the reverse
 unfoldable pub unmatched : Job → Bool
@@ -52,4 +52,4 @@ unmatched job =
 
 -- 5, 6 and 7 in their order
 unfoldable pub fieldChecks : Job → List (Bool × ℕ)
-fieldChecks job = (not (sectionsOk job), 5) ∷ (emptyEnd job, 6) ∷ (unmatched job, 7) ∷ []
+fieldChecks job = (not (sectionsOk job), 5) ∷ (childlessZero job, 6) ∷ (unmatched job, 7) ∷ []

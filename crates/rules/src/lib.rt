@@ -12,7 +12,7 @@ ghost use Rattle.answer.specs.Checks.{firstNo};
 ghost use Rattle.fields.specs.Fields.{countOf};
 ghost use Rattle.tree.specs.Tree.{Rooted};
 ghost use Rattle.tree.specs.Rows.{Kinds};
-ghost use Rattle.rules.specs.Rules.{headOk, kindOk, elevationOk, sectionOk, sectionsOk, emptyEnd, unmatched, fieldChecks};
+ghost use Rattle.rules.specs.Rules.{headOk, kindOk, elevationOk, sectionOk, sectionsOk, childlessZero, unmatched, fieldChecks};
 
 // 3: each head field is in its range.
 pub fn head_ok(h: Head) -> bool
@@ -118,9 +118,9 @@ fn sections_ok(job: Job) -> bool
 }
 
 // 6: a section that nobody has for a parent, whose set is its own bit alone, has kind 0.
-fn empty_end(job: Job) -> bool
+fn childless_zero(job: Job) -> bool
     requires { ⌜ Rooted job ⌝ }
-    ensures { λ r. ⌜ r ≡ emptyEnd job ⌝ }
+    ensures { λ r. ⌜ r ≡ childlessZero job ⌝ }
 {
     let count = job.head.sections as usize;
     let below = sets(job);
@@ -160,7 +160,7 @@ pub fn broken_rule(job: Job) -> Answer
     if !sections_ok(job) {
         return Answer::Fields;
     }
-    if empty_end(job) {
+    if childless_zero(job) {
         return Answer::Childless;
     }
     if unmatched_kind(job) {

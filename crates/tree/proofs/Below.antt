@@ -7,7 +7,8 @@ use Prim.Native.Nat.{ℕ, zero, suc, _≤_, _<_}
 use native.Mathlib.Omega.{arith}
 use lib.Dec.{eqb}
 use borrow.Author.Tests.{eq-eqb, ne-eqb}
-use Rattle.basis.proofs.Split.{lt-or-ge}
+use Rattle.basis.proofs.Split.{lt-or-ge, eq-or-ne}
+use Rattle.basis.proofs.Bools.{apart}
 use Rattle.fields.specs.declared.Job.{Job}
 use Rattle.fields.specs.Fields.{countOf, sectionOf}
 use Rattle.tree.specs.Tree.{parentOf, reaches, below, Rooted}
@@ -98,3 +99,27 @@ module _ {job : Job} (r : Rooted job) where
   pub below-pump : (j : ℕ) → j ≤ countOf job → below job 0 j ≡ true
   unfolding below
   below-pump j k = reach-pump 63 j (omega (arith, r .few)) k
+
+  below-le : (i j : ℕ) → j ≤ countOf job → below job i j ≡ true → i ≤ j
+  below-le i j k t = ⊎-elim (λ lt. absurd (apart t (below-under i j lt k))) (λ le. le) (lt-or-ge j i)
+
+  -- a section lies below its parent, and so does what lies below the section
+  module _ (i j : ℕ) (p : 0 < j) (q : j ≤ countOf job) (e : sectionOf job j .parent ≡ i) where
+    pub child-below : below job i j ≡ true
+    child-below = below-up i j (λ z. omega (arith, r .lower j p q)) p q ∙ rw e (below-self job i)
+
+    below-more : (m k : ℕ) → k ≤ m → k ≤ countOf job → below job j k ≡ true → below job i k ≡ true
+    below-more zero k h b t = absurd (omega (arith, below-le j k b t))
+    below-more (suc m) k h b t =
+        let le : j ≤ k = below-le j k b t in
+        let first : sectionOf job j .parent < j = r .lower j p q in
+        let next : sectionOf job k .parent < k = r .lower k (omega arith) b in
+        ⊎-elim
+        (λ z. rw z child-below)
+        (λ ne.
+        below-up i k (λ z. omega arith) (omega arith) b ∙
+        below-more m (sectionOf job k .parent) (omega arith) (omega arith) (sym (below-up j k ne (omega arith) b) ∙ t))
+        (eq-or-ne k j)
+
+    pub below-child : (k : ℕ) → k ≤ countOf job → below job j k ≡ true → below job i k ≡ true
+    below-child k b t = below-more k k (omega arith) b t

@@ -3,18 +3,19 @@
 use mathlib.Core.Path.{_≡_, sym, _∙_}
 use mathlib.Core.Logic.{⊎-elim}
 use mathlib.Core.Bool.{true, false, cond}
-use Prim.Native.Nat.{ℕ, zero, suc, _+_, _^_, _≤_, _<_}
+use Prim.Native.Nat.{ℕ, zero, suc, _+_, _*_, _^_, _≤_, _<_}
 use native.Mathlib.Omega.{arith}
+use native.Mathlib.Nat.{mul-le-mul-right}
 use lib.Dec.{eqb}
 use lib.Pow.{pow-pos}
 use borrow.Author.Tests.{eq-eqb, ne-eqb}
 use Rattle.basis.specs.Range.{sumTo}
-use Rattle.basis.proofs.Split.{lt-or-ge, eq-or-ne}
-use Rattle.basis.proofs.Sum.{sum-ext, sum-one, sum-two}
+use Rattle.basis.proofs.Split.{lt-or-ge, eq-or-ne, either}
+use Rattle.basis.proofs.Sum.{sum-ext, sum-le, sum-one, sum-two, sum-some, sum-at, sum-wider}
 use Rattle.fields.specs.declared.Job.{Job}
 use Rattle.fields.specs.Fields.{countOf, sectionOf}
 use Rattle.tree.specs.Tree.{below, ownOf, servedOf, houseOf, setOf, Rooted}
-use Rattle.tree.proofs.Below.{below-self, below-up, below-under, below-pump}
+use Rattle.tree.proofs.Below.{below-self, below-up, below-under, below-pump, child-below, below-child}
 use Rattle.tree.proofs.Climb.{climb, climb-stop, climb-step}
 use Rattle.tree.proofs.Taken.{part}
 
@@ -57,6 +58,40 @@ module _ {job : Job} (r : Rooted job) where
   unfolding servedOf houseOf
   served-house kind = sum-ext (countOf job) _ _ (λ j p q. rw (below-pump r j q))
 
+  -- no section serves more than the house, and neither more than 63 ends of 65,535 fixtures
+  pub served-le : (i kind : ℕ) → servedOf job i kind ≤ houseOf job kind
+  unfolding servedOf houseOf
+  served-le i kind = sum-some (countOf job) (λ j. below job i j) (ownOf job kind)
+
+  -- its own fixtures, and what a section below it serves
+  pub own-served : (i kind : ℕ) → 0 < i → i ≤ countOf job → ownOf job kind i ≤ servedOf job i kind
+  unfolding servedOf
+  own-served i kind a b =
+      let t : cond (below job i i) (ownOf job kind i) 0 ≤ servedOf job i kind =
+      sum-at (countOf job) i (λ j. cond (below job i j) (ownOf job kind j) 0) a b in
+      rw (below-self job i) at t
+
+  pub served-child : (i j kind : ℕ) → 0 < j → j ≤ countOf job → sectionOf job j .parent ≡ i → servedOf job j kind ≤ servedOf job i kind
+  unfolding servedOf
+  served-child i j kind a b e =
+      sum-wider (countOf job) (λ k. below job j k) (λ k. below job i k) (ownOf job kind) (λ k p q t. below-child r i j a b e k q t)
+
+  module _ (small : (j : ℕ) → 0 < j → j ≤ countOf job → sectionOf job j .fixtures < 65536) where
+    own-top : (kind j : ℕ) → 0 < j → j ≤ countOf job → ownOf job kind j ≤ 65535
+    unfolding ownOf
+    own-top kind j a b =
+        ⊎-elim
+        (λ e. rw e (omega (arith, small j a b)))
+        (λ e. rw e (omega arith))
+        (either (eqb (sectionOf job j .kind) kind))
+
+    house-top : (kind : ℕ) → houseOf job kind ≤ countOf job * 65535
+    unfolding houseOf
+    house-top kind = sum-le (countOf job) 65535 (ownOf job kind) (λ j a b. own-top kind j a b)
+
+    pub served-top : (i kind : ℕ) → servedOf job i kind ≤ 4128705
+    served-top i kind = omega (arith, served-le i kind, house-top kind, mul-le-mul-right 65535 (r .few))
+
   module _ (i : ℕ) (a : 0 < i) (b : i ≤ countOf job)
       (alone : (j : ℕ) → 0 < j → j ≤ countOf job → sectionOf job j .parent ≡ i → ⊥) where
     not-below : (m j : ℕ) → j ≤ m → j ≤ countOf job → (j ≡ i → ⊥) → below job i j ≡ false
@@ -87,7 +122,7 @@ module _ {job : Job} (r : Rooted job) where
   unfolding setOf
   set-more i j a b p q e s =
       let l : sectionOf job j .parent < j = r .lower j p q in
-      let under : below job i j ≡ true = below-up r i j (λ z. omega arith) p q ∙ rw e (below-self job i) in
+      let under : below job i j ≡ true = child-below r i j p q e in
       let two : cond (below job i i) (2 ^ i) 0 + cond (below job i j) (2 ^ j) 0 ≤ 2 ^ i =
       rw s at (sum-two (countOf job) i j (λ k. cond (below job i k) (2 ^ k) 0) a b p q (λ z. omega arith)) in
       let both : 2 ^ i + 2 ^ j ≤ 2 ^ i = rw (below-self job i, under) at two in

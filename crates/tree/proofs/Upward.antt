@@ -17,8 +17,8 @@ use Rattle.basis.proofs.Sum.{sum-le, sum-pow}
 use Rattle.fields.specs.declared.Job.{Job}
 use Rattle.fields.specs.Fields.{countOf, sectionOf}
 use Rattle.tree.specs.Tree.{ownOf, servedOf, setOf, Rooted}
-use Rattle.tree.specs.Rows.{cell, Singles, RowsFit, RowAdded, Owned, Gathered}
-use Rattle.tree.proofs.Served.{upOf, part-below}
+use Rattle.tree.specs.Rows.{cell, Singles, RowsFit, RowAdded, Owned, Counted}
+use Rattle.tree.proofs.Served.{upOf, part-below, served-top}
 use Rattle.tree.proofs.Taken.{Taken, taken-start, taken-fits, taken-more, taken-end}
 
 -- the sets once the sections above t are taken
@@ -57,9 +57,12 @@ module _ {job : Job} (r : Rooted job) where
   summed-start o =
       record { long = o .long; taken = λ c k. taken-start (countOf job) (upOf job) (o .own c k); small = o .small }
 
-  pub summed-end : {n : List ℕ} {t : ℕ} → Summed job t n → t ≡ 0 → Gathered job n
+  pub summed-end : {n : List ℕ} {t : ℕ} → Summed job t n → t ≡ 0 → Counted job n
   unfolding servedOf
-  summed-end w e = record { at = λ i c h k. taken-end (w .taken c k) e i h ∙ part-below r (ownOf job (c + 1)) i }
+  summed-end {n} w e =
+      let at : (i c : ℕ) → i < 64 → c < 12 → cell n i c ≡ servedOf job i (c + 1) =
+      λ i c h k. taken-end (w .taken c k) e i h ∙ part-below r (ownOf job (c + 1)) i in
+      record { at = at; top = λ i c h k. rw (at i c h k) (served-top r (w .small) i (c + 1)) }
 
   module _ {t : ℕ} (p : 0 < t) (q : t ≤ countOf job) where
     pub joined-fits : {sets : List ℕ} → Joined job t sets → getD sets (upOf job t) 0 + getD sets t 0 < 2 ^ 64

@@ -48,5 +48,7 @@ pub record Owned (job : Job) (m : ℕ) (n : List ℕ) : Type 0 where
   pub own : (c : ℕ) → c < 12 → Filled m (ownOf job (c + 1)) (λ i. cell n i c)
   pub small : (j : ℕ) → 0 < j → j ≤ m → sectionOf job j .fixtures < 65536
 
-pub record Gathered (job : Job) (n : List ℕ) : Type 0 where
+-- row i has what section i serves, row 0 what the house has; 63 ends of 65,535 fixtures are the most there can be
+pub record Counted (job : Job) (n : List ℕ) : Type 0 where
   pub at : (i c : ℕ) → i < 64 → c < 12 → cell n i c ≡ servedOf job i (c + 1)
+  pub top : (i c : ℕ) → i < 64 → c < 12 → cell n i c ≤ 4128705

@@ -5,7 +5,7 @@ ghost use Prim.Native.Nat.{ℕ, _+_, _*_, _≤_, _<_};
 ghost use lib.ListN.{getD};
 ghost use Rattle.fields.specs.Fields.{countOf};
 ghost use Rattle.tree.specs.Tree.{servedOf, setOf, Rooted};
-ghost use Rattle.tree.specs.Rows.{Kinds, RowsFit, RowAdded, Zeros, Owned, Gathered, Singles};
+ghost use Rattle.tree.specs.Rows.{Kinds, RowsFit, RowAdded, Zeros, Owned, Counted, Singles};
 
 // Section j's own bit at place j.
 fn singles(count: usize) -> [u64; 64]
@@ -70,7 +70,7 @@ fn fill(job: Job, n: &mut [u32; 768])
 // Adds each section's counts to its parent's, from the leaves up.
 fn gather(job: Job, n: &mut [u32; 768])
     requires { ⌜ Rooted job × Owned job (countOf job) (now n) ⌝ }
-    ensures { λ _. ⌜ Gathered job (now (n .exit)) ⌝ }
+    ensures { λ _. ⌜ Counted job (now (n .exit)) ⌝ }
 {
     let mut t = job.head.sections as usize;
     while 0 < t {
@@ -83,7 +83,7 @@ fn gather(job: Job, n: &mut [u32; 768])
 // The fixtures of each kind at a section's end or at any end below it: kind c + 1 of section i at place i * 12 + c. Row 0 is the house.
 pub fn counts(job: Job) -> [u32; 768]
     requires { ⌜ Rooted job × Kinds job ⌝ }
-    ensures { λ r. ⌜ ((i c : ℕ) → i < 64 → c < 12 → getD r (i * 12 + c) 0 ≡ servedOf job i (c + 1)) ⌝ }
+    ensures { λ r. ⌜ Counted job r ⌝ }
 {
     let mut n = [0u32; 768];
     fill(job, &mut n);

@@ -4,7 +4,7 @@ use mathlib.Core.Path.{_≡_, sym, _∙_}
 use mathlib.Core.Bool.{true, false}
 use borrow.Author.Tests.{not-false}
 use Rattle.answer.specs.Checks.{firstNo}
-use Rattle.rules.specs.Rules.{sectionsOk, emptyEnd, fieldChecks}
+use Rattle.rules.specs.Rules.{sectionsOk, childlessZero, fieldChecks}
 use Rattle.rules.proofs.Kept.{rooted-of, kinds-of}
 use Rattle.rules.proofs.broken_rule.Statement.{statement}
 use Rattle.rules.proofs.broken_rule.Tie as tie
@@ -13,19 +13,19 @@ use Rattle.rules.proofs.broken_rule.Tie as tie
 kept : (c : tie.Else1) → sectionsOk (c .before .before .args .job) ≡ true
 kept c = sym (c .before .sections-ok .ensures) ∙ not-false (c .before .sections-ok .result) (c .if1 .left)
 
-no-end : (c : tie.Else2) → emptyEnd (c .before .before .before .before .args .job) ≡ false
-no-end c = sym (c .before .empty-end .ensures) ∙ c .if2 .left
+no-end : (c : tie.Else2) → childlessZero (c .before .before .before .before .args .job) ≡ false
+no-end c = sym (c .before .childless-zero .ensures) ∙ c .if2 .left
 
 returns : tie.Need-returns
 unfolding fieldChecks firstNo
 returns c = rw (← c .before .sections-ok .ensures, c .if1 .taken)
 
-empty-end-requires : tie.Need-empty-end-requires
-empty-end-requires c κs = rooted-of _ (c .before .before .pre) (kept c)
+childless-zero-requires : tie.Need-childless-zero-requires
+childless-zero-requires c κs = rooted-of _ (c .before .before .pre) (kept c)
 
 returns-2 : tie.Need-returns-2
 unfolding fieldChecks firstNo
-returns-2 c = rw (kept (c .before .before), ← c .before .empty-end .ensures, c .if2 .taken)
+returns-2 c = rw (kept (c .before .before), ← c .before .childless-zero .ensures, c .if2 .taken)
 
 unmatched-kind-requires : tie.Need-unmatched-kind-requires
 unmatched-kind-requires c κs =
@@ -43,4 +43,4 @@ returns-4 c = rw (kept (c .before .before .before .before), no-end (c .before .b
 pub broken-rule-spec : {M : Type 1} → statement M
 broken-rule-spec =
     tie.close
-    (tie.spec (λ c κs. c .pre) returns empty-end-requires returns-2 unmatched-kind-requires returns-3 returns-4)
+    (tie.spec (λ c κs. c .pre) returns childless-zero-requires returns-2 unmatched-kind-requires returns-3 returns-4)

@@ -29,7 +29,7 @@ test : (c : tie.In-loop Inv-loop μ-loop) →
 test c =
     let row : 0 * 12 + c .before .loop .c ≡ c .before .loop .c = omega arith in
     odd-served (c .before .before .before .pre .0) (c .before .loop .c) _
-    (rw row at (c .before .before .counts .ensures 0 (c .before .loop .c) (omega arith) (omega arith)))
+    (rw row at (c .before .before .counts .ensures .at 0 (c .before .loop .c) (omega arith) (omega arith)))
 
 returns : tie.Need-returns Inv-loop μ-loop
 unfolding unmatched
