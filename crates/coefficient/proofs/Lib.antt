@@ -1,0 +1,6 @@
+pub mod Rising
+pub mod Along
+pub mod Coefficient
+pub mod Worked
+pub mod Search
+pub mod Reading

@@ -1,0 +1,56 @@
+// Coefficient α of a sum of shares: 200,000 under the first key of Table 2, and otherwise read from it.
+mod table;
+
+ghost use mathlib.Core.Path.{_≡_};
+ghost use Prim.Native.Nat.{_+_, _<_, _≤_};
+ghost use Rattle.coefficient.specs.Table.{keyAt, valueAt};
+ghost use Rattle.coefficient.specs.Alpha.{alphaOf};
+ghost use Rattle.coefficient.specs.Reached.{Reached};
+
+// The i-th key of the table, counted from 0.
+fn key(i: usize) -> u32
+    requires { ⌜ i < 486 ⌝ }
+    ensures { λ r. ⌜ r ≡ keyAt i ⌝ }
+{
+    table::entry(2 * i)
+}
+
+// The value at the i-th key.
+fn value(i: usize) -> u32
+    requires { ⌜ i < 486 ⌝ }
+    ensures { λ r. ⌜ r ≡ valueAt i ⌝ }
+{
+    table::entry(2 * i + 1)
+}
+
+// The place of the last key that is at most m: it lies from lo on and below hi.
+fn place(m: u32) -> usize
+    requires { ⌜ 15000 ≤ m ⌝ }
+    ensures { λ r. ⌜ Reached m r ⌝ }
+{
+    let mut lo: usize = 0;
+    let mut hi: usize = 486;
+    while lo + 1 < hi {
+        let mid = lo + (hi - lo) / 2;
+        if key(mid) <= m {
+            lo = mid;
+        } else {
+            hi = mid;
+        }
+    }
+    lo
+}
+
+// The coefficient of m.
+pub fn alpha(m: u32) -> u32
+    ensures { λ r. ⌜ r ≡ alphaOf m ⌝ }
+{
+    if m < 15000 {
+        return 200000;
+    }
+    let i = place(m);
+    if i == 485 {
+        return value(i);
+    }
+    round::line_at(key(i), value(i), key(i + 1), value(i + 1), m)
+}

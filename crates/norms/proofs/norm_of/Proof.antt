@@ -1,0 +1,16 @@
+-- `norms::norm_of` meets its contract: the tables of the code are those of the definition.
+-- Assumes nothing.
+use borrow.Author.Needs.{needs}
+use Rattle.norms.specs.Norms.{normOf, dayNorms, hourNorms, tapNorms, drawNorms}
+use Rattle.norms.proofs.norm_of.Statement.{statement}
+use Rattle.norms.proofs.norm_of.Tie as tie
+
+returns : tie.Need-returns
+unfolding normOf dayNorms hourNorms tapNorms drawNorms
+returns c = search needs
+
+pub norm-of-spec : {M : Type 1} → statement M
+norm-of-spec =
+    tie.close
+    (tie.spec (λ c. search needs) (λ c. search needs) (λ c. search needs) (λ c. search needs) (λ c. search needs) (λ c. search needs)
+    (λ c. search needs) (λ c. search needs) (λ c. search needs) returns)

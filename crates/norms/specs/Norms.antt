@@ -1,0 +1,32 @@
+-- Document 01, "Norms and design flows": the norms of the twelve kinds.
+-- Assumes nothing.
+use Prim.Native.Nat.{ℕ, _-_}
+use mathlib.Core.List.{List, [], _∷_}
+use lib.ListN.{getD}
+use Rattle.norms.specs.declared.Norm.{Norm}
+
+-- D, litres per resident on the greatest day
+unfoldable pub dayNorms : List ℕ
+dayNorms = 400 ∷ 100 ∷ 160 ∷ 120 ∷ 230 ∷ 200 ∷ 250 ∷ 300 ∷ 115 ∷ 15 ∷ 16 ∷ 20 ∷ []
+
+-- Q, tenths of a litre per resident in the greatest hour
+unfoldable pub hourNorms : List ℕ
+hourNorms = 200 ∷ 104 ∷ 120 ∷ 125 ∷ 190 ∷ 224 ∷ 280 ∷ 300 ∷ 84 ∷ 26 ∷ 40 ∷ 27 ∷ []
+
+-- Z, hundredths of a litre a second of a fixture
+unfoldable pub tapNorms : List ℕ
+tapNorms = 30 ∷ 20 ∷ 20 ∷ 30 ∷ 20 ∷ 30 ∷ 30 ∷ 30 ∷ 20 ∷ 20 ∷ 14 ∷ 14 ∷ []
+
+-- O, litres an hour of a fixture
+unfoldable pub drawNorms : List ℕ
+drawNorms = 300 ∷ 100 ∷ 100 ∷ 300 ∷ 115 ∷ 250 ∷ 280 ∷ 300 ∷ 100 ∷ 80 ∷ 80 ∷ 100 ∷ []
+
+-- the norms of a kind; the service is not looked at before L4: every one is total, cold plus hot
+unfoldable pub normOf : ℕ → ℕ → Norm
+normOf service kind =
+    record {
+      day = getD dayNorms (kind - 1) 0;
+      hour = getD hourNorms (kind - 1) 0;
+      tap = getD tapNorms (kind - 1) 0;
+      draw = getD drawNorms (kind - 1) 0;
+    }
