@@ -1,0 +1,64 @@
+-- Vectors that agree, and jobs that agree on the kinds a vector has, give the same m, sum of share × Z, flow and fixtures.
+-- Assumes nothing.
+use mathlib.Core.Path.{_≡_, refl, sym, ap, _∙_}
+use mathlib.Core.Logic.{⊎-elim}
+use Prim.Native.Nat.{ℕ, _*_, _≤_, _<_}
+use native.Mathlib.Omega.{arith}
+use Rattle.basis.proofs.Sum.{sum-ext}
+use Rattle.basis.proofs.Split.{lt-or-ge}
+use Rattle.fields.specs.declared.Job.{Job}
+use Rattle.fields.specs.Fields.{residentsOf}
+use Rattle.tree.specs.Tree.{houseOf}
+use Rattle.norms.specs.Norms.{normOf}
+use Rattle.demand.specs.Demand.{serviceOf, normAt, shareOf, mOf, tapSumOf, flowOf, fixturesOf}
+use Rattle.demand.proofs.Equations.{share-is, m-is, taps-is, flow-is}
+use Rattle.demand.proofs.Shares.{share-zero}
+
+-- two jobs, each with a vector, whose shares agree
+module _ (a b : Job) (n n′ : ℕ → ℕ) (services : serviceOf a ≡ serviceOf b)
+    (shares : (kind : ℕ) → 0 < kind → kind ≤ 12 → shareOf a n kind ≡ shareOf b n′ kind) where
+  m-agree : mOf a n ≡ mOf b n′
+  m-agree = m-is a n ∙ sum-ext 12 _ _ shares ∙ sym (m-is b n′)
+
+  tap-agree : (kind : ℕ) → normAt a kind .tap ≡ normAt b kind .tap
+  tap-agree kind = ap (λ s. normOf s kind .tap) services
+
+  taps-agree : tapSumOf a n ≡ tapSumOf b n′
+  taps-agree =
+      taps-is a n ∙
+      sum-ext 12 _ _ (λ kind p q. ap (λ x. x * normAt a kind .tap) (shares kind p q) ∙ ap (λ x. shareOf b n′ kind * x) (tap-agree kind)) ∙
+      sym (taps-is b n′)
+
+  flow-agree : flowOf a n ≡ flowOf b n′
+  flow-agree = flow-is a n ∙ rw (taps-agree, m-agree) (sym (flow-is b n′))
+
+module _ (job : Job) (n n′ : ℕ → ℕ) (same : (kind : ℕ) → 0 < kind → kind ≤ 12 → n kind ≡ n′ kind) where
+  share-same : (kind : ℕ) → 0 < kind → kind ≤ 12 → shareOf job n kind ≡ shareOf job n′ kind
+  share-same kind p q = share-is job kind n ∙ rw (same kind p q) (sym (share-is job kind n′))
+
+  pub m-same : mOf job n ≡ mOf job n′
+  m-same = m-agree job job n n′ refl share-same
+
+  pub taps-same : tapSumOf job n ≡ tapSumOf job n′
+  taps-same = taps-agree job job n n′ refl share-same
+
+  pub flow-same : flowOf job n ≡ flowOf job n′
+  flow-same = flow-agree job job n n′ refl share-same
+
+  pub fixtures-same : fixturesOf n ≡ fixturesOf n′
+  unfolding fixturesOf
+  fixtures-same = sum-ext 12 n n′ same
+
+-- residents and house's fixtures count only for the kinds that the vector has
+module _ (a b : Job) (n : ℕ → ℕ) (services : serviceOf a ≡ serviceOf b)
+    (residents : (kind : ℕ) → 0 < kind → kind ≤ 12 → 0 < n kind → residentsOf a kind ≡ residentsOf b kind)
+    (houses : (kind : ℕ) → 0 < kind → kind ≤ 12 → 0 < n kind → houseOf a kind ≡ houseOf b kind) where
+  share-depends : (kind : ℕ) → 0 < kind → kind ≤ 12 → shareOf a n kind ≡ shareOf b n kind
+  share-depends kind p q =
+      ⊎-elim
+      (λ h. cc (share-is a kind n, share-is b kind n, ap (λ s. normOf s kind) services, residents kind p q h, houses kind p q h))
+      (λ z. let e : n kind ≡ 0 = omega arith in share-zero a kind n e ∙ sym (share-zero b kind n e))
+      (lt-or-ge 0 (n kind))
+
+  pub flow-depends : flowOf a n ≡ flowOf b n
+  flow-depends = flow-agree a b n n services share-depends

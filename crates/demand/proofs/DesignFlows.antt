@@ -1,0 +1,36 @@
+-- The flows, and the products that they divide, are bounded by α's greatest value.
+-- Assumes nothing.
+use Prim.Native.Nat.{ℕ, _*_, _≤_, _<_}
+use native.Mathlib.Omega.{arith}
+use native.Mathlib.Nat.{mul-le-mul}
+use Rattle.basis.specs.Round.{up}
+use Rattle.basis.proofs.Round.{up-le}
+use Rattle.fields.specs.declared.Job.{Job}
+use Rattle.coefficient.specs.Alpha.{alphaOf}
+use Rattle.coefficient.proofs.Coefficient.{alpha-ceiling}
+use Rattle.demand.specs.Demand.{mOf, tapSumOf, flowOf, hourSumOf, drawSumOf, hourOf}
+use Rattle.demand.proofs.Equations.{flow-is, hour-is}
+use Rattle.demand.proofs.Totals.{tap-sum-le, draw-sum-le}
+
+-- a sum of at most b times α
+pub alpha-product : (t b m : ℕ) → t ≤ b → t * alphaOf m ≤ b * 91900000
+alpha-product t b m h = mul-le-mul {n₂ = b} {m₂ = 91900000} h (alpha-ceiling m)
+
+-- and divided by d: 137,850 bounds the flow in ml/s, and in l/h
+pub alpha-quotient : (t b d m : ℕ) → 0 < d → t ≤ b → b * 91900000 ≤ 137850 * d → up (t * alphaOf m) d ≤ 137850
+alpha-quotient t b d m h k l = up-le (t * alphaOf m) 137850 h (omega (arith, alpha-product t b m k))
+
+module _ (job : Job) (n : ℕ → ℕ) where
+  pub flow-top : 0 < mOf job n → flowOf job n ≤ 137850
+  flow-top h =
+      rw (flow-is job n)
+      (alpha-quotient (tapSumOf job n) (30 * mOf job n) (20000 * mOf job n) (mOf job n) (omega arith) (tap-sum-le job n) (omega arith))
+
+module _ (job : Job) where
+  pub hour-top : 0 < hourSumOf job → hourOf job ≤ 137850
+  hour-top h =
+      rw (hour-is job)
+      (alpha-quotient (drawSumOf job) (300 * hourSumOf job) (200000 * hourSumOf job) (hourSumOf job) (omega arith) (draw-sum-le job) (omega arith))
+
+  pub hour-product : (m : ℕ) → hourSumOf job ≤ 400000000 → drawSumOf job * alphaOf m ≤ 11028000000000000000
+  hour-product m h = alpha-product (drawSumOf job) 120000000000 m (omega (arith, draw-sum-le job))

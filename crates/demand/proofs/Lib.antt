@@ -1,0 +1,11 @@
+pub mod Cells
+pub mod Partial
+pub mod Tops
+pub mod Ruling
+pub mod Serving
+pub mod Equations
+pub mod Shares
+pub mod Totals
+pub mod Agreeing
+pub mod DesignFlows
+pub mod Deciding

@@ -1,0 +1,60 @@
+-- What 3 and 5 to 7 say of a job that they let pass.
+-- Assumes nothing.
+use mathlib.Core.Path.{_≡_}
+use mathlib.Core.Bool.{true, false, _&&_}
+use Prim.Native.Nat.{ℕ, _≤_, _<_}
+use native.Mathlib.Nat.{pos-of-ne-zero}
+use lib.Dec.{eqb, ltb}
+use borrow.Author.Tests.{eq-eqb, lt-ltb}
+use Rattle.basis.proofs.Bools.{neither, not-both}
+use Rattle.basis.proofs.Each.{any-at}
+use Rattle.basis.proofs.Within.{Within}
+use Rattle.fields.specs.declared.Job.{Job}
+use Rattle.fields.specs.Fields.{countOf, residentsOf}
+use Rattle.tree.specs.Tree.{Rooted, houseOf}
+use Rattle.tree.specs.Rows.{Kinds}
+use Rattle.rules.specs.Rules.{sectionsOk, childlessZero, unmatched}
+use Rattle.rules.proofs.HeadBounds.{HeadIn, head-in}
+use Rattle.rules.proofs.House.{oddAt}
+use Rattle.rules.proofs.Kept.{Kept, kept-of, rooted-of, kinds-of}
+use Rattle.demand.specs.Demand.{Ruled}
+
+module _ {job : Job} (r : Ruled job) where
+  ruled-head : HeadIn (job .head)
+  ruled-head = head-in (job .head) (r .head)
+
+  pub ruled-hours : Within 1 24 (job .head .hours)
+  ruled-hours = ruled-head .hours
+
+  pub ruled-count : Within 1 63 (countOf job)
+  ruled-count = ruled-head .sections
+
+  ruled-kept : Kept job
+  ruled-kept = kept-of job (r .fields)
+
+  pub ruled-sections : sectionsOk job ≡ true
+  ruled-sections = ruled-kept .sections
+
+  pub ruled-ends : childlessZero job ≡ false
+  ruled-ends = ruled-kept .ends
+
+  pub ruled-residents : unmatched job ≡ false
+  ruled-residents = ruled-kept .residents
+
+  pub ruled-rooted : Rooted job
+  ruled-rooted = rooted-of job (ruled-count .high) ruled-sections
+
+  pub ruled-kinds : Kinds job
+  ruled-kinds = kinds-of job ruled-sections
+
+  module _ (kind : ℕ) (low : 0 < kind) (high : kind ≤ 12) where
+    -- neither is zero without the other
+    even : (ltb 0 (residentsOf job kind) && eqb (houseOf job kind) 0 ≡ false) × (eqb (residentsOf job kind) 0 && ltb 0 (houseOf job kind) ≡ false)
+    unfolding unmatched
+    even = neither _ _ (any-at 12 (oddAt job) ruled-residents kind low high)
+
+    pub residents-match : 0 < houseOf job kind → 0 < residentsOf job kind
+    residents-match h = pos-of-ne-zero (λ z. not-both _ _ (even .1) (eq-eqb (residentsOf job kind) 0 z) (lt-ltb 0 (houseOf job kind) h))
+
+    pub house-match : 0 < residentsOf job kind → 0 < houseOf job kind
+    house-match h = pos-of-ne-zero (λ z. not-both _ _ (even .0) (lt-ltb 0 (residentsOf job kind) h) (eq-eqb (houseOf job kind) 0 z))

@@ -1,0 +1,39 @@
+-- `demand::hour::day_of` meets its contract: before each kind the sum is that of the kinds before it.
+-- Assumes nothing.
+use Prim.Native.Nat.{_-_, _*_, _≤_}
+use native.Mathlib.Omega.{arith}
+use Rattle.basis.proofs.Within.{Within}
+use Rattle.fields.specs.Fields.{residentsOf}
+use Rattle.demand.specs.Demand.{normAt, dayOf}
+use Rattle.demand.proofs.Partial.{SoFar, sum-start, sum-turn, sum-end}
+use Rattle.demand.proofs.Tops.{day-top}
+use borrow.Author.Needs.{needs}
+use Rattle.demand.proofs.hour.day_of.Statement.{statement}
+use Rattle.demand.proofs.hour.day_of.Tie as tie
+
+abbrev Inv-loop : tie.InvT-loop
+Inv-loop job day₀ kind₀ day kind = Within 1 13 kind × SoFar (λ k. normAt job k .day * residentsOf job k) 26214000 kind day
+
+abbrev μ-loop : tie.MeasureT-loop
+μ-loop job day₀ kind₀ day kind = 13 - kind
+
+top : (c : tie.After-wide16 Inv-loop μ-loop) → c .before .before .norm-of .result .day * c .wide16 .result ≤ 26214000
+top c = day-top (c .before .before .norm-of .ensures) (omega arith) (omega arith)
+
+loop-again : tie.Need-loop-again Inv-loop μ-loop
+loop-again c = (
+  omega arith,
+  sum-turn (c .before .before .before .before .before .loop .inv .1) (omega arith)
+      (rw (c .before .before .before .norm-of .ensures, c .before .wide16 .ensures .0)) (top (c .before)),
+)
+
+returns : tie.Need-returns Inv-loop μ-loop
+unfolding dayOf
+returns c = sum-end (c .before .loop .inv .1) (omega arith) (omega arith)
+
+pub day-of-spec : {M : Type 1} → statement M
+day-of-spec =
+    tie.close
+    (tie.spec Inv-loop μ-loop (λ c. (omega arith, sum-start _ _)) (λ c. search needs) (λ c κs. search needs) (λ c. search needs)
+    (λ c. search needs) (λ c κs. search needs) (λ c. omega (arith, top (c .before))) (λ c. omega (arith, top (c .before)))
+    (λ c. search needs) (λ c. search needs) loop-again (λ c. omega arith) returns)

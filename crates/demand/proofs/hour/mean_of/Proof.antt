@@ -1,0 +1,29 @@
+-- `demand::hour::mean_of` meets its contract: the hours are not 0, and the mean is at most the day.
+-- Assumes nothing.
+use Prim.Native.Nat.{_≤_}
+use native.Mathlib.Omega.{arith}
+use borrow.Author.Needs.{needs}
+use Rattle.rules.proofs.HeadBounds.{HeadIn, head-in}
+use Rattle.demand.specs.Demand.{meanOf}
+use Rattle.demand.proofs.Tops.{mean-top}
+use Rattle.demand.proofs.hour.mean_of.Statement.{statement}
+use Rattle.demand.proofs.hour.mean_of.Tie as tie
+
+head : (c : tie.Start) → HeadIn (c .args .job .head)
+head c = head-in (c .args .job .head) (c .pre .ruled .head)
+
+top : (c : tie.After-divide-up) → c .divide-up .result ≤ c .before .before .day-of .result
+top c = rw (c .divide-up .ensures) (mean-top (c .before .before .day-of .result) (head (c .before .before .before) .hours .low))
+
+returns : tie.Need-returns
+unfolding meanOf
+returns c = rw (← c .before .before .day-of .ensures) (c .divide-up .ensures)
+
+pub mean-of-spec : {M : Type 1} → statement M
+mean-of-spec =
+    tie.close
+    (tie.spec
+    (λ c κs. search needs) (λ c. search needs) (λ c. search needs)
+    (λ c κs. let h = head (c .before .before) in omega arith)
+    (λ c. omega (arith, top c))
+    returns)

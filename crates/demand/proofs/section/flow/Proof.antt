@@ -1,0 +1,23 @@
+-- `demand::section::flow` meets its contract: the product with α fits, and so does the quotient.
+-- Assumes nothing.
+use mathlib.Core.Path.{_≡_, _∙_}
+use Prim.Native.Nat.{_*_, _≤_}
+use native.Mathlib.Omega.{arith}
+use borrow.Author.Needs.{needs}
+use Rattle.demand.proofs.DesignFlows.{alpha-product, alpha-quotient}
+use Rattle.demand.proofs.section.flow.Statement.{statement}
+use Rattle.demand.proofs.section.flow.Tie as tie
+
+product : (c : tie.After-alpha) → c .before .args .s .taps * c .alpha .result ≤ 30 * c .before .args .s .m * 91900000
+product c = rw (c .alpha .ensures) (alpha-product _ _ _ (omega arith))
+
+top : (c : tie.After-divide-up) → c .divide-up .result ≤ 137850
+top c =
+    rw (c .divide-up .ensures, c .before .before .alpha .ensures)
+    (alpha-quotient _ (30 * c .before .before .before .args .s .m) _ _ (omega arith) (omega arith) (omega arith))
+
+returns : tie.Need-returns
+returns c = c .divide-up .ensures ∙ rw (c .before .before .alpha .ensures)
+
+pub flow-spec : {M : Type 1} → statement M
+flow-spec = tie.close (tie.spec (λ c. search needs) (λ c κs. search needs) (λ c. search needs) (λ c. omega (arith, product (c .before))) (λ c. omega arith) (λ c κs. (omega arith, omega (arith, product (c .before)))) (λ c. omega (arith, top c)) returns)

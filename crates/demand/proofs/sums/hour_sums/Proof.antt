@@ -1,0 +1,65 @@
+-- `demand::sums::hour_sums` meets its contract: before each kind the two sums are those of the kinds before it.
+-- Assumes nothing.
+use mathlib.Core.Path.{_≡_}
+use Prim.Native.Nat.{ℕ, _-_, _*_, _≤_}
+use native.Mathlib.Omega.{arith}
+use Rattle.basis.proofs.Within.{Within}
+use Rattle.demand.specs.Demand.{normAt, hourShareOf, hourSumOf, drawSumOf}
+use Rattle.demand.proofs.Partial.{SoFar, sum-start, sum-turn, sum-end}
+use Rattle.demand.proofs.Tops.{norm-known, HourFits, hour-fits, hour-share-top, draw-top}
+use borrow.Author.Needs.{needs}
+use Rattle.demand.proofs.sums.hour_sums.Statement.{statement}
+use Rattle.demand.proofs.sums.hour_sums.Tie as tie
+
+abbrev Inv-loop : tie.InvT-loop
+Inv-loop job shares₀ draws₀ kind₀ shares draws kind =
+    Within 1 13 kind ×
+    SoFar (λ k. hourShareOf job k) 24575625000 kind shares ×
+    SoFar (λ k. hourShareOf job k * normAt job k .draw) 7372687500000 kind draws
+
+abbrev μ-loop : tie.MeasureT-loop
+μ-loop job shares₀ draws₀ kind₀ shares draws kind = 13 - kind
+
+fits : (c : tie.After-wide16 Inv-loop μ-loop) → HourFits (c .before .before .before .norm-of .result) (c .wide16 .result)
+fits c = hour-fits (c .before .before .before .norm-of .ensures) (omega arith) (omega arith)
+
+top : (c : tie.After-divide-up Inv-loop μ-loop) → c .divide-up .result ≤ 24575625000
+top c = rw (c .divide-up .ensures) (hour-share-top (fits (c .before)))
+
+abbrev wanted : tie.At-loop Inv-loop μ-loop → ℕ
+wanted c = hourShareOf (c .before .args .t1) (c .loop .kind)
+
+is : (c : tie.After-divide-up Inv-loop μ-loop) →
+    c .divide-up .result ≡ wanted (c .before .before .before .before .before .before)
+unfolding hourShareOf
+is c = rw (← c .before .before .before .before .norm-of .ensures, ← c .before .wide16 .ensures .0) (c .divide-up .ensures)
+
+draw : (c : tie.After-divide-up Inv-loop μ-loop) →
+    c .divide-up .result * c .before .before .before .before .norm-of .result .draw ≤ 7372687500000
+draw c = draw-top (c .before .before .before .before .norm-of .ensures) (omega arith) (top c)
+
+loop-holds : tie.Need-loop-holds Inv-loop μ-loop
+loop-holds c = (omega arith, sum-start _ _, sum-start _ _)
+
+loop-again : tie.Need-loop-again Inv-loop μ-loop
+loop-again c =
+    let d = c .before .before .before .before .before .before .before in (
+      omega arith,
+      sum-turn (d .loop .inv .1) (omega arith) (is (c .before)) (top (c .before)),
+      sum-turn (d .loop .inv .2) (omega arith) (rw (is (c .before), c .before .before .before .before .before .norm-of .ensures)) (draw (c .before)),
+    )
+
+returns : tie.Need-returns Inv-loop μ-loop
+unfolding hourSumOf drawSumOf
+returns c = (
+  sum-end (c .before .loop .inv .1) (omega arith) (omega arith),
+  sum-end (c .before .loop .inv .2) (omega arith) (omega arith),
+)
+
+pub hour-sums-spec : {M : Type 1} → statement M
+hour-sums-spec =
+    tie.close
+    (tie.spec Inv-loop μ-loop loop-holds (λ c. search needs) (λ c κs. search needs)
+    (λ c. let i = norm-known (c .before .norm-of .ensures) (omega arith) in omega arith) (λ c. search needs) (λ c. search needs)
+    (λ c κs. search needs) (λ c. let f = fits c in omega arith) (λ c κs. let f = fits c in omega arith) (λ c. omega (arith, top c))
+    (λ c. omega (arith, draw (c .before))) (λ c. omega (arith, draw (c .before))) (λ c. search needs) (λ c. search needs) loop-again returns)

@@ -1,0 +1,42 @@
+// The house's hour, day and mean hour.
+use crate::sums::hour_sums;
+use crate::sums::wide16;
+use fields::Job;
+ghost use mathlib.Core.Path.{_≡_};
+ghost use Rattle.demand.specs.Demand.{hourOf, dayOf, meanOf, Accepted};
+
+// The flow of the greatest hour in l/h.
+pub fn hour_of(job: Job) -> u32
+    requires { ⌜ Accepted job ⌝ }
+    ensures { λ r. ⌜ r ≡ hourOf job ⌝ }
+{
+    let s = hour_sums(job);
+    let sum = s.shares;
+    let alpha = coefficient::alpha(sum as u32) as u64;
+    round::divide_up(s.draws * alpha, 200000 * sum) as u32
+}
+
+// The greatest day in litres.
+pub fn day_of(job: Job) -> u32
+    ensures { λ r. ⌜ r ≡ dayOf job ⌝ }
+{
+    let mut day: u64 = 0;
+    let mut kind: usize = 1;
+    while kind <= 12 {
+        let c = kind - 1;
+        let norm = norms::norm_of(kind);
+        day = day + norm.day * wide16(job.residents[c]);
+        kind += 1;
+    }
+    day as u32
+}
+
+// The mean hour in l/h.
+pub fn mean_of(job: Job) -> u32
+    requires { ⌜ Accepted job ⌝ }
+    ensures { λ r. ⌜ r ≡ meanOf job ⌝ }
+{
+    let day = day_of(job) as u64;
+    let hours = job.head.hours as u64;
+    round::divide_up(day, hours) as u32
+}

@@ -1,0 +1,96 @@
+// The design flows of the sections, and refusals 8 and 9.
+use crate::sums::Sums;
+use crate::sums::hour_sums;
+use crate::sums::sums_of;
+use answer::Answer;
+use fields::Job;
+ghost use mathlib.Core.Path.{_≡_};
+ghost use Prim.Native.Nat.{_+_, _*_, _≤_, _<_};
+ghost use Rattle.basis.specs.Range.{anyTo};
+ghost use Rattle.basis.specs.Round.{up};
+ghost use Rattle.basis.specs.Slots.{slots};
+ghost use Rattle.answer.specs.Answer.{numberOf};
+ghost use Rattle.answer.specs.Checks.{firstNo};
+ghost use Rattle.coefficient.specs.Alpha.{alphaOf};
+ghost use Rattle.fields.specs.Fields.{countOf};
+ghost use Rattle.tree.specs.Tree.{servedOf, Rooted};
+ghost use Rattle.tree.specs.Rows.{Counted};
+ghost use Rattle.demand.specs.Demand.{mOf, fixturesOf, crowded, sectionFlow, demandChecks, Ruled, Accepted};
+
+// The design flow of sums that 8 let pass.
+fn flow(s: Sums) -> u32
+    requires { ⌜ (0 < s .m) × (s .m ≤ 400000000) × (s .taps ≤ 30 * s .m) ⌝ }
+    ensures { λ r. ⌜ r ≡ up (s .taps * alphaOf (s .m)) (20000 * s .m) ⌝ }
+{
+    let m = s.m;
+    let alpha = coefficient::alpha(m as u32) as u64;
+    round::divide_up(s.taps * alpha, 20000 * m) as u32
+}
+
+// The flow of each section, at the section's place.
+pub fn flows(job: Job) -> [u32; 64]
+    requires { ⌜ Accepted job ⌝ }
+    ensures { λ r. ⌜ r ≡ slots 64 1 (countOf job + 1) 0 (sectionFlow job) ⌝ }
+{
+    let count = job.head.sections as usize;
+    let served = tree::counts(job);
+    let mut flows = [0u32; 64];
+    let mut i: usize = 1;
+    while i <= count {
+        flows[i] = flow(sums_of(job, &served, i));
+        i += 1;
+    }
+    flows
+}
+
+// m over 100,000 × fixtures with at most 200 fixtures.
+fn is_crowded(m: u64, fixtures: u64) -> bool
+    ensures { λ r. ⌜ r ≡ crowded m fixtures ⌝ }
+{
+    if 200 < fixtures {
+        return false;
+    }
+    100000 * fixtures < m
+}
+
+fn crowded_section(job: Job, served: &[u32; 768]) -> bool
+    requires { ⌜ Rooted job × Counted job (now served) ⌝ }
+    ensures { λ r. ⌜ r ≡ anyTo (countOf job) (λ i. crowded (mOf job (servedOf job i)) (fixturesOf (servedOf job i))) ⌝ }
+{
+    let count = job.head.sections as usize;
+    let mut i: usize = 1;
+    while i <= count {
+        let s = sums_of(job, served, i);
+        if is_crowded(s.m, s.fixtures) {
+            return true;
+        }
+        i += 1;
+    }
+    false
+}
+
+// 8 and 9, of a job that 3 and 5 to 7 let pass.
+pub fn demand_refusal(job: Job) -> Answer
+    requires { ⌜ Ruled job ⌝ }
+    ensures { λ r. ⌜ numberOf r ≡ firstNo (demandChecks job) ⌝ }
+{
+    let served = tree::counts(job);
+    let house = sums_of(job, &served, 0);
+    let hour = hour_sums(job);
+    if 400000000 < house.m {
+        return Answer::Sum;
+    }
+    if 400000000 < hour.shares {
+        return Answer::Sum;
+    }
+    if is_crowded(house.m, house.fixtures) {
+        return Answer::Probability;
+    }
+    if crowded_section(job, &served) {
+        return Answer::Probability;
+    }
+    if is_crowded(hour.shares, house.fixtures) {
+        return Answer::Probability;
+    }
+    Answer::Done
+}
