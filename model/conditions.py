@@ -1,8 +1,9 @@
 """Every refusal's condition by itself, straight on the bytes, in no order.
 
-This repeats nothing of job.py: it has its own offsets and its own words for
-the rules. A byte past the end counts as 0, so that each condition has an
-answer for every list of bytes. The least number that holds is the refusal.
+This repeats nothing of job.py and demand.py: it has its own offsets, its own
+words for the rules, and whole numbers in place of fractions. A byte past the
+end counts as 0, so that each condition has an answer for every list of bytes.
+The least number that holds is the refusal.
 """
 
 
@@ -76,6 +77,64 @@ def holds_7(data):
                for kind in range(1, 13))
 
 
+# 8 and 9. Columns Q, Z and O of the norms, of kinds 1 to 12.
+
+Q = (200, 104, 120, 125, 190, 224, 280, 300, 84, 26, 40, 27)
+Z = (30, 20, 20, 30, 20, 30, 30, 30, 20, 20, 14, 14)
+O = (300, 100, 100, 300, 115, 250, 280, 300, 100, 80, 80, 100)
+
+
+def ceiling(number, divisor):
+    return (number + divisor - 1) // divisor
+
+
+def residents(data):
+    return [number_at(data, 14 + 2 * kind, 2) for kind in range(1, 13)]
+
+
+def house_counts(data):
+    """The house's fixtures of each kind."""
+    return [fixtures(data, kind) for kind in range(1, 13)]
+
+
+def section_counts(data):
+    """For each section the fixtures of each kind at it or below: each section
+    adds what it serves to its parent, from the last section to the first."""
+    counts = {i: [0] * 256 for i, _ in starts(data)}
+    for i, at in reversed(starts(data)):
+        kind, parent = number_at(data, at + 1, 1), number_at(data, at, 1)
+        counts[i][kind] += number_at(data, at + 2, 2)
+        if parent in counts:
+            counts[parent] = [a + b for a, b in zip(counts[parent], counts[i])]
+    return [counts[i][1:13] for i, _ in starts(data)]
+
+
+def shares(data, counts):
+    """Of each kind 25,000 x Q x U x n / (9 x Z x N), up."""
+    return [ceiling(25_000 * q * people * n, 9 * z * whole) if whole else 0
+            for q, z, people, n, whole in zip(Q, Z, residents(data), counts, house_counts(data))]
+
+
+def hour_shares(data):
+    """Of each kind 100,000 x Q x U / O, up."""
+    return [ceiling(100_000 * q * people, o) if whole else 0
+            for q, o, people, whole in zip(Q, O, residents(data), house_counts(data))]
+
+
+def crowds(total, counts):
+    return sum(counts) <= 200 and total > 100_000 * sum(counts)
+
+
+def holds_8(data):
+    return max(sum(shares(data, house_counts(data))), sum(hour_shares(data))) > 400_000_000
+
+
+def holds_9(data):
+    whole, parts = house_counts(data), section_counts(data)
+    return (crowds(sum(hour_shares(data)), whole)
+            or any(crowds(sum(shares(data, counts)), counts) for counts in [whole] + parts))
+
+
 READING = {1: holds_1, 2: holds_2, 3: holds_3, 4: holds_4,
            5: holds_5, 6: holds_6, 7: holds_7}
 
@@ -83,6 +142,12 @@ READING = {1: holds_1, 2: holds_2, 3: holds_3, 4: holds_4,
 def of_record(data):
     """All the numbers from 1 to 7 whose condition holds."""
     return {number for number, holds in READING.items() if holds(data)}
+
+
+def of_job(data):
+    """All the numbers from 1 to 9 whose condition holds."""
+    more = {number for number, holds in ((8, holds_8), (9, holds_9)) if holds(data)}
+    return of_record(data) | more
 
 
 def of_fields(raw):
@@ -97,3 +162,9 @@ def of_copy(raw):
     """The same for copying: the room in 2 bytes, then the record."""
     room, record = number_at(raw, 0, 2), raw[2:]
     return of_record(record) | ({14} if room < len(record) else set())
+
+
+def of_flow(raw):
+    """The same for the flow call: the room in 2 bytes, then the record."""
+    room, record = number_at(raw, 0, 2), raw[2:]
+    return of_job(record) | ({14} if room < 12 + 4 * number_at(record, 6, 1) else set())

@@ -1,4 +1,4 @@
-"""Test vectors for reading, writing and copying job records.
+"""Test vectors for job records and design flows.
 
     python3 model/vectors.py STDIN STDOUT
 
@@ -14,6 +14,8 @@ Input, in lines:
              limit, twelve residents (2 each), then up to 63 slots of 10 bytes
              laid out as in a record; slots not given are 0
     c HEX    a record to copy: room (2 bytes), then the record's bytes
+    a HEX    an m (4 bytes) whose coefficient is wanted
+    f HEX    a job whose flows are wanted: room (2 bytes), then the record
 A room is at most 1,000. A line has at most 2,048 bytes; the program reads its
 input in chunks, so the number of lines has no limit that vectors could reach.
 Output:
@@ -24,28 +26,28 @@ Output:
              writing the job again into as many bytes as the record had
     write N HEX   the whole buffer of `room` bytes, which held a5 before
     copy N HEX    the same for c
+    alpha N  the coefficient in millionths
+    flow N HEX    the buffer as for w; when N is 0 there follow `house hour day
+             mean` and `flows` with the flow of each section
 
-Every vector has its number written here by hand. It is compared with the
-model (job.py) and with the least of all conditions that hold (conditions.py).
-Where `holds` is given, these are all the conditions that hold.
+Every vector has its number written by hand, those of `a` and `f` in
+flow_vectors.py. It is compared with the model (job.py, demand.py) and with the
+least of all conditions that hold (conditions.py). Where `holds` is given,
+these are all the conditions that hold; where `lines` is given, the model's
+answer ends in them.
 """
 
 import collections
 import struct
 import sys
-from typing import Callable, Iterable, NamedTuple, Optional
 
 import conditions
+import flow_vectors
 import job
 from edit import OWN, fields, head, house, people, section, stating
-
-
-class Vector(NamedTuple):
-    name: str
-    data: bytes
-    expect: int
-    holds: Optional[set] = None
-    letter: str = "r"
+from houses import (END, INNER, INNER_AND_END, TWO_ENDS, broken, chain, comb, greedy,
+                    halving, star, twelve_kinds, under)
+from vector import Call, Vector, buffer_line, listed, room_of, with_room, words
 
 
 def writing(name, data, expect, holds=None):
@@ -55,21 +57,7 @@ def writing(name, data, expect, holds=None):
 
 def copying(name, record, room, expect, holds=None):
     """A vector for copying a record into a buffer of so many bytes."""
-    return Vector(name, room.to_bytes(2, "big") + record, expect, holds, "c")
-
-
-# Parts of houses: parent, kind, fixtures, length, elevation, free head.
-END = (0, 7, 80, 100, 600, 200)
-INNER = (0, 0, 0, 100, 600, 0)
-
-
-def under(parent, part):
-    """The part with another parent."""
-    return (parent,) + part[1:]
-
-
-TWO_ENDS = house([END, END], {7: 71})
-INNER_AND_END = house([INNER, under(1, END)], {7: 71})
+    return Vector(name, with_room(record, room), expect, holds, "c")
 
 
 # 1, 2 and 4
@@ -271,34 +259,9 @@ def residents_and_fixtures():
 
 # The order of the numbers
 
-# For each number an edit that makes its condition hold and no other one, in
-# the order in which the edits are made.
-BREAKS = [
-    (7, lambda record: people(record, {1: 1})),
-    (6, lambda record: section(record, 2, kind=0, fixtures=0, free=0)),
-    (5, lambda record: section(record, 1, length=0)),
-    (4, lambda record: stating(record + b"\0")),
-    (3, lambda record: head(record, k=4)),
-    (2, lambda record: head(record, version=2)),
-    (1, lambda record: head(record, stated=len(record) + 1)),
-]
-
-
-def broken(numbers):
-    """Two ends, edited so that exactly these numbers' conditions hold."""
-    record = TWO_ENDS
-    for number, edit in BREAKS:
-        record = edit(record) if number in numbers else record
-    return record
-
-
 def broken_fields(numbers):
     """The same for the writer; without room where 14 is among the numbers."""
     return fields(broken(numbers), 0 if 14 in numbers else 60)
-
-
-def listed(numbers):
-    return " and ".join(str(number) for number in sorted(numbers))
 
 
 # The number given, and sets of numbers that hold.
@@ -350,19 +313,6 @@ def places():
 
 # Trees and whole houses
 
-def twelve_kinds():
-    return house([(0, kind, 256 * kind + 1, 40 * kind, 500 * kind - 1000, 80 * kind)
-                  for kind in range(1, 13)],
-                 {kind: 258 * kind + 3 for kind in range(1, 13)})
-
-
-def greedy():
-    """The house where widening pipes one by one ends dearer."""
-    record = house([(0, 0, 0, 363, 795, 0), (1, 2, 76, 101, 776, 200),
-                    (1, 2, 70, 174, 798, 200)], {2: 57})
-    return head(record, meter=0, limit=3000, H=2386)
-
-
 def small_houses():
     high = head(OWN, k=2, T=7, meter=0x0102, G=0x0304, H=0x0506, limit=0x0708)
     offices = house([(0, 11, 50, 100, 600, 200), (0, 11, 200, 100, 600, 200)], {11: 3200})
@@ -382,34 +332,6 @@ def small_houses():
         Vector("fixtures 71", section(OWN, 1, fixtures=71), 0),
         Vector("kind 11 in two ends of 50 and 200", offices, 0),
     ]
-
-
-def chain(count):
-    """Each section under the one before; only the last has a kind."""
-    return house([under(i, INNER) for i in range(count - 1)] + [under(count - 1, END)], {7: 71})
-
-
-def star(count):
-    """Every section at the pump, with the most fixtures."""
-    return house([(0, 7, 65535, 5000, -1000, 1000)] * count, {7: 65535})
-
-
-def comb_part(number, count):
-    """Even sections are ends. Each odd one is under the odd one before and
-    carries an even one; the last odd one is an end."""
-    if number % 2 == 0:
-        return under(number - 1, END)
-    return under(max(0, number - 2), END if number == count else INNER)
-
-
-def comb(count):
-    return house([comb_part(number, count) for number in range(1, count + 1)], {7: 71})
-
-
-def halving(count):
-    """Section i under section i / 2, every kind in turn, different numbers."""
-    return house([(i // 2, 1 + i % 12, 1000 * i + 7, 79 * i, 111 * i - 1000, 15 * i)
-                  for i in range(1, count + 1)], {kind: 5000 * kind for kind in range(1, 13)})
 
 
 def long_houses():
@@ -558,7 +480,7 @@ GROUPS = [
     ("writer, section counts", writer_counts), ("writer, order", writing_order),
     ("writer, places", writer_places), ("writer, values", writer_values),
     ("writer, residents", writer_residents), ("copying", copies),
-]
+] + flow_vectors.GROUPS
 
 # The answers to the own case and to three of its copies, by hand.
 OWN_ANSWER = [
@@ -582,10 +504,6 @@ COPY_ANSWERS = {
 RAW = struct.Struct(">H3B4H12H")
 
 
-def room_of(raw):
-    return int.from_bytes(raw[:2], "big")
-
-
 def parse_fields(raw):
     """The room and the job of the writer's raw fields."""
     room, *values = RAW.unpack_from(raw)
@@ -594,19 +512,8 @@ def parse_fields(raw):
     return room, job.Job(*values[:7], residents=tuple(values[7:]), slots=slots)
 
 
-def buffer_line(word, outcome, room):
-    """The answer of a call, with the buffer as it is afterwards."""
-    number, record = outcome
-    record = record or b""
-    return f"{word} {number} {(record + bytes([0xa5]) * (room - len(record))).hex()}"
-
-
 def write_line(what, room):
     return buffer_line("write", job.write(what, room), room)
-
-
-def words(name, values):
-    return " ".join([name] + [str(value) for value in values])
 
 
 def job_lines(found):
@@ -632,17 +539,11 @@ def copy_lines(raw):
     return [buffer_line("copy", job.copy(record, room), room)]
 
 
-class Call(NamedTuple):
-    word: str
-    lines: Callable
-    conditions: Callable
-    numbers: Iterable  # of its refusals
-
-
 CALLS = {
     "r": Call("read", read_lines, conditions.of_record, range(1, 8)),
     "w": Call("write", write_lines, conditions.of_fields, (3, 5, 6, 7, 14)),
     "c": Call("copy", copy_lines, conditions.of_copy, (1, 2, 3, 4, 5, 6, 7, 14)),
+    **flow_vectors.CALLS,
 }
 
 
@@ -660,12 +561,18 @@ def conditions_of(vector):
     return CALLS[vector.letter].conditions(vector.data)
 
 
-def check(vector):
+def check_number(vector):
     """The number by hand is the model's and the least condition's."""
     found = conditions_of(vector)
     assert model_number(vector) == vector.expect, (vector.name, model_number(vector))
     assert min(found, default=0) == vector.expect, (vector.name, found)
     assert vector.holds is None or vector.holds == found, (vector.name, found)
+
+
+def check_lines(vector):
+    """The lines by hand are the last of the model's."""
+    by_hand, lines = vector.lines or [], answer(vector)
+    assert lines[len(lines) - len(by_hand):] == by_hand, (vector.name, lines)
 
 
 def check_slots(vector):
@@ -677,7 +584,7 @@ def check_slots(vector):
 
 def check_room(vector):
     """The protocol's bound of the room."""
-    if vector.letter != "r":
+    if vector.letter in ("w", "c", "f"):
         assert len(vector.data) >= 2 and room_of(vector.data) <= 1000, vector.name
 
 
@@ -697,7 +604,9 @@ def check_answers():
 
 def check_all(vectors):
     for vector in vectors:
-        check(vector)
+        if CALLS[vector.letter].numbers:
+            check_number(vector)
+        check_lines(vector)
         check_slots(vector)
         check_room(vector)
     check_alone(vectors)

@@ -1,4 +1,4 @@
-// The three calls. Each is false, and prints nothing, where the bytes are not such as its line has.
+// The calls. Each is false, and prints nothing, where the bytes are not such as its line has.
 use crate::print;
 use crate::report;
 use answer::Answer;
@@ -47,6 +47,28 @@ pub fn copy(raw: &[u8]) -> bool {
         return false;
     }
     copied(&raw[2..], room);
+    true
+}
+
+// The coefficient of an m of four bytes.
+pub fn alpha(raw: &[u8]) -> bool {
+    if raw.len() != 4 {
+        return false;
+    }
+    report::number(b"alpha", coefficient::alpha(wire::be32(raw, 0)));
+    true
+}
+
+// The flows of a job are put into as many bytes as its line says.
+pub fn flow(raw: &[u8]) -> bool {
+    if raw.len() < 2 {
+        return false;
+    }
+    let room = room_of(raw);
+    if 1000 < room {
+        return false;
+    }
+    flowed(&raw[2..], room);
     true
 }
 
@@ -102,6 +124,41 @@ fn copied(record: &[u8], room: usize)
 fn copy_into(record: &[u8], buffer: &mut [u8]) {
     let answer = job::copy(record, buffer);
     buffer_line(b"copy", answer, buffer);
+}
+
+fn flowed(record: &[u8], room: usize)
+    requires { ⌜ room ≤ 1024 ⌝ }
+{
+    let mut buffer = filled();
+    flow_into(record, &mut buffer[0..room]);
+}
+
+fn flow_into(record: &[u8], buffer: &mut [u8]) {
+    let answer = flow::flow(record, buffer);
+    buffer_line(b"flow", answer, buffer);
+    match answer {
+        Answer::Done => {
+            figures(buffer, sections_of(record));
+        }
+        _ => {}
+    }
+}
+
+// The section count of a record, or 0 where it has none.
+fn sections_of(record: &[u8]) -> u8 {
+    if record.len() < 7 {
+        return 0;
+    }
+    record[6]
+}
+
+// A flow result in numbers; nothing where the buffer is too short for it.
+fn figures(result: &[u8], sections: u8) {
+    let end = 12 + 4 * (sections as usize);
+    if end <= result.len() {
+        report::numbers(b"house", &result[0..12]);
+        report::numbers(b"flows", &result[12..end]);
+    }
 }
 
 fn buffer_line(call: &[u8], answer: Answer, buffer: &[u8]) {

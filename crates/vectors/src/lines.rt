@@ -81,6 +81,8 @@ fn vector(letter: u8, digits: &[u8]) {
         b'r' => calls::read(&bytes[0..n]),
         b'w' => calls::write(&bytes[0..n]),
         b'c' => calls::copy(&bytes[0..n]),
+        b'a' => calls::alpha(&bytes[0..n]),
+        b'f' => calls::flow(&bytes[0..n]),
         _ => false,
     };
     if !known {

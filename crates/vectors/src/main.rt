@@ -1,4 +1,5 @@
-// Feeds the test vectors of standard input to the calls that read, write and copy a job, and prints what they answer.
+// Feeds the test vectors of standard input to the calls that read, write and copy a job and find its flows, and prints
+// what they answer.
 // model/vectors.py says what stands in the lines of the input and the output.
 mod calls;
 mod hex;

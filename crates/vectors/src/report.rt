@@ -1,4 +1,4 @@
-// The fields of a job, in lines.
+// The fields of a job and other numbers, in lines.
 use crate::print;
 use fields::Head;
 use fields::Job;
@@ -10,6 +10,30 @@ fn wide8(x: u8) -> u64 {
 
 fn wide16(x: u16) -> u64 {
     x as u64
+}
+
+fn wide32(x: u32) -> u64 {
+    x as u64
+}
+
+// A name and a number.
+pub fn number(name: &[u8], n: u32) {
+    let mut out = [0u8; 4096];
+    let at = print::text(&mut out, 0, name);
+    let at = print::number(&mut out, at, wide32(n));
+    print::end(&mut out, at);
+}
+
+// A name and the numbers that the bytes hold, four bytes each.
+pub fn numbers(name: &[u8], bytes: &[u8]) {
+    let mut out = [0u8; 4096];
+    let mut at = print::text(&mut out, 0, name);
+    let mut i: usize = 0;
+    while i < bytes.len() / 4 {
+        at = print::number(&mut out, at, wide32(wire::be32(bytes, 4 * i)));
+        i += 1;
+    }
+    print::end(&mut out, at);
 }
 
 pub fn job(job: Job) {

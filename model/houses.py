@@ -1,0 +1,82 @@
+"""Houses that the vectors have in common, as records."""
+
+from edit import head, house, people, section, stating
+
+# Parts of houses: parent, kind, fixtures, length, elevation, free head.
+END = (0, 7, 80, 100, 600, 200)
+INNER = (0, 0, 0, 100, 600, 0)
+
+
+def under(parent, part):
+    """The part with another parent."""
+    return (parent,) + part[1:]
+
+
+TWO_ENDS = house([END, END], {7: 71})
+INNER_AND_END = house([INNER, under(1, END)], {7: 71})
+
+
+# Houses with one thing wrong or several
+
+# For each number an edit that makes its condition hold and no other one, in
+# the order in which the edits are made.
+BREAKS = [
+    (7, lambda record: people(record, {1: 1})),
+    (6, lambda record: section(record, 2, kind=0, fixtures=0, free=0)),
+    (5, lambda record: section(record, 1, length=0)),
+    (4, lambda record: stating(record + b"\0")),
+    (3, lambda record: head(record, k=4)),
+    (2, lambda record: head(record, version=2)),
+    (1, lambda record: head(record, stated=len(record) + 1)),
+]
+
+
+def broken(numbers):
+    """Two ends, edited so that exactly these numbers' conditions hold."""
+    record = TWO_ENDS
+    for number, edit in BREAKS:
+        record = edit(record) if number in numbers else record
+    return record
+
+
+# Trees and whole houses
+
+def twelve_kinds():
+    return house([(0, kind, 256 * kind + 1, 40 * kind, 500 * kind - 1000, 80 * kind)
+                  for kind in range(1, 13)],
+                 {kind: 258 * kind + 3 for kind in range(1, 13)})
+
+
+def greedy():
+    """The house where widening pipes one by one ends dearer."""
+    record = house([(0, 0, 0, 363, 795, 0), (1, 2, 76, 101, 776, 200),
+                    (1, 2, 70, 174, 798, 200)], {2: 57})
+    return head(record, meter=0, limit=3000, H=2386)
+
+
+def chain(count):
+    """Each section under the one before; only the last has a kind."""
+    return house([under(i, INNER) for i in range(count - 1)] + [under(count - 1, END)], {7: 71})
+
+
+def star(count):
+    """Every section at the pump, with the most fixtures."""
+    return house([(0, 7, 65535, 5000, -1000, 1000)] * count, {7: 65535})
+
+
+def comb_part(number, count):
+    """Even sections are ends. Each odd one is under the odd one before and
+    carries an even one; the last odd one is an end."""
+    if number % 2 == 0:
+        return under(number - 1, END)
+    return under(max(0, number - 2), END if number == count else INNER)
+
+
+def comb(count):
+    return house([comb_part(number, count) for number in range(1, count + 1)], {7: 71})
+
+
+def halving(count):
+    """Section i under section i / 2, every kind in turn, different numbers."""
+    return house([(i // 2, 1 + i % 12, 1000 * i + 7, 79 * i, 111 * i - 1000, 15 * i)
+                  for i in range(1, count + 1)], {kind: 5000 * kind for kind in range(1, 13)})

@@ -1,0 +1,43 @@
+"""What the vectors of all calls have in common."""
+
+from typing import Callable, Iterable, NamedTuple, Optional
+
+
+class Vector(NamedTuple):
+    name: str
+    data: bytes
+    expect: int
+    holds: Optional[set] = None
+    letter: str = "r"
+    lines: Optional[list] = None  # by hand, the last lines of the answer
+
+
+class Call(NamedTuple):
+    word: str
+    lines: Callable
+    conditions: Callable
+    numbers: Iterable  # of its refusals
+
+
+def room_of(raw):
+    """The room, where a line's bytes begin with it."""
+    return int.from_bytes(raw[:2], "big")
+
+
+def with_room(record, room):
+    return room.to_bytes(2, "big") + record
+
+
+def buffer_line(word, outcome, room):
+    """The answer of a call, with the buffer as it is afterwards."""
+    number, record = outcome
+    record = record or b""
+    return f"{word} {number} {(record + bytes([0xa5]) * (room - len(record))).hex()}"
+
+
+def words(name, values):
+    return " ".join([name] + [str(value) for value in values])
+
+
+def listed(numbers):
+    return " and ".join(str(number) for number in sorted(numbers))
