@@ -1,13 +1,15 @@
 -- Parts of a list: what stands in one, its first element, two in a row, and those of two lists in a row.
 -- Assumes nothing.
-use mathlib.Core.Path.{_≡_, refl, sym, ap, _∙_}
-use mathlib.Core.List.{List, [], _∷_, _++_}
+use mathlib.Core.Path.{_≡_, sym, _∙_}
+use mathlib.Core.List.{List, _∷_, _++_}
 use Prim.Native.Nat.{ℕ, suc, _+_, _≤_, _<_}
 use native.Mathlib.Omega.{arith}
 use native.Mathlib.Numerals.{add-one}
-use lib.ListN.{length, take, drop, getD, length-take, length-drop}
+use lib.ListN.{length, drop, getD, length-take, length-drop, List·getD-eq-default}
 use lib.Seq.{take-add, drop-drop, drop-cons, take-length, take-at, take-append-le, drop-append-le, drop-append-add, getD-take, getD-drop}
+use mathlib.Core.Logic.{⊎-elim}
 use Rattle.basis.specs.Part.{part}
+use Rattle.basis.proofs.Split.{lt-or-ge}
 
 pub part-at : (l : List ℕ) (i n k : ℕ) → k < n → getD (part l i n) k 0 ≡ getD l (i + k) 0
 part-at l i n k h = getD-take n (drop i l) k 0 h ∙ getD-drop i l k 0
@@ -37,3 +39,11 @@ part-right x y i n = rw (drop-append-add x y i)
 pub part-left : (x y : List ℕ) (i n : ℕ) → i + n ≤ length x → part (x ++ y) i n ≡ part x i n
 part-left x y i n h =
     rw (drop-append-le i x y (omega arith)) (take-append-le n (drop i x) y (rw (length-drop i x) (omega arith)))
+
+-- a bound on every place of a list, past its end too, holds of a part
+pub part-below : (l : List ℕ) (i n b : ℕ) → 0 < b → ((k : ℕ) → getD l k 0 < b) → (k : ℕ) → getD (part l i n) k 0 < b
+part-below l i n b h all k =
+    ⊎-elim
+    (λ lt. rw (part-at l i n k lt) (all (i + k)))
+    (λ (ge : n ≤ k). rw (List·getD-eq-default (part l i n) 0 {n = k} (rw (length-take n (drop i l)) (omega arith))) h)
+    (lt-or-ge k n)

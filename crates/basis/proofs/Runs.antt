@@ -4,7 +4,7 @@ use mathlib.Core.Path.{_≡_, refl, sym, _∙_}
 use mathlib.Core.List.{List}
 use Prim.Native.Nat.{ℕ, suc, _+_, _-_, _*_, _≤_, _<_}
 use native.Mathlib.Omega.{arith}
-use native.Mathlib.Nat.{mul-suc, mul-le-mul-left}
+use native.Mathlib.Nat.{mul-suc}
 use lib.ListN.{length}
 use Rattle.basis.specs.Range.{concatTo}
 use Rattle.basis.specs.Stored.{stored}

@@ -1,13 +1,13 @@
 -- A run written over a list: its length, the run after it, a single element, and what stands at each place.
 -- Assumes nothing.
-use mathlib.Core.Path.{_≡_, refl, sym, ap, _∙_}
+use mathlib.Core.Path.{_≡_, sym, ap, _∙_}
 use mathlib.Core.List.{List, [], _∷_, _++_, append-assoc}
-use Prim.Native.Nat.{ℕ, suc, _+_, _-_, _≤_, _<_}
+use Prim.Native.Nat.{ℕ, _+_, _-_, _≤_, _<_}
 use native.Mathlib.Omega.{arith}
 use native.Mathlib.Numerals.{add-one}
-use native.Mathlib.Nat.{add-zero, add-assoc}
-use lib.ListN.{length, take, drop, getD, set, length-append, length-take, length-drop, take-append-drop, List·getD-append}
-use lib.Seq.{length-take-le, take-at, drop-at, drop-append-add, drop-drop, set-split, getD-take, getD-drop, getD-append-add}
+use native.Mathlib.Nat.{add-zero}
+use lib.ListN.{length, take, drop, getD, set, length-append, length-drop, take-append-drop, List·getD-append}
+use lib.Seq.{length-take-le, take-at, drop-append-add, drop-drop, set-split, getD-take, getD-drop, getD-append-add}
 use Rattle.basis.specs.Stored.{stored}
 
 -- the list as what stands before the end of the run, and what stands after it

@@ -1,8 +1,8 @@
 -- Checks 8 and 9: the number that they give, each test after those before it.
 -- Assumes nothing.
-use mathlib.Core.Path.{_≡_, sym, _∙_}
+use mathlib.Core.Path.{_≡_}
 use mathlib.Core.Bool.{true, false}
-use Prim.Native.Nat.{ℕ, _≤_, _<_}
+use Prim.Native.Nat.{_≤_, _<_}
 use borrow.Author.Tests.{lt-ltb, le-ltb}
 use Rattle.basis.specs.Range.{anyTo}
 use Rattle.answer.specs.Checks.{firstNo}

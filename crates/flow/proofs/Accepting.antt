@@ -1,12 +1,11 @@
 -- Acceptance and the flow call, part by part of their lists of checks, and what an accepted job is.
 -- Assumes nothing.
-use mathlib.Core.Path.{_≡_, refl, sym, _∙_}
-use mathlib.Core.Bool.{Bool, cond}
-use mathlib.Core.List.{List, [], _∷_, _++_}
-use Prim.{Unit, tt}
+use mathlib.Core.Path.{_≡_, _∙_}
+use mathlib.Core.List.{List, [], _∷_}
+use Prim.{tt}
 use Prim.Native.Nat.{ℕ, _≤_, _<_}
 use native.Mathlib.Omega.{arith}
-use lib.Dec.{ltb, eqb}
+use lib.Dec.{ltb}
 use borrow.Author.Tests.{lt-ltb, le-ltb, eq-eqb, ne-eqb}
 use Rattle.answer.specs.Checks.{firstNo}
 use Rattle.answer.proofs.First.{Numbered, numbered-append, first-none, first-found, first-next, first-after, first-before, first-split}
@@ -51,12 +50,12 @@ module _ (b : List ℕ) where
       let parts = first-split (readChecks b) (demandChecks (decode b)) (read-numbered b) e in
       record { ruled = read-ruled (parts .0); demand = parts .1 }
 
+  pub job-numbered : Numbered (jobChecks b)
+  unfolding jobChecks
+  job-numbered = numbered-append (readChecks b) (demandChecks (decode b)) (read-numbered b) (demand-numbered (decode b))
+
   -- the flow call: the number of acceptance where it finds something, else 14
   module _ (room : ℕ) where
-    job-numbered : Numbered (jobChecks b)
-    unfolding jobChecks
-    job-numbered = numbered-append (readChecks b) (demandChecks (decode b)) (read-numbered b) (demand-numbered (decode b))
-
     pub flow-refused : (jobNo b ≡ 0 → ⊥) → flowNo b room ≡ jobNo b
     unfolding flowNo jobNo
     flow-refused n = first-before (jobChecks b) _ job-numbered n

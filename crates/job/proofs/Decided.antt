@@ -1,9 +1,9 @@
 -- The numbers of reading, writing and copying, part by part of their lists of checks.
 -- Assumes nothing.
-use mathlib.Core.Path.{_≡_, refl, sym, _∙_}
-use mathlib.Core.Bool.{Bool, true, false, not, cond}
-use mathlib.Core.List.{List, [], _∷_, _++_}
-use Prim.{Unit, tt}
+use mathlib.Core.Path.{_≡_, _∙_}
+use mathlib.Core.Bool.{true, false, not, cond}
+use mathlib.Core.List.{List, [], _∷_}
+use Prim.{tt}
 use Prim.Native.Nat.{ℕ, _≤_, _<_}
 use native.Mathlib.Omega.{arith}
 use lib.ListN.{length}
@@ -11,11 +11,10 @@ use lib.Dec.{ltb, eqb}
 use borrow.Author.Tests.{lt-ltb, le-ltb, ltb-false, eq-eqb, ne-eqb, not-false}
 use Rattle.answer.specs.Checks.{firstNo}
 use Rattle.answer.proofs.First.{Numbered, first-none, first-found, first-next, first-clear, first-after, first-before, first-split, numbered-append}
-use Rattle.wire.specs.Wire.{byteAt, beAt}
 use Rattle.fields.specs.declared.Job.{Job}
 use Rattle.fields.specs.Fields.{blankJob, countOf}
 use Rattle.rules.specs.Rules.{headOk, fieldChecks}
-use Rattle.record.specs.Record.{lengthOf, headAt, decode}
+use Rattle.record.specs.Record.{lengthOf, decode}
 use Rattle.job.specs.Calls.{shapeChecks, readChecks, readNo, readJob, writeChecks, writeNo, copyChecks, copyNo}
 
 shape-numbered : (b : List ℕ) → Numbered (shapeChecks b)

@@ -3,8 +3,6 @@
 use mathlib.Core.Path.{_≡_, refl}
 use mathlib.Core.Bool.{Bool, true, _&&_}
 use Prim.Native.Nat.{ℕ, _≤_, _<_}
-use lib.Dec.{leb}
-use borrow.Author.Tests.{leb-true}
 use Rattle.basis.specs.Range.{within, allTo}
 use Rattle.basis.proofs.Bools.{left, right}
 use Rattle.basis.proofs.Within.{Within, within-in}

@@ -1,12 +1,10 @@
 -- `job::copy` meets its contract: what is written is what was read.
 -- Assumes nothing.
-use mathlib.Core.Path.{_≡_, sym, ap, _∙_}
-use Prim.Native.Nat.{ℕ, _<_}
+use mathlib.Core.Path.{_≡_, sym, _∙_}
 use native.Mathlib.Omega.{arith}
 use borrow.Author.Needs.{needs}
 use borrow.Author.Tests.{ne-eqb}
 use Rattle.answer.specs.Answer.{numberOf}
-use Rattle.wire.specs.Wire.{byteAt}
 use Rattle.record.specs.Record.{encode}
 use Rattle.job.specs.Calls.{readNo, readJob}
 use Rattle.job.proofs.Decided.{copy-refused}

@@ -1,15 +1,13 @@
 -- `job::read` meets its contract.
 -- Assumes nothing.
 use mathlib.Core.Path.{_≡_, sym, ap, _∙_}
-use Prim.Native.Nat.{_≤_}
 use native.Mathlib.Omega.{arith}
 use borrow.Author.Needs.{needs}
 use Rattle.answer.specs.Answer.{numberOf}
 use Rattle.answer.specs.Checks.{firstNo}
-use Rattle.wire.specs.Wire.{byteAt}
 use Rattle.record.specs.Record.{headAt, decode}
 use Rattle.job.specs.Calls.{shapeChecks}
-use Rattle.job.proofs.Shape.{Shaped, shaped, few}
+use Rattle.job.proofs.Shape.{shaped, few}
 use Rattle.job.proofs.Decided.{read-shape, read-fields, read-refused, read-checked}
 use Rattle.job.proofs.read.Statement.{statement}
 use Rattle.job.proofs.read.Tie as tie

@@ -1,15 +1,13 @@
 -- `job::shape_refusal` meets its contract.
 -- Assumes nothing.
 use mathlib.Core.Path.{_≡_, sym, ap, _∙_}
-use mathlib.Core.Bool.{true, false}
-use Prim.Native.Nat.{_+_, _*_, _≤_}
 use native.Mathlib.Omega.{arith}
 use borrow.Author.Needs.{needs}
 use borrow.Author.Tests.{not-true, not-false}
 use lib.ListN.{length}
 use Rattle.wire.specs.Wire.{byteAt, beAt}
 use Rattle.rules.specs.Rules.{headOk}
-use Rattle.record.specs.Record.{headAt, lengthOf}
+use Rattle.record.specs.Record.{headAt}
 use Rattle.job.proofs.Shape.{short, not-stated, other-version, out-of-range, other-count, well-formed}
 use Rattle.job.proofs.shape_refusal.Statement.{statement}
 use Rattle.job.proofs.shape_refusal.Tie as tie

@@ -1,13 +1,11 @@
 -- `job::write` meets its contract.
 -- Assumes nothing.
 use mathlib.Core.Path.{_≡_, sym, _∙_}
-use native.Mathlib.Omega.{arith}
 use borrow.Author.Needs.{needs}
 use borrow.Author.Tests.{eq-eqb, ne-eqb}
 use lib.ListN.{length}
 use Rattle.answer.specs.Answer.{numberOf}
 use Rattle.rules.proofs.HeadBounds.{head-in}
-use Rattle.job.specs.Calls.{writeNo}
 use Rattle.job.proofs.Decided.{Writable, writable}
 use Rattle.job.proofs.write.Statement.{statement}
 use Rattle.job.proofs.write.Tie as tie

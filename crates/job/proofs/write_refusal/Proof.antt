@@ -1,8 +1,7 @@
 -- `job::write_refusal` meets its contract.
 -- Assumes nothing.
 use mathlib.Core.Path.{_≡_, sym, _∙_}
-use mathlib.Core.Bool.{true, false}
-use Prim.Native.Nat.{_≤_}
+use mathlib.Core.Bool.{true}
 use native.Mathlib.Omega.{arith}
 use borrow.Author.Needs.{needs}
 use borrow.Author.Tests.{not-true, not-false}

@@ -4,7 +4,7 @@ use mathlib.Core.Path.{_≡_, _∙_}
 use Prim.Native.Nat.{_*_, _≤_, _<_}
 use native.Mathlib.Omega.{arith}
 use borrow.Author.Needs.{needs}
-use Rattle.demand.specs.Demand.{hourSumOf, hourOf}
+use Rattle.demand.specs.Demand.{hourOf}
 use Rattle.demand.proofs.Totals.{hour-sum-pos, hour-sum-top}
 use Rattle.demand.proofs.Equations.{hour-is}
 use Rattle.demand.proofs.DesignFlows.{hour-product, hour-top}

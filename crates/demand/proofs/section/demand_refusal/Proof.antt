@@ -1,13 +1,11 @@
 -- `demand::section::demand_refusal` meets its contract.
 -- Assumes nothing.
 use mathlib.Core.Path.{_≡_, sym, _∙_}
-use mathlib.Core.Bool.{true, false}
-use Prim.Native.Nat.{_≤_, _<_}
+use mathlib.Core.Bool.{false}
+use Prim.Native.Nat.{_≤_}
 use native.Mathlib.Omega.{arith}
 use borrow.Author.Needs.{needs}
-use Rattle.basis.specs.Range.{anyTo}
-use Rattle.fields.specs.Fields.{countOf}
-use Rattle.tree.specs.Tree.{servedOf, houseOf}
+use Rattle.tree.specs.Tree.{houseOf}
 use Rattle.demand.specs.Demand.{mOf, fixturesOf, hourSumOf, crowded}
 use Rattle.demand.proofs.Ruling.{ruled-rooted, ruled-kinds}
 use Rattle.demand.proofs.Deciding.{house-m, house-fixtures, over-house, over-hour, crowded-house, crowded-any, crowded-hour, not-crowded}

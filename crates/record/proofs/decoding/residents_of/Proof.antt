@@ -1,7 +1,7 @@
 -- `record::decoding::residents_of` meets its contract.
 -- Assumes nothing.
-use Prim.Native.Nat.{_+_, _-_, _*_, _≤_, _<_}
-use mathlib.Core.Path.{_≡_, refl, sym, _∙_}
+use Prim.Native.Nat.{_-_, _≤_}
+use mathlib.Core.Path.{_≡_, _∙_}
 use native.Mathlib.Omega.{arith}
 use Rattle.record.specs.Record.{residentsAt}
 use Rattle.basis.specs.Slots.{slots}

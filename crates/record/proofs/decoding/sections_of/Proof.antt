@@ -1,12 +1,12 @@
 -- `record::decoding::sections_of` meets its contract.
 -- Assumes nothing.
-use Prim.Native.Nat.{_+_, _-_, _*_, _≤_, _<_}
-use mathlib.Core.Path.{_≡_, refl, sym, _∙_}
+use Prim.Native.Nat.{_+_, _-_, _≤_, _<_}
+use mathlib.Core.Path.{_≡_}
 use native.Mathlib.Omega.{arith}
 use Rattle.record.specs.Record.{sectionAt}
 use Rattle.fields.specs.Fields.{blankSection}
 use Rattle.basis.specs.Slots.{slots}
-use Rattle.basis.proofs.Slots.{slots-none, slots-more, slots-full}
+use Rattle.basis.proofs.Slots.{slots-none, slots-more}
 use borrow.Author.Needs.{needs}
 use Rattle.record.proofs.decoding.sections_of.Statement.{statement}
 use Rattle.record.proofs.decoding.sections_of.Tie as tie

@@ -1,10 +1,10 @@
 -- `record::encoding::put_residents` meets its contract.
 -- Assumes nothing.
-use Prim.Native.Nat.{ℕ, _+_, _-_, _*_, _≤_, _<_}
-use mathlib.Core.Path.{_≡_, _∙_}
+use Prim.Native.Nat.{_-_, _≤_, _<_}
+use mathlib.Core.Path.{_≡_}
 use native.Mathlib.Omega.{arith}
 use borrow.Author.Needs.{needs}
-use lib.ListN.{length, getD}
+use lib.ListN.{getD}
 use Rattle.basis.proofs.Runs.{Running, running-start, running-room, running-more}
 use Rattle.wire.specs.Wire.{bytesOf}
 use Rattle.wire.proofs.Fields.{bytes-length}
