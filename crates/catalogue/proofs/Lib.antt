@@ -1,0 +1,9 @@
+pub mod Halving
+pub mod Lines
+pub mod Listed
+pub mod Places
+pub mod Readings
+pub mod Rising
+pub mod RowBounds
+pub mod ShapeBounds
+pub mod SizeBounds

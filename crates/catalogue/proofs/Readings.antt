@@ -1,0 +1,110 @@
+-- Rows that keep their rules read at a flow: whether they serve it, the first row, the line between two rows, and the largest reading.
+-- Assumes nothing.
+use mathlib.Core.Path.{_≡_}
+use mathlib.Core.Bool.{true, false, cond}
+use mathlib.Core.List.{List}
+use mathlib.Core.Logic.{⊎-elim}
+use Prim.Native.Nat.{ℕ, _+_, _-_, _*_, _≤_, _<_}
+use native.Mathlib.Omega.{arith}
+use borrow.Author.Tests.{leb-true, le-leb, lt-leb}
+use Rattle.basis.specs.Round.{line}
+use Rattle.basis.proofs.Split.{either}
+use Rattle.wire.specs.Wire.{byteAt}
+use Rattle.wire.proofs.Fields.{be-lt}
+use Rattle.catalogue.specs.declared.reading.Reading.{Reading}
+use Rattle.catalogue.specs.Layout.{flowAt, velocityAt, slopeAt}
+use Rattle.catalogue.specs.Reading.{between, servesAt, readRows}
+use Rattle.catalogue.specs.Shape.{Rows, Above}
+use Rattle.catalogue.proofs.Rising.{Rises, rises, flows-rise}
+use Rattle.catalogue.proofs.Lines.{Rising, rising-le, between-first, between-line, between-high}
+
+module _ (rows : List ℕ) (n q : ℕ) where
+  pub serves-last : servesAt rows n q ≡ true → q ≤ flowAt rows (n - 1)
+  unfolding servesAt
+  serves-last e = leb-true q (flowAt rows (n - 1)) e
+
+  pub last-serves : q ≤ flowAt rows (n - 1) → servesAt rows n q ≡ true
+  unfolding servesAt
+  last-serves h = le-leb q (flowAt rows (n - 1)) h
+
+  pub reading-over : flowAt rows (n - 1) < q → readRows rows n q ≡ record { serves = false; velocity = 0; slope = 0 }
+  unfolding readRows servesAt
+  reading-over h = rw (lt-leb q (flowAt rows (n - 1)) h)
+
+-- the first row
+abbrev pub onFirst : List ℕ → Reading
+onFirst rows = record { serves = true; velocity = velocityAt rows 0; slope = slopeAt rows 0 }
+
+-- rows i and j, with the straight line between them at q
+abbrev pub onLine : List ℕ → ℕ → ℕ → ℕ → Reading
+onLine rows i j q =
+    record {
+      serves = true;
+      velocity = line (flowAt rows i) (velocityAt rows i) (flowAt rows j) (velocityAt rows j) q;
+      slope = line (flowAt rows i) (slopeAt rows i) (flowAt rows j) (slopeAt rows j) q;
+    }
+
+-- row k and the one before it, with q between their flows
+pub record Around (rows : List ℕ) (q k : ℕ) : Type 0 where
+  pub rise : Rises rows (k - 1) k
+  pub low : flowAt rows (k - 1) < q
+  pub high : q ≤ flowAt rows k
+
+module _ {rows : List ℕ} {n : ℕ} (r : Rows rows n) where
+  rising : Rising (flowAt rows) (n - 1)
+  rising i j h k = flows-rise rows n (r .rules) i j h (omega arith)
+
+  pub reading-low : (q : ℕ) → q ≤ flowAt rows 0 → readRows rows n q ≡ onFirst rows
+  unfolding readRows
+  reading-low q h =
+      let last : flowAt rows 0 ≤ flowAt rows (n - 1) = rising-le rising 0 (n - 1) (omega arith) (omega arith) in
+      rw (
+        last-serves rows n q (omega arith),
+        between-first (flowAt rows) (velocityAt rows) (n - 1) q rising h,
+        between-first (flowAt rows) (slopeAt rows) (n - 1) q rising h,
+      )
+
+  pub reading-between : (q k : ℕ) → k + 1 < n → flowAt rows k < q → q ≤ flowAt rows (k + 1) → readRows rows n q ≡ onLine rows k (k + 1) q
+  unfolding readRows
+  reading-between q k l h u =
+      let last : flowAt rows (k + 1) ≤ flowAt rows (n - 1) = rising-le rising (k + 1) (n - 1) (omega arith) (omega arith) in
+      rw (
+        last-serves rows n q (omega arith),
+        between-line (flowAt rows) (velocityAt rows) (n - 1) k q rising (omega arith) h u,
+        between-line (flowAt rows) (slopeAt rows) (n - 1) k q rising (omega arith) h u,
+      )
+
+  -- at the row that the search finds
+  module _ {q k : ℕ} (a : Above rows n q k) where
+    pub above-first : k ≡ 0 → readRows rows n q ≡ onFirst rows
+    above-first e = reading-low q (rw e at (a .reached))
+
+    module _ (h : 0 < k) where
+      pub above-around : Around rows q k
+      above-around =
+          record { rise = rises rows n (r .rules) (k - 1) k (omega arith) (a .within); low = a .under h; high = a .reached }
+
+      pub above-line : readRows rows n q ≡ onLine rows (k - 1) k q
+      above-line =
+          let e : k - 1 + 1 ≡ k = omega arith in
+          rw e at (reading-between q (k - 1) (omega arith) (a .under h) (rw e (a .reached)))
+
+  -- a value that does not fall from row to row is read at no more than the last row's
+  top : (value : ℕ → ℕ) (q m : ℕ) → ((k : ℕ) → k < n - 1 → value k ≤ value (k + 1)) → value (n - 1) ≤ m →
+      cond (servesAt rows n q) (between (flowAt rows) value (n - 1) q) 0 ≤ m
+  top value q m keep h =
+      ⊎-elim
+      (λ e. rw e (omega (arith, between-high (flowAt rows) value (n - 1) q rising keep (serves-last rows n q e))))
+      (λ e. rw e (omega arith))
+      (either (servesAt rows n q))
+
+  pub reading-top : ((k : ℕ) → byteAt rows k < 256) → (q : ℕ) →
+      (readRows rows n q .velocity ≤ 65535) × (readRows rows n q .slope ≤ 65535)
+  unfolding readRows velocityAt slopeAt
+  reading-top byte q = (
+    top (velocityAt rows) q 65535 (λ k h. next k h .velocity) (omega (arith, be-lt 2 rows (8 * (n - 1) + 4) byte)),
+    top (slopeAt rows) q 65535 (λ k h. next k h .slope) (omega (arith, be-lt 2 rows (8 * (n - 1) + 6) byte)),
+  )
+    where
+      next : (k : ℕ) → k < n - 1 → Rises rows k (k + 1)
+      next k h = rises rows n (r .rules) k (k + 1) (omega arith) (omega arith)

@@ -1,0 +1,55 @@
+-- `catalogue::reading::read_rows` meets its contract, by what the search ensures of the row.
+-- Assumes nothing.
+use mathlib.Core.Path.{sym}
+use native.Mathlib.Omega.{arith}
+use borrow.Author.Needs.{needs}
+use Rattle.catalogue.proofs.Readings.{Around, reading-over, above-first, above-around, above-line}
+use Rattle.catalogue.proofs.reading.read_rows.Statement.{statement}
+use Rattle.catalogue.proofs.reading.read_rows.Tie as tie
+
+returns : tie.Need-returns
+returns c = sym (reading-over (c .before .before .before .args .rows .now) _ _ (omega arith))
+
+returns-2 : tie.Need-returns-2
+returns-2 c =
+    rw (c .before .row-velocity .ensures, c .row-slope .ensures)
+    (sym (above-first (c .before .before .before .before .before .before .before .pre) (c .before .before .before .row-above .ensures)
+    (c .before .before .if2 .taken)))
+
+around : (c : tie.Else2) →
+    Around
+    (c .before .before .before .before .before .args .rows .now)
+    (c .before .before .before .before .before .args .q)
+    (c .before .row-above .result)
+around c = above-around (c .before .before .before .before .before .pre) (c .before .row-above .ensures) (omega arith)
+
+line-at-requires : tie.Need-line-at-requires
+line-at-requires c κs = let a = around (c .before .before .before .before) in omega arith
+
+line-at-requires-2 : tie.Need-line-at-requires-2
+line-at-requires-2 c κs = let a = around (c .before .before .before .before .before .before .before) in omega arith
+
+returns-3 : tie.Need-returns-3
+returns-3 c =
+    let e = c .before .before .before in
+    let w = e .before .before .before in
+    rw (
+      e .line-at .ensures,
+      c .line-at2 .ensures,
+      w .before .row-flow2 .ensures,
+      w .row-flow3 .ensures,
+      e .before .before .row-velocity2 .ensures,
+      e .before .row-velocity3 .ensures,
+      c .before .before .row-slope2 .ensures,
+      c .before .row-slope3 .ensures,
+    )
+    (sym (above-line (w .before .before .before .before .before .before .before .pre) (w .before .before .before .row-above .ensures) (omega arith)))
+
+pub read-rows-spec : {M : Type 1} → statement M
+read-rows-spec =
+    tie.close
+    (tie.spec (λ c. search needs) (λ c κs. search needs) returns (λ c κs. search needs) (λ c κs. search needs)
+    (λ c. search needs) (λ c κs. search needs) (λ c. search needs) returns-2 (λ c. search needs) (λ c κs. search needs)
+    (λ c κs. search needs) (λ c. search needs) (λ c κs. search needs) (λ c. search needs) (λ c κs. search needs)
+    (λ c. search needs) line-at-requires (λ c. search needs) (λ c κs. search needs) (λ c. search needs)
+    (λ c κs. search needs) (λ c. search needs) line-at-requires-2 returns-3)

@@ -1,0 +1,59 @@
+-- `catalogue::reading::read_size` meets its contract: what is handed on is the size's part.
+-- Assumes nothing.
+use mathlib.Core.Path.{_∙_}
+use Prim.Native.Nat.{_+_, _*_, _≤_}
+use native.Mathlib.Omega.{arith}
+use borrow.Author.Needs.{needs}
+use lib.ListN.{length}
+use Rattle.catalogue.specs.Layout.{rowsOf}
+use Rattle.catalogue.specs.Shape.{Sized}
+use Rattle.catalogue.proofs.Places.{sized-room, part-handed}
+use Rattle.catalogue.proofs.Listed.{listed-sized, listed-rows}
+use Rattle.catalogue.proofs.reading.read_size.Statement.{statement}
+use Rattle.catalogue.proofs.reading.read_size.Tie as tie
+
+sized : (c : tie.Start) → Sized (c .args .cat .now) (c .args .s)
+sized c = listed-sized (c .pre .0) (c .args .s) (c .pre .1) (c .pre .2)
+
+shared-slice-read-n : tie.Need-shared-slice-read-n
+shared-slice-read-n c = let z = sized (c .before .before) in omega arith
+
+cast-n : tie.Need-cast-n
+cast-n c = let z = sized (c .before .before) in omega arith
+
+size-from-requires : tie.Need-size-from-requires
+size-from-requires c κs = sized (c .before .before)
+
+room : (c : tie.After-size-from) →
+    c .size-from .result + 4 + 8 * rowsOf (c .before .before .before .args .cat .now) ≤ length (c .before .before .before .args .cat .now)
+room c = rw (c .size-from .ensures) (omega (arith, sized-room (sized (c .before .before .before))))
+
+add-a : tie.Need-add-a
+add-a c = omega (arith, room c)
+
+mul-e : tie.Need-mul-e
+mul-e c = omega (arith, room c)
+
+add-e : tie.Need-add-e
+add-e c = omega (arith, room c)
+
+part-read-rows-end : tie.Need-part-read-rows-end
+part-read-rows-end c = omega (arith, room c)
+
+read-rows-requires : tie.Need-read-rows-requires
+read-rows-requires c κs =
+    let b = c .before .before .before .before in
+    rw (part-handed (sized b) (c .before .size-from .result) (c .before .size-from .ensures))
+    (listed-rows (b .pre .0) (b .args .s) (b .pre .1) (b .pre .2))
+
+returns : tie.Need-returns
+returns c =
+    let b = c .before .before .before .before .before in
+    c .read-rows .ensures ∙
+    rw (part-handed (sized b) (c .before .before .size-from .result) (c .before .before .size-from .ensures))
+
+pub read-size-spec : {M : Type 1} → statement M
+read-size-spec =
+    tie.close
+    (tie.spec shared-slice-read-n cast-n size-from-requires add-a mul-e add-e (λ c. search needs) (λ c. search needs)
+    part-read-rows-end read-rows-requires returns)

@@ -1,0 +1,10 @@
+// The catalogue of sizes: its acceptance, and a size read at a flow.
+mod accept;
+mod layout;
+mod reading;
+
+pub use accept::catalogue_refusal;
+pub use layout::bore;
+pub use layout::price;
+pub use reading::Reading;
+pub use reading::read_size;
