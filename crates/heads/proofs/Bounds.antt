@@ -1,0 +1,60 @@
+-- What a job that keeps 3 and 5 and losses of a table say of the sizes: path losses, reaches, the greatest of them, required head and dictating section.
+-- Assumes nothing.
+use mathlib.Core.Path.{_≡_}
+use mathlib.Core.List.{List}
+use Prim.Native.Nat.{ℕ, _+_, _≤_, _<_}
+use native.Mathlib.Nat.{le-trans}
+use native.Mathlib.Omega.{arith}
+use lib.IntN.{pos}
+use lib.ListN.{getD}
+use lib.Signed.{mag}
+use Rattle.basis.specs.Slots.{slots}
+use Rattle.fields.specs.declared.Job.{Job}
+use Rattle.fields.specs.Fields.{countOf, sectionOf}
+use Rattle.tree.specs.Tree.{Rooted}
+use Rattle.rules.proofs.HeadBounds.{HeadIn, head-in}
+use Rattle.rules.proofs.SectionBounds.{SectionIn}
+use Rattle.rules.proofs.Kept.{rooted-of, sections-in}
+use Rattle.rules.proofs.Elevation.{elevation-small}
+use Rattle.heads.specs.Heads.{pathOf, reachOf, greatestTo, requiredOf, dictatingOf}
+use Rattle.heads.specs.Shape.{Given}
+use Rattle.heads.proofs.Signed.{add-mag}
+use Rattle.heads.proofs.Loss.{path-top, path-held}
+use Rattle.heads.proofs.Lowest.{lowest-top}
+use Rattle.heads.proofs.Maximum.{Reached, greatest-reached}
+
+module _ {job : Job} {losses : List ℕ} (g : Given job losses) where
+  pub given-head : HeadIn (job .head)
+  given-head = head-in (job .head) (g .head)
+
+  pub given-rooted : Rooted job
+  given-rooted = rooted-of job (omega (arith, given-head .sections .high)) (g .sections)
+
+  pub path-small : (i : ℕ) → i ≤ countOf job → pathOf job (λ i. getD losses i 0) i ≤ 268365825
+  path-small i k = omega (arith, path-top job given-rooted (λ i. getD losses i 0) (g .top) i k, given-rooted .few)
+
+  pub held-small : (paths : List ℕ) → paths ≡ slots 64 1 (countOf job + 1) 0 (pathOf job (λ i. getD losses i 0)) →
+      (i : ℕ) → i ≤ countOf job → getD paths i 0 ≤ 268365825
+  held-small paths e i k =
+      rw (e, path-held job (λ i. getD losses i 0) (countOf job + 1) i (omega arith) (omega (arith, given-rooted .few))) (path-small i k)
+
+  pub reach-small : (i : ℕ) → 0 < i → i ≤ countOf job → mag (reachOf job (λ i. getD losses i 0) i) < 268372827
+  unfolding reachOf
+  reach-small i h k =
+      let s : SectionIn i (sectionOf job i) = sections-in job (g .sections) i h k in
+      add-mag (sectionOf job i .elevation) (pos (sectionOf job i .free + pathOf job (λ i. getD losses i 0) i)) 268372827
+      (omega (arith, elevation-small (sectionOf job i .elevation) (s .elevation), s .free, path-small i k))
+
+  pub greatest-small : mag (greatestTo (countOf job) (reachOf job (λ i. getD losses i 0))) < 268372827
+  greatest-small =
+      let r : Reached (countOf job) (reachOf job (λ i. getD losses i 0)) = greatest-reached _ (countOf job) (given-head .sections .low) in
+      rw (r .reached) (reach-small (r .place) (r .low) (r .high))
+
+  pub required-small : mag (requiredOf job (λ i. getD losses i 0)) < 268373829
+  unfolding requiredOf
+  required-small =
+      add-mag (pos (job .head .meter)) (greatestTo (countOf job) (reachOf job (λ i. getD losses i 0))) 268373829 (omega (arith, given-head .meter, greatest-small))
+
+  pub dictating-small : (loss : ℕ → ℕ) → dictatingOf job loss ≤ 63
+  unfolding dictatingOf
+  dictating-small loss = le-trans (lowest-top (countOf job) _) (given-head .sections .high)

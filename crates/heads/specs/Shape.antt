@@ -1,0 +1,16 @@
+-- What the contracts of the heads ask: a job that keeps 3 and 5, and losses that a catalogue can give.
+-- 65,535 mm per metre over 5,000 decimetres with k 3 is 4,259,775 cm.
+-- Assumes nothing.
+use mathlib.Core.Path.{_≡_}
+use mathlib.Core.Bool.{true}
+use Prim.Native.Nat.{ℕ, _≤_, _<_}
+use mathlib.Core.List.{List}
+use lib.ListN.{getD}
+use Rattle.fields.specs.declared.Job.{Job}
+use Rattle.fields.specs.Fields.{countOf}
+use Rattle.rules.specs.Rules.{headOk, sectionsOk}
+
+pub record Given (job : Job) (losses : List ℕ) : Type 0 where
+  pub head : headOk (job .head) ≡ true
+  pub sections : sectionsOk job ≡ true
+  pub top : (i : ℕ) → 0 < i → i ≤ countOf job → getD losses i 0 ≤ 4259775

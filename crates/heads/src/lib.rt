@@ -1,0 +1,104 @@
+// Path losses, required head, pump head and dictating section, over losses whoever worked them out.
+use fields::Job;
+use fields::Section;
+ghost use mathlib.Core.Path.{_≡_};
+ghost use Prim.Native.Nat.{_+_, _≤_};
+ghost use lib.ListN.{getD};
+ghost use lib.IntN.{pos, _+ℤ_};
+ghost use Rattle.basis.specs.Slots.{slots};
+ghost use Rattle.fields.specs.Fields.{countOf};
+ghost use Rattle.heads.specs.Signed.{bits32Of};
+ghost use Rattle.heads.specs.Heads.{pathOf, reachOf, greatestTo, requiredOf, pumpOf, dictatingOf};
+ghost use Rattle.heads.specs.Shape.{Given};
+
+// Required head in cm, pump head in cm, and the dictating section.
+pub struct Heads {
+    pub required: i32,
+    pub pump: u32,
+    pub dictating: usize,
+}
+
+// The greatest reach of the sections looked at, and the lowest of them that has it.
+struct Greatest {
+    reach: i32,
+    section: usize,
+}
+
+// The path loss of each section, at the section's place; a parent comes before its sections.
+pub fn paths(job: Job, losses: [u32; 64]) -> [u32; 64]
+    requires { ⌜ Given job losses ⌝ }
+    ensures { λ r. ⌜ r ≡ slots 64 1 (countOf job + 1) 0 (pathOf job (λ i. getD losses i 0)) ⌝ }
+{
+    let count = job.head.sections as usize;
+    let mut paths = [0u32; 64];
+    let mut i: usize = 1;
+    while i <= count {
+        let p = job.sections[i].parent as usize;
+        paths[i] = losses[i] + paths[p];
+        i += 1;
+    }
+    paths
+}
+
+// Elevation + free head + path loss at the end of a section.
+fn reach(s: Section, path: u32) -> i32
+    requires { ⌜ path ≤ 268365825 ⌝ }
+    ensures { λ r. ⌜ r ≡ (s .elevation) +ℤ pos (s .free + path) ⌝ }
+{
+    (s.elevation as i32) + ((s.free as u32 + path) as i32)
+}
+
+// The greatest reach over all sections, and the lowest section that has it.
+fn dictating(job: Job, losses: [u32; 64]) -> Greatest
+    requires { ⌜ Given job losses ⌝ }
+    ensures { λ r. ⌜ (r .reach ≡ greatestTo (countOf job) (reachOf job (λ i. getD losses i 0))) × (r .section ≡ dictatingOf job (λ i. getD losses i 0)) ⌝ }
+{
+    let count = job.head.sections as usize;
+    let paths = paths(job, losses);
+    let mut best = Greatest {
+        reach: reach(job.sections[1], paths[1]),
+        section: 1,
+    };
+    let mut i: usize = 2;
+    while i <= count {
+        let r = reach(job.sections[i], paths[i]);
+        if best.reach < r {
+            best = Greatest {
+                reach: r,
+                section: i,
+            };
+        }
+        i += 1;
+    }
+    best
+}
+
+// Required head, pump head and dictating section.
+pub fn heads_of(job: Job, losses: [u32; 64]) -> Heads
+    requires { ⌜ Given job losses ⌝ }
+    ensures { λ r. ⌜ (r .required ≡ requiredOf job (λ i. getD losses i 0)) × (r .pump ≡ pumpOf job (λ i. getD losses i 0)) × (r .dictating ≡ dictatingOf job (λ i. getD losses i 0)) ⌝ }
+{
+    let best = dictating(job, losses);
+    let required = (job.head.meter as i32) + best.reach;
+    let over = required - (job.head.guaranteed as i32);
+    let mut pump: u32 = 0;
+    if 0 < over {
+        pump = over as u32;
+    }
+    Heads {
+        required,
+        pump,
+        dictating: best.section,
+    }
+}
+
+// The 32 bits of a signed number.
+pub fn bits32(z: i32) -> u32
+    ensures { λ r. ⌜ r ≡ bits32Of z ⌝ }
+{
+    if z < 0 {
+        ((z as i64) + 4294967296) as u32
+    } else {
+        z as u32
+    }
+}
