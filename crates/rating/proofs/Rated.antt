@@ -1,0 +1,47 @@
+-- The result of a rating from the velocities and losses at the sections' places.
+-- Assumes nothing.
+use mathlib.Core.Path.{_≡_}
+use mathlib.Core.List.{List, _++_}
+use Prim.Native.Nat.{ℕ, _+_, _≤_, _<_}
+use native.Mathlib.Omega.{arith}
+use lib.ListN.{getD}
+use Rattle.basis.specs.Range.{concatTo}
+use Rattle.basis.proofs.Concat.{concat-ext}
+use Rattle.basis.proofs.Slots.{slots-in}
+use Rattle.wire.specs.Wire.{bytesOf}
+use Rattle.fields.specs.declared.Job.{Job}
+use Rattle.fields.specs.Fields.{countOf}
+use Rattle.tree.specs.Tree.{Rooted}
+use Rattle.heads.proofs.Same.{required-same, pump-same, dictating-same}
+use Rattle.rating.specs.Losses.{sizeOf, readingOf, lossesOf}
+use Rattle.rating.specs.Calls.{headsBytes, ratedBytes, rateBytes}
+use Rattle.rating.specs.Shape.{RatedAt}
+
+module _ (job : Job) (cat list : List ℕ) {v w : List ℕ} (rated : RatedAt job cat list v w) (few : countOf job ≤ 63) where
+  pub velocity-at : (i : ℕ) → 0 < i → i ≤ countOf job → getD v i 0 ≡ readingOf job cat (sizeOf list i) i .velocity
+  velocity-at i a h =
+      rw (rated .velocities)
+      (slots-in 64 1 (countOf job + 1) 0 (λ j. readingOf job cat (sizeOf list j) j .velocity) i 0 (omega arith) (omega arith) (omega arith))
+
+  pub loss-at : (i : ℕ) → 0 < i → i ≤ countOf job → getD w i 0 ≡ lossesOf job cat list i
+  loss-at i a h =
+      rw (rated .losses) (slots-in 64 1 (countOf job + 1) 0 (lossesOf job cat list) i 0 (omega arith) (omega arith) (omega arith))
+
+  pub velocity-thin : (i : ℕ) → 0 < i → i ≤ countOf job → getD v i 0 ≤ 65535
+  velocity-thin i a h = rw (velocity-at i a h) (rated .small i a (omega arith) .velocity)
+
+  pub loss-small : (i : ℕ) → 0 < i → i ≤ countOf job → getD w i 0 ≤ 4259775
+  loss-small i a h = rw (loss-at i a h) (rated .small i a (omega arith) .loss)
+
+  pub result-is : Rooted job → 0 < countOf job →
+      headsBytes job (λ i. getD w i 0) ++ concatTo (countOf job) (λ i. bytesOf 2 (getD v i 0) ++ bytesOf 4 (getD w i 0)) ≡ rateBytes job cat list
+  unfolding rateBytes headsBytes ratedBytes
+  result-is r some =
+      rw (
+        required-same job r some (λ i. getD w i 0) (lossesOf job cat list) loss-at,
+        pump-same job r some (λ i. getD w i 0) (lossesOf job cat list) loss-at,
+        dictating-same job r some (λ i. getD w i 0) (lossesOf job cat list) loss-at,
+        concat-ext (countOf job) (λ i. bytesOf 2 (getD v i 0) ++ bytesOf 4 (getD w i 0))
+            (λ i. bytesOf 2 (readingOf job cat (sizeOf list i) i .velocity) ++ bytesOf 4 (lossesOf job cat list i))
+            (λ i a h. rw (velocity-at i a h, loss-at i a h)),
+      )

@@ -1,0 +1,29 @@
+-- What the contracts inside rating say.
+-- Assumes nothing.
+use mathlib.Core.Path.{_≡_}
+use mathlib.Core.Bool.{true}
+use Prim.Native.Nat.{ℕ, _+_, _≤_, _<_}
+use mathlib.Core.List.{List}
+use Rattle.basis.specs.Slots.{slots}
+use Rattle.fields.specs.declared.Job.{Job}
+use Rattle.fields.specs.Fields.{countOf}
+use Rattle.demand.specs.Demand.{Accepted}
+use Rattle.catalogue.specs.Shape.{Listed}
+use Rattle.rating.specs.Losses.{sizeOf, listOk, readingOf, lossesOf}
+
+-- an accepted job, an accepted catalogue and a list that 12 lets pass
+pub record Rateable (j : Job) (c l : List ℕ) : Type 0 where
+  pub job : Accepted j
+  pub cat : Listed c
+  pub list : listOk j c l ≡ true
+
+-- a velocity and a loss that fit their bytes
+pub record Fitting (job : Job) (cat list : List ℕ) (i : ℕ) : Type 0 where
+  pub velocity : readingOf job cat (sizeOf list i) i .velocity ≤ 65535
+  pub loss : lossesOf job cat list i ≤ 4259775
+
+-- the velocities and losses at the sections' places, where no section is over
+pub record RatedAt (job : Job) (cat list v w : List ℕ) : Type 0 where
+  pub velocities : v ≡ slots 64 1 (countOf job + 1) 0 (λ i. readingOf job cat (sizeOf list i) i .velocity)
+  pub losses : w ≡ slots 64 1 (countOf job + 1) 0 (lossesOf job cat list)
+  pub small : (i : ℕ) → 0 < i → i < countOf job + 1 → Fitting job cat list i

@@ -1,0 +1,6 @@
+// Rating: what a list of sizes gives an accepted job with an accepted catalogue.
+mod call;
+mod result;
+mod sections;
+
+pub use call::rate;
