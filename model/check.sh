@@ -10,3 +10,4 @@ cmp "$fresh/stdin" crates/vectors/stdin
 cmp "$fresh/stdout" crates/vectors/stdout
 python3 -B model/test_job.py
 python3 -B model/test_demand.py
+python3 -B model/test_rating.py

@@ -1,15 +1,15 @@
 """What the vectors of all calls have in common."""
 
-from typing import Callable, Iterable, NamedTuple, Optional
+from typing import Callable, Iterable, NamedTuple, Optional, Union
 
 
 class Vector(NamedTuple):
     name: str
-    data: bytes
+    data: Union[bytes, tuple]  # the bytes of a line, or of each of its parts
     expect: int
     holds: Optional[set] = None
     letter: str = "r"
-    lines: Optional[list] = None  # by hand, the last lines of the answer
+    lines: Optional[list] = None  # by hand, lines of the answer that follow one another
 
 
 class Call(NamedTuple):
@@ -17,6 +17,11 @@ class Call(NamedTuple):
     lines: Callable
     conditions: Callable
     numbers: Iterable  # of its refusals
+
+
+def digits(data):
+    """The hex digits of a line; parts are separated by single spaces."""
+    return " ".join(part.hex() for part in data) if isinstance(data, tuple) else data.hex()
 
 
 def room_of(raw):
@@ -41,3 +46,9 @@ def words(name, values):
 
 def listed(numbers):
     return " and ".join(str(number) for number in sorted(numbers))
+
+
+def first(numbers):
+    """The number that is given back where these conditions hold: the least,
+    but 14 comes before 13; 0 where none holds."""
+    return min(numbers, key=lambda number: (number == 13, number), default=0)

@@ -1,4 +1,4 @@
-"""Test vectors for job records and design flows.
+"""Test vectors for job records, design flows and ratings.
 
     python3 model/vectors.py STDIN STDOUT
 
@@ -16,6 +16,8 @@ Input, in lines:
     c HEX    a record to copy: room (2 bytes), then the record's bytes
     a HEX    an m (4 bytes) whose coefficient is wanted
     f HEX    a job whose flows are wanted: room (2 bytes), then the record
+    p HEX HEX HEX HEX   a job to rate: room (2 bytes), the record, the
+             catalogue, the size list; each but the room may be empty
 A room is at most 1,000. A line has at most 2,048 bytes; the program reads its
 input in chunks, so the number of lines has no limit that vectors could reach.
 Output:
@@ -29,12 +31,15 @@ Output:
     alpha N  the coefficient in millionths
     flow N HEX    the buffer as for w; when N is 0 there follow `house hour day
              mean` and `flows` with the flow of each section
+    rate N HEX    the same for p; when N is 0 there follow `heads required pump
+             dictating` and for each section `rated i velocity loss`
 
 Every vector has its number written by hand, those of `a` and `f` in
-flow_vectors.py. It is compared with the model (job.py, demand.py) and with the
-least of all conditions that hold (conditions.py). Where `holds` is given,
-these are all the conditions that hold; where `lines` is given, the model's
-answer ends in them.
+flow_vectors.py and those of `p` in rating_vectors.py. It is compared with the
+model (job.py, demand.py, catalogue.py, rating.py) and with the first of all
+conditions that hold (conditions.py, rating_conditions.py). Where `holds` is
+given, these are all the conditions that hold; where `lines` is given, they
+stand in the model's answer one after another.
 """
 
 import collections
@@ -44,10 +49,11 @@ import sys
 import conditions
 import flow_vectors
 import job
+import rating_vectors
 from edit import OWN, fields, head, house, people, section, stating
 from houses import (END, INNER, INNER_AND_END, TWO_ENDS, broken, chain, comb, greedy,
                     halving, star, twelve_kinds, under)
-from vector import Call, Vector, buffer_line, listed, room_of, with_room, words
+from vector import Call, Vector, buffer_line, digits, first, listed, room_of, with_room, words
 
 
 def writing(name, data, expect, holds=None):
@@ -480,7 +486,7 @@ GROUPS = [
     ("writer, section counts", writer_counts), ("writer, order", writing_order),
     ("writer, places", writer_places), ("writer, values", writer_values),
     ("writer, residents", writer_residents), ("copying", copies),
-] + flow_vectors.GROUPS
+] + flow_vectors.GROUPS + rating_vectors.GROUPS
 
 # The answers to the own case and to three of its copies, by hand.
 OWN_ANSWER = [
@@ -544,6 +550,7 @@ CALLS = {
     "w": Call("write", write_lines, conditions.of_fields, (3, 5, 6, 7, 14)),
     "c": Call("copy", copy_lines, conditions.of_copy, (1, 2, 3, 4, 5, 6, 7, 14)),
     **flow_vectors.CALLS,
+    **rating_vectors.CALLS,
 }
 
 
@@ -562,17 +569,18 @@ def conditions_of(vector):
 
 
 def check_number(vector):
-    """The number by hand is the model's and the least condition's."""
+    """The number by hand is the model's and that of the conditions."""
     found = conditions_of(vector)
     assert model_number(vector) == vector.expect, (vector.name, model_number(vector))
-    assert min(found, default=0) == vector.expect, (vector.name, found)
+    assert first(found) == vector.expect, (vector.name, found)
     assert vector.holds is None or vector.holds == found, (vector.name, found)
 
 
 def check_lines(vector):
-    """The lines by hand are the last of the model's."""
+    """The lines by hand stand in the model's answer, one after another."""
     by_hand, lines = vector.lines or [], answer(vector)
-    assert lines[len(lines) - len(by_hand):] == by_hand, (vector.name, lines)
+    runs = [lines[at:at + len(by_hand)] for at in range(len(lines))]
+    assert by_hand in runs, (vector.name, lines)
 
 
 def check_slots(vector):
@@ -586,6 +594,13 @@ def check_room(vector):
     """The protocol's bound of the room."""
     if vector.letter in ("w", "c", "f"):
         assert len(vector.data) >= 2 and room_of(vector.data) <= 1000, vector.name
+    if vector.letter == "p":
+        assert len(vector.data[0]) == 2 and room_of(vector.data[0]) <= 1000, vector.name
+
+
+def check_length(vector):
+    """The program takes lines of 2,048 bytes; those of `p` keep well under."""
+    assert len(input_lines(vector)[1]) < 2000 or vector.letter != "p", vector.name
 
 
 def check_alone(vectors):
@@ -609,6 +624,7 @@ def check_all(vectors):
         check_lines(vector)
         check_slots(vector)
         check_room(vector)
+        check_length(vector)
     check_alone(vectors)
     check_answers()
 
@@ -616,7 +632,7 @@ def check_all(vectors):
 # The two files
 
 def input_lines(vector):
-    return [f"# {vector.name}", f"{vector.letter} {vector.data.hex()}"]
+    return [f"# {vector.name}", f"{vector.letter} {digits(vector.data)}"]
 
 
 def output_lines(vector):

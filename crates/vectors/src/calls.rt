@@ -72,6 +72,19 @@ pub fn flow(raw: &[u8]) -> bool {
     true
 }
 
+// A job is rated into as many bytes as its line says.
+pub fn rate(size: &[u8], record: &[u8], catalogue: &[u8], list: &[u8]) -> bool {
+    if size.len() != 2 {
+        return false;
+    }
+    let room = room_of(size);
+    if 1000 < room {
+        return false;
+    }
+    rated(record, catalogue, list, room);
+    true
+}
+
 fn room_of(raw: &[u8]) -> usize
     requires { ⌜ 2 ≤ length (now raw) ⌝ }
 {
@@ -144,6 +157,24 @@ fn flow_into(record: &[u8], buffer: &mut [u8]) {
     }
 }
 
+fn rated(record: &[u8], catalogue: &[u8], list: &[u8], room: usize)
+    requires { ⌜ room ≤ 1024 ⌝ }
+{
+    let mut buffer = filled();
+    rate_into(record, catalogue, list, &mut buffer[0..room]);
+}
+
+fn rate_into(record: &[u8], catalogue: &[u8], list: &[u8], buffer: &mut [u8]) {
+    let answer = rating::rate(record, catalogue, list, buffer);
+    buffer_line(b"rate", answer, buffer);
+    match answer {
+        Answer::Done => {
+            ratings(buffer, sections_of(record));
+        }
+        _ => {}
+    }
+}
+
 // The section count of a record, or 0 where it has none.
 fn sections_of(record: &[u8]) -> u8 {
     if record.len() < 7 {
@@ -158,6 +189,15 @@ fn figures(result: &[u8], sections: u8) {
     if end <= result.len() {
         report::numbers(b"house", &result[0..12]);
         report::numbers(b"flows", &result[12..end]);
+    }
+}
+
+// The same of a rating result.
+fn ratings(result: &[u8], sections: u8) {
+    let end = 9 + 6 * (sections as usize);
+    if end <= result.len() {
+        report::heads(result);
+        report::rated(&result[9..end]);
     }
 }
 

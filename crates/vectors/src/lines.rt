@@ -2,6 +2,7 @@
 // inside it. `used` counts the line's bytes so far; 2,049 stands for any number that the buffer has no room for.
 use crate::calls;
 use crate::hex;
+use crate::parts;
 use crate::print;
 use libc::STDIN_FILENO;
 
@@ -67,26 +68,30 @@ fn answer(line: &[u8]) {
     if line[1] != b' ' {
         return unknown();
     }
-    vector(line[0], &line[2..]);
+    let known = match line[0] {
+        b'p' => parts::rate(&line[2..]),
+        _ => vector(line[0], &line[2..]),
+    };
+    if !known {
+        unknown();
+    }
 }
 
 // What the line's letter asks of the bytes that its digits stand for, which are fewer than 1,024.
-fn vector(letter: u8, digits: &[u8]) {
+// False where the line is none of these.
+fn vector(letter: u8, digits: &[u8]) -> bool {
     if !hex::whole(digits) {
-        return unknown();
+        return false;
     }
     let mut bytes = [0u8; 1024];
     let n = hex::decode(digits, &mut bytes);
-    let known = match letter {
+    match letter {
         b'r' => calls::read(&bytes[0..n]),
         b'w' => calls::write(&bytes[0..n]),
         b'c' => calls::copy(&bytes[0..n]),
         b'a' => calls::alpha(&bytes[0..n]),
         b'f' => calls::flow(&bytes[0..n]),
         _ => false,
-    };
-    if !known {
-        unknown();
     }
 }
 

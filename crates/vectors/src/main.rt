@@ -1,9 +1,10 @@
-// Feeds the test vectors of standard input to the calls that read, write and copy a job and find its flows, and prints
-// what they answer.
+// Feeds the test vectors of standard input to the calls that read, write and copy a job, find its flows and rate it, and
+// prints what they answer.
 // model/vectors.py says what stands in the lines of the input and the output.
 mod calls;
 mod hex;
 mod lines;
+mod parts;
 mod print;
 mod report;
 

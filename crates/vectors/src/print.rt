@@ -45,6 +45,16 @@ pub fn signed(out: &mut [u8; 4096], at: usize, z: i16) -> usize {
     digits(out, at, 65536 - bits)
 }
 
+// The same from 32 bits.
+pub fn signed32(out: &mut [u8; 4096], at: usize, n: u32) -> usize {
+    let bits = n as u64;
+    if bits < 2147483648 {
+        return number(out, at, bits);
+    }
+    let at = text(out, at, b" -");
+    digits(out, at, 4294967296 - bits)
+}
+
 fn digit(x: u8) -> u8
     requires { ⌜ x < 16 ⌝ }
 {

@@ -3,6 +3,8 @@ use crate::print;
 use fields::Head;
 use fields::Job;
 use fields::Section;
+ghost use Prim.Native.Nat.{_≤_};
+ghost use lib.ListN.{length};
 
 fn wide8(x: u8) -> u64 {
     x as u64
@@ -33,6 +35,40 @@ pub fn numbers(name: &[u8], bytes: &[u8]) {
         at = print::number(&mut out, at, wide32(wire::be32(bytes, 4 * i)));
         i += 1;
     }
+    print::end(&mut out, at);
+}
+
+// The heads that a rating result begins with.
+pub fn heads(result: &[u8])
+    requires { ⌜ 9 ≤ length (now result) ⌝ }
+{
+    let mut out = [0u8; 4096];
+    let at = print::text(&mut out, 0, b"heads");
+    let at = print::signed32(&mut out, at, wire::be32(result, 0));
+    let at = print::number(&mut out, at, wide32(wire::be32(result, 4)));
+    let at = print::number(&mut out, at, wide8(result[8]));
+    print::end(&mut out, at);
+}
+
+// The rest of a rating result: velocity and loss of each section, in six bytes.
+pub fn rated(bytes: &[u8]) {
+    let mut i: usize = 0;
+    while i < bytes.len() / 6 {
+        rated_section(
+            i + 1,
+            wire::be16(bytes, 6 * i),
+            wire::be32(bytes, 6 * i + 2),
+        );
+        i += 1;
+    }
+}
+
+fn rated_section(i: usize, velocity: u16, loss: u32) {
+    let mut out = [0u8; 4096];
+    let at = print::text(&mut out, 0, b"rated");
+    let at = print::number(&mut out, at, i as u64);
+    let at = print::number(&mut out, at, wide16(velocity));
+    let at = print::number(&mut out, at, wide32(loss));
     print::end(&mut out, at);
 }
 

@@ -1,0 +1,446 @@
+"""Vectors for rating; vectors.py tells their lines."""
+
+import itertools
+import random
+import struct
+
+import rating
+import rating_conditions
+from edit import OWN, head, house, put, section
+from flow_vectors import end, flow_broken, inner, random_house
+from houses import TWO_ENDS, greedy
+from vector import Call, Vector, buffer_line, listed, room_of, words
+
+
+def catalogue(*sizes):
+    """The record of sizes given as (bore, price, row, row, ...); a row is
+    (flow, velocity, slope)."""
+    data = struct.pack(">BBB", 1, len(sizes), len(sizes[0]) - 2)
+    for bore, price, *rows in sizes:
+        data += struct.pack(">HH", bore, price)
+        data += b"".join(struct.pack(">IHH", *row) for row in rows)
+    return (4 + len(data)).to_bytes(4, "big") + data
+
+
+# Document 01's own two sizes.
+SIZE_1 = (40, 900, (1000, 800, 40), (3000, 2400, 300))
+SIZE_2 = (50, 1300, (1000, 500, 12), (3000, 1500, 90))
+SIZES = catalogue(SIZE_1, SIZE_2)
+
+# Three sizes that read the same at every flow: over 100 decimetres, with k 3,
+# they lose 13, 26 and 52 cm.
+LEVEL = catalogue(*[(bore, 100, (1, velocity, slope), (1_000_000, velocity, slope))
+                    for bore, velocity, slope in ((20, 900, 10), (30, 600, 20), (40, 300, 40))])
+
+
+def exact_room(record):
+    """The room of the result: 9 + 6 x S."""
+    return 9 + 6 * (record + bytes(7))[6]
+
+
+def rating_of(name, expect, record=OWN, sizes=SIZES, numbers=(2,), room=None, holds=None,
+              lines=None):
+    """A vector for rating; the room is that of the result unless given."""
+    room = exact_room(record) if room is None else room
+    parts = (room.to_bytes(2, "big"), record, sizes, bytes(numbers))
+    return Vector(name, parts, expect, holds, "p", lines)
+
+
+def refused(name, number, **parts):
+    """A vector that one condition refuses."""
+    return rating_of(name, number, holds={number}, **parts)
+
+
+def rated(name, heads, *sections, **parts):
+    """A vector that is rated, with its heads and, of each section, velocity
+    and loss; no sections where only the heads are stated."""
+    lines = [words("heads", heads)] + [
+        words("rated", (i,) + each) for i, each in enumerate(sections, start=1)]
+    return rating_of(name, 0, holds=set(), lines=lines, **parts)
+
+
+# The own case
+
+OWN_HEADS = (921, 421, 1)
+OWN_SECTION = (1026, 71)
+
+
+def own_case():
+    return [
+        rated("document 01's own case, size 2", OWN_HEADS, OWN_SECTION),
+        refused("own case, size 1: velocity 1642", 13, numbers=[1]),
+        rating_of("own case, size 1, room 14", 14, numbers=[1], room=14, holds={13, 14}),
+        rated("own case, size 1, limit 1642", (1081, 581, 1), (1642, 231), numbers=[1],
+              record=head(OWN, limit=1642)),
+        rated("own case, k 2", (915, 415, 1), (1026, 65), record=head(OWN, k=2)),
+        rated("own case, H 0: it plays no part", OWN_HEADS, OWN_SECTION, record=head(OWN, H=0)),
+    ]
+
+
+def rooms():
+    return [rated(f"own case, room {room}", OWN_HEADS, OWN_SECTION, room=room)
+            for room in (15, 16, 1000)] + [
+        refused(f"own case, room {room}", 14, room=room) for room in (14, 9, 8, 1, 0)] + [
+        rated("three sections, room 27", (2383, 1883, 3), record=greedy(), sizes=GREEDY_SIZES,
+              numbers=[1, 2, 2], room=27),
+        refused("three sections, room 26", 14, record=greedy(), sizes=GREEDY_SIZES,
+                numbers=[1, 2, 2], room=26),
+    ]
+
+
+# 12
+
+def lists():
+    return [refused(f"list {numbers}", 12, numbers=numbers)
+            for numbers in ([], [0], [3], [255], [2, 2], [2, 0], [1, 2, 1])] + [
+        refused(f"two sections, list {numbers}", 12, record=TWO_ENDS, numbers=numbers)
+        for numbers in ([2], [2, 0], [0, 2], [2, 3], [2, 2, 2])]
+
+
+# 10 and 11
+
+TWELVE = [(bore, bore, (1000, 500, 12), (3000, 1500, 90)) for bore in range(1, 13)]
+
+
+def many_rows(count):
+    return (50, 1300) + tuple((i, 1000, 54) for i in range(2000, 2000 + count))
+
+
+def catalogue_shapes():
+    one = catalogue(SIZE_2)
+    return [refused(name, 10, sizes=sizes, numbers=[1]) for name, sizes in [
+        ("catalogue version 2", put(SIZES, 4, 1, 2)),
+        ("catalogue version 0", put(SIZES, 4, 1, 0)),
+        ("length field 46", put(SIZES, 0, 4, 46)),
+        ("length field 48", put(SIZES, 0, 4, 48)),
+        ("length field 47 + 65536", put(SIZES, 0, 4, 47 + 65536)),
+        ("length field 47 + 2^31", put(SIZES, 0, 4, 47 + 2 ** 31)),
+        ("13 sizes", catalogue(*TWELVE, (13, 13, (1000, 500, 12), (3000, 1500, 90)))),
+        ("R 65", catalogue(many_rows(65))),
+        ("R 1", catalogue(SIZE_2[:3])),
+    ]] + [rating_of(name, 10, sizes=sizes, numbers=[1]) for name, sizes in [
+        ("empty catalogue", b""),
+        ("6 bytes of a catalogue", SIZES[:6]),
+        ("6 bytes stating 6", put(SIZES[:6], 0, 4, 6)),
+        ("7 bytes of a catalogue", SIZES[:7]),
+        ("7 bytes stating 7", put(SIZES[:7], 0, 4, 7)),
+        ("no sizes", put(put(SIZES[:7], 0, 4, 7), 5, 1, 0)),
+        ("R 1 where 2 rows stand", put(SIZES, 6, 1, 1)),
+        ("R 0", put(SIZES, 6, 1, 0)),
+        ("R 3 where 2 rows stand", put(SIZES, 6, 1, 3)),
+        ("1 size where 2 stand", put(SIZES, 5, 1, 1)),
+        ("255 sizes", put(SIZES, 5, 1, 255)),
+        ("one byte more", SIZES + b"\0"),
+        ("one byte more, stated", put(SIZES, 0, 4, 48) + b"\0"),
+        ("one byte less", SIZES[:-1]),
+        ("one byte less, stated", put(SIZES, 0, 4, 46)[:-1]),
+    ]] + [
+        rated("1 size", OWN_HEADS, OWN_SECTION, sizes=one, numbers=[1]),
+        rated("12 sizes, the last", OWN_HEADS, OWN_SECTION, sizes=catalogue(*TWELVE),
+              numbers=[12]),
+        refused("12 sizes, number 13", 12, sizes=catalogue(*TWELVE), numbers=[13]),
+        rated("R 64", OWN_HEADS, (1000, 71), sizes=catalogue(many_rows(64)), numbers=[1]),
+    ]
+
+
+# Bytes of the own catalogue: sizes start at 7 and 27, their rows at 11 and 31.
+
+def catalogue_rules():
+    return [refused(name, 11, sizes=put(SIZES, *edit)) for name, edit in [
+        ("first bore 0", (7, 2, 0)), ("first bore 50", (7, 2, 50)), ("first bore 51", (7, 2, 51)),
+        ("second bore 40", (27, 2, 40)), ("second bore 39", (27, 2, 39)),
+        ("second bore 0", (27, 2, 0)),
+        ("price 0", (9, 2, 0)), ("price 10001", (9, 2, 10_001)), ("price 65535", (9, 2, 65_535)),
+        ("second price 0", (29, 2, 0)), ("second price 10001", (29, 2, 10_001)),
+        ("first flow 0", (11, 4, 0)), ("first flow 3000", (11, 4, 3000)),
+        ("second flow 1000", (19, 4, 1000)), ("second flow 999", (19, 4, 999)),
+        ("second flow 1000001", (19, 4, 1_000_001)),
+        ("second flow 2^32 - 1", (19, 4, 2 ** 32 - 1)),
+        ("second size, second flow 1000", (39, 4, 1000)),
+        ("second size, last flow 1000001", (39, 4, 1_000_001)),
+        ("velocity 0", (15, 2, 0)), ("velocity falling by 1", (23, 2, 799)),
+        ("second size, velocity 0", (35, 2, 0)), ("second size, velocity falling", (43, 2, 499)),
+        ("slope 0", (17, 2, 0)), ("slope falling", (25, 2, 39)),
+        ("second size, slope 0", (37, 2, 0)), ("second size, slope falling by 1", (45, 2, 11)),
+    ]] + [rated(name, OWN_HEADS, OWN_SECTION, sizes=put(SIZES, *edit)) for name, edit in [
+        ("first bore 1", (7, 2, 1)), ("first bore 49", (7, 2, 49)),
+        ("second bore 41", (27, 2, 41)), ("second bore 65535", (27, 2, 65_535)),
+        ("price 1", (9, 2, 1)), ("price 10000", (9, 2, 10_000)),
+        ("second price 10000", (29, 2, 10_000)),
+        ("first flow 1", (11, 4, 1)), ("first flow 2999", (11, 4, 2999)),
+        ("second flow 1001", (19, 4, 1001)), ("second flow 1000000", (19, 4, 1_000_000)),
+        ("first velocity 1", (15, 2, 1)), ("velocity not rising", (23, 2, 800)),
+        ("last velocity 65535", (23, 2, 65_535)),
+        ("first slope 1", (17, 2, 1)), ("slope not rising", (25, 2, 40)),
+        ("last slope 65535", (25, 2, 65_535)),
+    ]]
+
+
+# A size read at a flow; the own case has flow 2,052
+
+def read_from(name, heads, figures, *rows):
+    return rated(name, heads, figures, sizes=catalogue((50, 1300) + rows), numbers=[1])
+
+
+def flows_at_rows():
+    last = (3000, 1400, 90)
+    return [
+        read_from("flow at the first row", (876, 376, 1), (700, 26), (2052, 700, 20), last),
+        read_from("flow 1 under the first row", (876, 376, 1), (700, 26), (2053, 700, 20), last),
+        read_from("flow far under the first row", (876, 376, 1), (700, 26),
+                  (999_999, 700, 20), (1_000_000, 1400, 90)),
+        read_from("flow at the last row", (883, 383, 1), (800, 33), (2051, 700, 20),
+                  (2052, 800, 25)),
+        read_from("flow at a middle row", (889, 389, 1), (900, 39), (1000, 500, 12),
+                  (2052, 900, 30), (3000, 1500, 90)),
+        read_from("flow halfway, each up", (865, 365, 1), (501, 15), (2051, 500, 10),
+                  (2053, 501, 11)),
+        read_from("flow between rows far apart", (1027, 527, 1), (136, 177), (1, 1, 1),
+                  (1_000_000, 65_535, 65_535)),
+        read_from("flow between equal rows", (889, 389, 1), (700, 39), (1000, 700, 30),
+                  (3000, 700, 30)),
+        read_from("flow in the second of three lines", (921, 421, 1), (1026, 71), (500, 1, 1),
+                  (1000, 500, 12), (3000, 1500, 90), (4000, 2400, 900)),
+        refused("flow 1 over the last row", 13, numbers=[1],
+                sizes=catalogue((50, 1300, (1000, 500, 12), (2051, 1026, 54)))),
+        refused("flow far over the last row", 13, numbers=[1],
+                sizes=catalogue((50, 1300, (1, 1, 1), (2, 1, 1)))),
+        refused("a wider size that ends earlier", 13,
+                sizes=catalogue(SIZE_1, (50, 1300, (1, 1, 1), (2, 1, 1)))),
+        refused("first row over the limit, flow under it", 13, numbers=[1],
+                sizes=catalogue((50, 1300, (2053, 1501, 20), (3000, 1600, 90)))),
+    ]
+
+
+def limits():
+    return [
+        rated("velocity equal to the limit", OWN_HEADS, OWN_SECTION, record=head(OWN, limit=1026)),
+        refused("velocity one over the limit", 13, record=head(OWN, limit=1025)),
+        refused("velocity 1641.6 over the limit 1641", 13, numbers=[1],
+                record=head(OWN, limit=1641)),
+        refused("limit 1", 13, record=head(OWN, limit=1)),
+        refused("two sections, only the first over the limit", 13, record=pair(60, 20),
+                numbers=[1, 2]),
+        refused("two sections, only the second over the limit", 13, record=pair(20, 60),
+                numbers=[2, 1]),
+    ]
+
+
+# Heads
+
+def pair(first, second):
+    """Two ends of kind 7 at the pump; 20 fixtures flow 979, 60 flow 1739."""
+    return head(house([end(7, first), end(7, second)], {7: 71}), limit=1300)
+
+
+def low(elevation, free=200, meter=50):
+    return head(section(OWN, 1, elevation=elevation, free=free), meter=meter)
+
+
+def pump_heads():
+    return [rated(f"guaranteed head {given}", (921, pump, 1), OWN_SECTION,
+                  record=head(OWN, G=given))
+            for given, pump in ((0, 921), (920, 1), (921, 0), (922, 0), (6000, 0))] + [
+        rated("required head 0", (0, 0, 1), OWN_SECTION, record=low(-321)),
+        rated("required head -1", (-1, 0, 1), OWN_SECTION, record=low(-322)),
+        rated("required head -1, guaranteed 0", (-1, 0, 1), OWN_SECTION,
+              record=head(low(-322), G=0)),
+        rated("required head 1, guaranteed 0", (1, 1, 1), OWN_SECTION,
+              record=head(low(-320), G=0)),
+        rated("end far below the pump", (-929, 0, 1), OWN_SECTION, record=low(-1000, 0, 0)),
+        rated("the least required head", (-999, 0, 1), (900, 1), sizes=LEVEL, numbers=[1],
+              record=section(low(-1000, 0, 0), 1, length=1)),
+        rated("the greatest elevation, free head and meter loss", (8071, 7571, 1), OWN_SECTION,
+              record=low(6000, 1000, 1000)),
+        rated("the greatest loss", (4_260_625, 4_260_125, 1), (1500, 4_259_775), numbers=[1],
+              sizes=catalogue((50, 1300, (2052, 1500, 65_535), (3000, 1500, 65_535))),
+              record=section(OWN, 1, length=5000)),
+        rated("all ends below the pump", (-237, 0, 2), (900, 13), (900, 13), sizes=LEVEL,
+              numbers=[1, 1], record=ends(-600, -500)),
+    ]
+
+
+def ends(*elevations):
+    """Ends at the pump, each with 30 fixtures and free head 200."""
+    return house([(0, 7, 30, 100, elevation, 200) for elevation in elevations], {7: 30})
+
+
+def tree(*parts):
+    """Sections given as (parent, elevation); one that nobody has for a parent
+    has 50 fixtures and free head 200, others have no kind."""
+    above = {parent for parent, _ in parts}
+    return house([(parent, 0, 0, 100, elevation, 0) if number in above
+                  else (parent, 7, 50, 100, elevation, 200)
+                  for number, (parent, elevation) in enumerate(parts, start=1)], {7: 40})
+
+
+def level(name, heads, record, numbers):
+    """A vector with the level sizes, whose figures are plain."""
+    figures = {1: (900, 13), 2: (600, 26), 3: (300, 52)}
+    return rated(name, heads, *[figures[each] for each in numbers], record=record, sizes=LEVEL,
+                 numbers=numbers)
+
+
+def dictating():
+    short = house([(0, 0, 0, 1, 600, 0), (1, 0, 0, 1, 600, 0), (2, 7, 80, 1, 600, 200)], {7: 71})
+    return [
+        level("two equal ends: the first", (863, 363, 1), ends(600, 600), [1, 1]),
+        level("two ends tie by other losses: the first", (876, 376, 1), ends(600, 613), [2, 1]),
+        level("the second end 1 higher", (877, 377, 2), ends(600, 614), [2, 1]),
+        level("the second end 1 lower", (876, 376, 1), ends(600, 612), [2, 1]),
+        level("ends 2 and 3 tie over end 1", (873, 373, 2), ends(600, 610, 610), [1, 1, 1]),
+        level("ends 1 and 3 tie over end 2", (873, 373, 1), ends(610, 600, 610), [1, 1, 1]),
+        level("the last of three ends", (902, 402, 3), ends(600, 600, 600), [1, 2, 3]),
+        level("two ends under a section tie: the lower number", (876, 376, 2),
+              tree((0, 600), (1, 600), (1, 600)), [1, 1, 1]),
+        level("a section without a kind dictates", (6063, 5563, 1),
+              tree((0, 6000), (1, 600), (1, 600)), [1, 1, 1]),
+        level("a section without a kind ties with its ends", (876, 376, 1),
+              tree((0, 813), (1, 600), (1, 600)), [1, 1, 1]),
+        level("a section without a kind 1 lower than its ends", (876, 376, 2),
+              tree((0, 812), (1, 600), (1, 600)), [1, 1, 1]),
+        level("the second of three in a row dictates, without a kind", (2089, 1589, 2),
+              tree((0, 600), (1, 2000), (2, 600)), [1, 2, 3]),
+        level("three in a row: losses add up", (941, 441, 3),
+              tree((0, 600), (1, 600), (2, 600)), [1, 2, 3]),
+        level("section 4 under 1, section 3 under 2", (928, 428, 3),
+              tree((0, 600), (0, 600), (2, 600), (1, 600)), [1, 3, 2, 2]),
+        rated("three in a row, each loss up", (853, 353, 3), (900, 1), (900, 1), (900, 1),
+              record=short, sizes=LEVEL, numbers=[1, 1, 1]),
+        rated("ends of 20 and 60 fixtures", (904, 404, 2), (500, 16), (870, 54),
+              record=pair(20, 60), numbers=[2, 2]),
+    ]
+
+
+# Houses
+
+GREEDY_SIZES = catalogue((15, 300, (100, 300, 30), (3000, 2900, 900)),
+                         (20, 420, (100, 200, 12), (3000, 2400, 300)),
+                         (25, 700, (100, 120, 5), (3000, 1700, 110)))
+
+
+def three_sections():
+    """Every list of three sizes rates, whether or not it suits H."""
+    stated = {(1, 2, 2): [words("heads", (2383, 1883, 3)), "rated 1 994 1242", "rated 2 603 86",
+                          "rated 3 584 143"]}
+    return [rating_of(f"three sections, sizes {listed_in_order(numbers)}", 0, holds=set(),
+                      record=greedy(), sizes=GREEDY_SIZES, numbers=numbers,
+                      lines=stated.get(numbers))
+            for numbers in itertools.product((1, 2, 3), repeat=3)]
+
+
+def listed_in_order(numbers):
+    return " ".join(str(number) for number in numbers)
+
+
+def long_houses():
+    """In the chain section 20 has the losses of all above it: seven of 13,
+    seven of 26 and six of 52 cm are 585."""
+    turns = [1 + i % 3 for i in range(20)]
+    row = house([inner(i) for i in range(19)] + [end(7, 80, 19)], {7: 71})
+    return [
+        level("chain of 20", (1435, 935, 20), row, turns),
+        level("star of 20, higher by 1 each", (919, 419, 18),
+              house([(0, 7, 30, 100, 600 + i, 200) for i in range(20)], {7: 71}), turns),
+        level("star of 20, all alike", (863, 363, 1),
+              house([(0, 7, 30, 100, 600, 200)] * 20, {7: 71}), [1] * 20),
+    ]
+
+
+# Order
+
+def order_parts(numbers):
+    """Parts for which exactly these numbers' conditions hold. 13 is not to be
+    had beside 1 to 12."""
+    sizes = put(SIZES, 4, 1, 2) if 10 in numbers else SIZES
+    sizes = put(sizes, 29, 2, 0) if 11 in numbers else sizes
+    chosen = [1, 1] if 13 in numbers else [2, 2]
+    record = flow_broken(numbers)
+    return {
+        "record": head(record, limit=1) if 13 in numbers else record,
+        "sizes": sizes,
+        "numbers": [0, 2] if 12 in numbers else chosen,
+        "room": 20 if 14 in numbers else 21,
+    }
+
+
+ORDER = [{number} for number in range(1, 15)] + [
+    {1, 10}, {1, 12}, {1, 14}, {2, 11}, {3, 10}, {4, 12}, {5, 10}, {6, 11}, {7, 12}, {8, 10},
+    {9, 10}, {9, 11}, {9, 12}, {9, 14}, {10, 11}, {10, 12}, {10, 14}, {11, 12}, {11, 14},
+    {12, 14}, {10, 11, 12, 14}, {9, 10, 11, 12, 14}, {1, 2, 3, 4, 5, 6, 7, 8, 9, 10, 11, 12, 14},
+]
+
+
+def order():
+    """14 comes before 13; otherwise the least number is the answer."""
+    return [rating_of(listed(each), min(each), holds=each, **order_parts(each))
+            for each in ORDER] + [
+        rating_of("13 and 14", 14, holds={13, 14}, **order_parts({13, 14})),
+        rating_of("nothing lent at all", 1, record=b"", sizes=b"", numbers=[], room=0),
+        rating_of("no job", 1, record=b"", room=15),
+    ]
+
+
+# Random houses
+
+def random_rows(rng, count):
+    """Rows that serve every flow of the house at every limit from 2,000 on."""
+    flows = sorted(rng.sample(range(100, 20_000), count - 1)) + [200_000]
+    columns = [sorted(rng.randint(1, most) for _ in range(count)) for most in (2000, 900)]
+    return tuple(zip(flows, *columns))
+
+
+def random_catalogue(rng):
+    rows, bores = rng.randint(2, 5), sorted(rng.sample(range(10, 200), rng.randint(1, 5)))
+    return catalogue(*[(bore, rng.randint(1, 10_000)) + random_rows(rng, rows)
+                       for bore in bores])
+
+
+def random_measures(rng, record):
+    for i in range(1, record[6] + 1):
+        kind = record[31 + 10 * i]
+        record = section(record, i, length=rng.randint(1, 600), elevation=rng.randint(-1000, 3000),
+                         free=rng.randint(0, 1000) if kind else 0)
+    return head(record, k=rng.randint(2, 3), meter=rng.randint(0, 1000), G=rng.randint(0, 6000),
+                limit=rng.randint(2000, 3000))
+
+
+def random_parts(rng, count):
+    sizes = random_catalogue(rng)
+    return {"record": random_measures(rng, random_house(rng, count)), "sizes": sizes,
+            "numbers": [rng.randint(1, sizes[5]) for _ in range(count)]}
+
+
+def random_houses():
+    rng = random.Random(1)
+    counts = [1, 2, 3, 4, 5] + [rng.randint(6, 40) for _ in range(15)]
+    return [rating_of(f"random house {i}, {count} sections", 0, holds=set(),
+                      **random_parts(rng, count))
+            for i, count in enumerate(counts, start=1)]
+
+
+GROUPS = [
+    ("rating, own case", own_case), ("rating, room", rooms), ("rating, lists", lists),
+    ("rating, shapes of catalogues", catalogue_shapes),
+    ("rating, rules of catalogues", catalogue_rules), ("rating, flows at rows", flows_at_rows),
+    ("rating, limits", limits), ("rating, pump heads", pump_heads),
+    ("rating, dictating sections", dictating), ("rating, three sections", three_sections),
+    ("rating, long houses", long_houses), ("rating, order", order),
+    ("rating, random houses", random_houses),
+]
+
+
+# The answers
+
+def rate_lines(parts):
+    room, *rest = parts
+    number, result = rating.rate(*rest, room_of(room))
+    answer = [buffer_line("rate", (number, result), room_of(room))]
+    if number != 0:
+        return answer
+    heads, sections = rating.figures(*rest)
+    return answer + [words("heads", heads)] + [
+        words("rated", (i,) + each) for i, each in enumerate(sections, start=1)]
+
+
+CALLS = {"p": Call("rate", rate_lines, rating_conditions.of_rate, range(1, 15))}
