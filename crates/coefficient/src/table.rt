@@ -979,10 +979,17 @@ const TABLE: [u32; 972] = [
     91900000,
 ];
 
+// The table to lend. A constant array is written out anew wherever it is named, so a call names it once and lends it to every reading.
+pub fn table2() -> [u32; 972]
+    ensures { λ r. ⌜ r ≡ table ⌝ }
+{
+    TABLE
+}
+
 // The number at place i of the table.
-pub fn entry(i: usize) -> u32
-    requires { ⌜ i < 972 ⌝ }
+pub fn entry(t: &[u32; 972], i: usize) -> u32
+    requires { ⌜ (now t ≡ table) × (i < 972) ⌝ }
     ensures { λ r. ⌜ r ≡ getD table i 0 ⌝ }
 {
-    TABLE[i]
+    t[i]
 }

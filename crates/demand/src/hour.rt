@@ -10,9 +10,10 @@ pub fn hour_of(job: Job) -> u32
     requires { ⌜ Accepted job ⌝ }
     ensures { λ r. ⌜ r ≡ hourOf job ⌝ }
 {
+    let table = coefficient::table2();
     let s = hour_sums(job);
     let sum = s.shares;
-    let alpha = coefficient::alpha(sum as u32) as u64;
+    let alpha = coefficient::alpha(&table, sum as u32) as u64;
     round::divide_up(s.draws * alpha, 200000 * sum) as u32
 }
 

@@ -11,6 +11,7 @@ ghost use Rattle.basis.specs.Round.{up};
 ghost use Rattle.basis.specs.Slots.{slots};
 ghost use Rattle.answer.specs.Answer.{numberOf};
 ghost use Rattle.answer.specs.Checks.{firstNo};
+ghost use Rattle.coefficient.specs.Table.{table};
 ghost use Rattle.coefficient.specs.Alpha.{alphaOf};
 ghost use Rattle.fields.specs.Fields.{countOf};
 ghost use Rattle.tree.specs.Tree.{servedOf, Rooted};
@@ -18,12 +19,12 @@ ghost use Rattle.tree.specs.Rows.{Counted};
 ghost use Rattle.demand.specs.Demand.{mOf, fixturesOf, crowded, sectionFlow, demandChecks, Ruled, Accepted};
 
 // The design flow of sums that 8 let pass.
-fn flow(s: Sums) -> u32
-    requires { ⌜ (0 < s .m) × (s .m ≤ 400000000) × (s .taps ≤ 30 * s .m) ⌝ }
+fn flow(t: &[u32; 972], s: Sums) -> u32
+    requires { ⌜ (now t ≡ table) × (0 < s .m) × (s .m ≤ 400000000) × (s .taps ≤ 30 * s .m) ⌝ }
     ensures { λ r. ⌜ r ≡ up (s .taps * alphaOf (s .m)) (20000 * s .m) ⌝ }
 {
     let m = s.m;
-    let alpha = coefficient::alpha(m as u32) as u64;
+    let alpha = coefficient::alpha(t, m as u32) as u64;
     round::divide_up(s.taps * alpha, 20000 * m) as u32
 }
 
@@ -34,10 +35,11 @@ pub fn flows(job: Job) -> [u32; 64]
 {
     let count = job.head.sections as usize;
     let served = tree::counts(job);
+    let table = coefficient::table2();
     let mut flows = [0u32; 64];
     let mut i: usize = 1;
     while i <= count {
-        flows[i] = flow(sums_of(job, &served, i));
+        flows[i] = flow(&table, sums_of(job, &served, i));
         i += 1;
     }
     flows

@@ -55,7 +55,8 @@ pub fn alpha(raw: &[u8]) -> bool {
     if raw.len() != 4 {
         return false;
     }
-    report::number(b"alpha", coefficient::alpha(wire::be32(raw, 0)));
+    let table = coefficient::table2();
+    report::number(b"alpha", coefficient::alpha(&table, wire::be32(raw, 0)));
     true
 }
 

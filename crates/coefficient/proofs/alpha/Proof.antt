@@ -12,7 +12,7 @@ returns : tie.Need-returns
 returns c = sym (alpha-low _ (omega arith))
 
 place-requires : tie.Need-place-requires
-place-requires c κs = omega arith
+place-requires c κs = (c .before .pre, omega arith)
 
 returns-2 : tie.Need-returns-2
 returns-2 c = c .value .ensures ∙ reached-last (c .before .before .place .ensures) (c .before .if2 .taken)

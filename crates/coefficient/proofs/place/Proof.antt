@@ -8,13 +8,13 @@ use Rattle.coefficient.proofs.place.Statement.{statement}
 use Rattle.coefficient.proofs.place.Tie as tie
 
 abbrev Inv-loop : tie.InvT-loop
-Inv-loop m lo₀ hi₀ lo hi = Span m lo hi
+Inv-loop t m lo₀ hi₀ lo hi = Span m lo hi
 
 abbrev μ-loop : tie.MeasureT-loop
-μ-loop m lo₀ hi₀ lo hi = hi - lo
+μ-loop t m lo₀ hi₀ lo hi = hi - lo
 
 loop-holds : tie.Need-loop-holds Inv-loop μ-loop
-loop-holds c = span-start (c .pre)
+loop-holds c = span-start (c .pre .1)
 
 loop-again : tie.Need-loop-again Inv-loop μ-loop
 loop-again c = span-upper (c .before .before .before .loop .inv) (omega arith) (omega arith)

@@ -13,29 +13,29 @@ use Rattle.demand.proofs.hour.hour_of.Tie as tie
 
 -- the sum of the shares is neither 0 nor over what α is read at
 low : (c : tie.After-hour-sums) → 0 < c .hour-sums .result .shares
-low c = rw (c .hour-sums .ensures .0) (hour-sum-pos (c .before .pre .ruled))
+low c = rw (c .hour-sums .ensures .0) (hour-sum-pos (c .before .before .pre .ruled))
 
 high : (c : tie.After-hour-sums) → c .hour-sums .result .shares ≤ 400000000
-high c = rw (c .hour-sums .ensures .0) (hour-sum-top (c .before .pre))
+high c = rw (c .hour-sums .ensures .0) (hour-sum-top (c .before .before .pre))
 
-product : (c : tie.After-alpha) → c .before .hour-sums .result .draws * c .alpha .result ≤ 11028000000000000000
+product : (c : tie.After-alpha) → c .before .before .hour-sums .result .draws * c .alpha .result ≤ 11028000000000000000
 product c =
-    rw (c .alpha .ensures, c .before .hour-sums .ensures .1)
-    (hour-product (c .before .before .args .job) _ (hour-sum-top (c .before .before .pre)))
+    rw (c .alpha .ensures, c .before .before .hour-sums .ensures .1)
+    (hour-product (c .before .before .before .before .args .job) _ (hour-sum-top (c .before .before .before .before .pre)))
 
-whole : (c : tie.After-divide-up) → c .divide-up .result ≡ hourOf (c .before .before .before .before .args .job)
+whole : (c : tie.After-divide-up) → c .divide-up .result ≡ hourOf (c .before .before .before .before .before .before .args .job)
 whole c =
-    let sums = c .before .before .before in
+    let sums = c .before .before .before .before in
     c .divide-up .ensures ∙
-    rw (c .before .before .alpha .ensures, sums .hour-sums .ensures .0, sums .hour-sums .ensures .1, ← hour-is (sums .before .args .job))
+    rw (c .before .before .alpha .ensures, sums .hour-sums .ensures .0, sums .hour-sums .ensures .1, ← hour-is (sums .before .before .args .job))
 
 returns : tie.Need-returns
 returns c = whole c
 
 cast-result : tie.Need-cast-result
 cast-result c =
-    let start = c .before .before .before .before in
+    let start = c .before .before .before .before .before .before in
     omega (arith, rw (← whole c) at (hour-top (start .args .job) (hour-sum-pos (start .pre .ruled))))
 
 pub hour-of-spec : {M : Type 1} → statement M
-hour-of-spec = tie.close (tie.spec (λ c κs. search needs) (λ c. omega (arith, high c)) (λ c κs. search needs) (λ c. search needs) (λ c. omega (arith, product (c .before))) (λ c. omega (arith, high (c .before .before))) (λ c κs. (omega (arith, low (c .before .before)), omega (arith, product (c .before), high (c .before .before)))) cast-result returns)
+hour-of-spec = tie.close (tie.spec (λ c κs. search needs) (λ c κs. search needs) (λ c. omega (arith, high (c .before))) (λ c κs. search needs) (λ c. search needs) (λ c. omega (arith, product (c .before))) (λ c. omega (arith, high (c .before .before .before))) (λ c κs. (omega (arith, low (c .before .before .before)), omega (arith, product (c .before), high (c .before .before .before)))) cast-result returns)

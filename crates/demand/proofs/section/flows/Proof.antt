@@ -16,10 +16,10 @@ use Rattle.demand.proofs.section.flows.Statement.{statement}
 use Rattle.demand.proofs.section.flows.Tie as tie
 
 abbrev Inv-loop : tie.InvT-loop
-Inv-loop job count served flows₀ i₀ flows i = (0 < i) × (i ≤ countOf job + 1) × (flows ≡ slots 64 1 i 0 (sectionFlow job))
+Inv-loop job count served table flows₀ i₀ flows i = (0 < i) × (i ≤ countOf job + 1) × (flows ≡ slots 64 1 i 0 (sectionFlow job))
 
 abbrev μ-loop : tie.MeasureT-loop
-μ-loop job count served flows₀ i₀ flows i = countOf job + 1 - i
+μ-loop job count served table flows₀ i₀ flows i = countOf job + 1 - i
 
 counts-requires : tie.Need-counts-requires Inv-loop μ-loop
 counts-requires c κs = let r = c .before .pre .ruled in (ruled-rooted r, ruled-kinds r)
@@ -29,16 +29,17 @@ loop-holds c = (omega arith, omega arith, slots-none 64 1 0 _)
 
 sums-of-requires : tie.Need-sums-of-requires Inv-loop μ-loop
 sums-of-requires c κs =
-    let counts = c .before .before .before in
+    let counts = c .before .before .before .before .before in
     let r = counts .before .before .pre .ruled in
     (ruled-rooted r, counts .counts .ensures, omega (arith, ruled-count r .high))
 
 flow-requires : tie.Need-flow-requires Inv-loop μ-loop
 flow-requires c κs =
-    let start = c .before .before .before .before .before .before in
-    let i = c .before .before .before .loop .i in
+    let start = c .before .before .before .before .before .before .before .before in
+    let i = c .before .before .before .before .loop .i in
     let sums = c .sums-of .ensures in
     rw (sums .0, sums .1) (
+      c .before .before .before .before .before .table2 .ensures,
       m-pos (start .pre .ruled) i (omega arith) (omega arith),
       section-m-top (start .pre) i,
       tap-sum-le (start .args .job) (servedOf (start .args .job) i),
@@ -46,8 +47,8 @@ flow-requires c κs =
 
 loop-again : tie.Need-loop-again Inv-loop μ-loop
 loop-again c =
-    let start = c .before .before .before .before .before .before .before in
-    let at = c .before .before .before .before in
+    let start = c .before .before .before .before .before .before .before .before .before in
+    let at = c .before .before .before .before .before in
     let i = at .loop .i in
     let sums = c .before .sums-of .ensures in
     let flow : c .flow .result ≡ sectionFlow (start .args .job) i = c .flow .ensures ∙ rw (sums .0, sums .1) (sym (flow-is (start .args .job) (servedOf (start .args .job) i))) in (
@@ -57,15 +58,15 @@ loop-again c =
     )
 
 array-write-flows : tie.Need-array-write-flows Inv-loop μ-loop
-array-write-flows c = omega (arith, ruled-count (c .before .before .before .before .before .before .before .pre .ruled) .high)
+array-write-flows c = omega (arith, ruled-count (c .before .before .before .before .before .before .before .before .before .pre .ruled) .high)
 
 mul-flows : tie.Need-mul-flows Inv-loop μ-loop
-mul-flows c = omega (arith, ruled-count (c .before .before .before .before .before .before .before .pre .ruled) .high)
+mul-flows c = omega (arith, ruled-count (c .before .before .before .before .before .before .before .before .before .pre .ruled) .high)
 
 returns : tie.Need-returns Inv-loop μ-loop
 returns c =
-    let start = c .before .before .before .before in
+    let start = c .before .before .before .before .before in
     let e : c .before .loop .i ≡ countOf (start .args .job) + 1 = omega arith in rw e at (c .before .loop .inv .2)
 
 pub flows-spec : {M : Type 1} → statement M
-flows-spec = tie.close (tie.spec Inv-loop μ-loop (λ c. search needs) counts-requires loop-holds sums-of-requires flow-requires mul-flows array-write-flows (λ c. search needs) (λ c. search needs) loop-again returns)
+flows-spec = tie.close (tie.spec Inv-loop μ-loop (λ c. search needs) counts-requires (λ c κs. search needs) loop-holds sums-of-requires flow-requires mul-flows array-write-flows (λ c. search needs) (λ c. search needs) loop-again returns)
