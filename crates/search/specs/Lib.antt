@@ -1,0 +1,4 @@
+pub mod Net
+pub mod Plan
+pub mod Cells
+pub mod Shape
