@@ -1,0 +1,34 @@
+-- Laws of the least of f 1 .. f n, at most top.
+-- Assumes nothing.
+use mathlib.Core.Path.{_≡_, refl, sym, _∙_}
+use mathlib.Core.Logic.{⊎-elim}
+use Prim.Native.Nat.{ℕ, zero, suc, _≤_, _<_, min}
+use native.Mathlib.Nat.{eq-or-lt-of-le}
+use native.Mathlib.Omega.{arith}
+use Rattle.search.specs.Plan.{top, leastTo}
+
+-- the definition's clauses
+pub least-none : (f : ℕ → ℕ) → leastTo 0 f ≡ top
+unfolding leastTo
+least-none f = refl
+
+pub least-more : (n : ℕ) (f : ℕ → ℕ) → leastTo (suc n) f ≡ min (leastTo n f) (f (suc n))
+unfolding leastTo
+least-more n f = refl
+
+pub least-top : (n : ℕ) (f : ℕ → ℕ) → leastTo n f ≤ top
+least-top zero f = omega (arith, least-none f)
+least-top (suc n) f = omega (arith, least-more n f, least-top n f)
+
+-- functions with the same values have the same least
+pub least-same : (n : ℕ) (f g : ℕ → ℕ) → ((t : ℕ) → 0 < t → t ≤ n → f t ≡ g t) → leastTo n f ≡ leastTo n g
+least-same zero f g e = least-none f ∙ sym (least-none g)
+least-same (suc n) f g e =
+    least-more n f ∙
+    rw (least-same n f g (λ t a b. e t a (omega arith)), e (suc n) (omega arith) (omega arith)) (sym (least-more n g))
+
+pub least-le : (n : ℕ) (f : ℕ → ℕ) (t : ℕ) → 0 < t → t ≤ n → leastTo n f ≤ f t
+least-le zero f t p l = absurd (omega arith)
+least-le (suc n) f t p l =
+    rw (least-more n f)
+    (⊎-elim (λ e. rw e (omega arith)) (λ m. omega (arith, least-le n f t p (omega arith))) (eq-or-lt-of-le l))

@@ -1,0 +1,210 @@
+-- What the rows of a plan say. The potential at s, for sizes and for states of which section s is the last, is the cost of the sizes of 1 .. s plus
+-- the cells of 0 .. s, after all sections above s, at their states. From s to s + 1 it never falls where s + 1 may take its size, and it stays where s + 1
+-- takes a cheapest one. At 0 it is the pump's cell and at the last section the cost of all, so that the pump's cell is the least cost.
+-- Assumes nothing.
+use mathlib.Core.Path.{_≡_, refl, sym, ap, _∙_}
+use mathlib.Core.Logic.{⊎-elim}
+use mathlib.Core.Bool.{Bool, true, false, cond}
+use Prim.Native.Nat.{ℕ, zero, suc, pred, _+_, _-_, _≤_, _<_, min}
+use native.Mathlib.Nat.{eq-or-lt-of-le, sub-self}
+use native.Mathlib.Omega.{arith}
+use borrow.Author.Tests.{eq-eqb, ne-eqb}
+use Rattle.basis.specs.Range.{sumTo}
+use Rattle.basis.proofs.Sum.{sum-none, sum-more, sum-ext, sum-at}
+use Rattle.search.specs.Plan.{Plan, top, leastTo, option, cheapest, added, rows, cell}
+use Rattle.search.proofs.Least.{least-le}
+use Rattle.search.proofs.Sums.{sum-nothing, sum-swap}
+
+module _ {X : Type 0} (P : Plan X) where
+  -- the cells of the last section, and from a section to the one below it: the parent's row is raised, and no other row changes
+  pub cell-last : (p : ℕ) (x : X) → cell P (P .sections) p x ≡ 0
+  unfolding cell
+  cell-last p x = rw (sub-self (P .sections))
+
+  cell-step : (s p : ℕ) (x : X) → s < P .sections → cell P s p x ≡ added P (suc s) (cell P (suc s)) p x
+  unfolding cell
+  cell-step s p x l =
+      let k : ℕ = P .sections - suc s in
+      let e : P .sections - s ≡ suc k = omega arith in
+      let d : P .sections - k ≡ suc s = omega arith in
+      rw (e, d)
+
+  -- the least cost of section s and of all below it at the state x
+  abbrev pub nextLeast : ℕ → X → ℕ
+  nextLeast s x = cheapest P s (cell P s s) x
+
+  pub cell-parent : (s : ℕ) (x : X) → s < P .sections →
+      cell P s (P .parent (suc s)) x ≡ min top (cell P (suc s) (P .parent (suc s)) x + nextLeast (suc s) x)
+  cell-parent s x l = cell-step s (P .parent (suc s)) x l ∙ rw (eq-eqb (P .parent (suc s)) (P .parent (suc s)) refl)
+
+  pub cell-other : (s p : ℕ) (x : X) → s < P .sections → (p ≡ P .parent (suc s) → ⊥) → cell P s p x ≡ cell P (suc s) p x
+  cell-other s p x l n = cell-step s p x l ∙ rw (ne-eqb p (P .parent (suc s)) n)
+
+  -- with the sizes z and the states x section s may take its size at its parent's state, and hands on its own
+  pub record Serves (z : ℕ → ℕ) (x : ℕ → X) (s : ℕ) : Type 0 where
+    pub low : 0 < z s
+    pub high : z s ≤ P .sizes
+    pub met : P .ok s (z s) (x (P .parent s)) ≡ true
+    pub state : x s ≡ P .next s (z s) (x (P .parent s))
+
+  -- the cost of the sizes of 1 .. s
+  abbrev pub costs : (ℕ → ℕ) → ℕ → ℕ
+  costs z s = sumTo s (λ j. P .cost j (z j))
+
+  -- the cells of 0 .. n, after all sections above s
+  abbrev pub waiting : (ℕ → X) → ℕ → ℕ → ℕ
+  waiting x n s = sumTo (suc n) (λ q. cell P s (pred q) (x (pred q)))
+
+  abbrev pub potential : (ℕ → ℕ) → (ℕ → X) → ℕ → ℕ
+  potential z x s = costs z s + waiting x s s
+
+  -- the two sums one section further
+  costs-more : (z : ℕ → ℕ) (s : ℕ) → costs z (suc s) ≡ costs z s + P .cost (suc s) (z (suc s))
+  costs-more z s = sum-more s (λ j. P .cost j (z j))
+
+  waiting-more : (x : ℕ → X) (n s : ℕ) → waiting x (suc n) s ≡ waiting x n s + cell P s (suc n) (x (suc n))
+  waiting-more x n s = sum-more (suc n) (λ q. cell P s (pred q) (x (pred q)))
+
+  module _ (z : ℕ → ℕ) (x : ℕ → X) (s : ℕ) (l : s < P .sections) (q : P .parent (suc s) < suc s) where
+    -- the cells of 0 .. s before and after section s + 1: only its parent's differs
+    waiting-swap : waiting x s s + cell P (suc s) (P .parent (suc s)) (x (P .parent (suc s))) ≡
+        waiting x s (suc s) + cell P s (P .parent (suc s)) (x (P .parent (suc s)))
+    waiting-swap =
+        sum-swap (suc s) (suc (P .parent (suc s))) (λ q. cell P s (pred q) (x (pred q))) (λ q. cell P (suc s) (pred q) (x (pred q))) (omega arith) q
+        (λ j a b n. cell-other s (pred j) (x (pred j)) l (λ e. n (omega arith)))
+
+    waiting-le : waiting x s s ≤ waiting x s (suc s) + nextLeast (suc s) (x (P .parent (suc s)))
+    waiting-le = omega (arith, waiting-swap, cell-parent s (x (P .parent (suc s))) l)
+
+    -- a cell is at most the sum
+    cell-part : cell P s (P .parent (suc s)) (x (P .parent (suc s))) ≤ waiting x s s
+    cell-part = sum-at (suc s) (suc (P .parent (suc s))) (λ q. cell P s (pred q) (x (pred q))) (omega arith) q
+
+    -- under the mark nothing is cut off
+    waiting-eq : waiting x s s < top → waiting x s s ≡ waiting x s (suc s) + nextLeast (suc s) (x (P .parent (suc s)))
+    waiting-eq m = omega (arith, waiting-swap, cell-part, cell-parent s (x (P .parent (suc s))) l)
+
+    -- the size that section s + 1 has is one of its options
+    taken : Serves z x (suc s) →
+        option P (suc s) (cell P (suc s) (suc s)) (x (P .parent (suc s))) (z (suc s)) ≡ P .cost (suc s) (z (suc s)) + cell P (suc s) (suc s) (x (suc s))
+    taken o = rw (o .state, o .met)
+
+    never-falls : Serves z x (suc s) → potential z x s ≤ potential z x (suc s)
+    never-falls o =
+        omega (
+          arith,
+          waiting-le,
+          waiting-more x s (suc s),
+          costs-more z s,
+          taken o,
+          least-le (P .sizes) (option P (suc s) (cell P (suc s) (suc s)) (x (P .parent (suc s)))) (z (suc s)) (o .low) (o .high),
+        )
+
+  -- size t is a cheapest one for section s at the state x of its parent's end
+  pub record Cheap (s : ℕ) (x : X) (t : ℕ) : Type 0 where
+    pub low : 0 < t
+    pub high : t ≤ P .sizes
+    pub least : option P s (cell P s s) x t ≡ nextLeast s x
+
+  -- an option below the mark is of a size that the section may take
+  option-real : (b : Bool) (v : ℕ) → cond b v top < top → b ≡ true
+  option-real true v m = refl
+  option-real false v m = absurd (omega arith)
+
+  module _ {s : ℕ} {x : X} {t : ℕ} (c : Cheap s x t) (m : nextLeast s x < top) where
+    pub cheap-ok : P .ok s t x ≡ true
+    cheap-ok = option-real (P .ok s t x) (P .cost s t + cell P s s (P .next s t x)) (rw (c .least) m)
+
+    cheap-is : P .cost s t + cell P s s (P .next s t x) ≡ nextLeast s x
+    cheap-is = rw cheap-ok at (c .least)
+
+  -- the sections 1 .. s serve, from the state a at the pump on, and their potential is the pump's cell
+  pub record Good (a : X) (z : ℕ → ℕ) (x : ℕ → X) (s : ℕ) : Type 0 where
+    pub start : x 0 ≡ a
+    pub serves : (j : ℕ) → 0 < j → j ≤ s → Serves z x j
+    pub same : potential z x s ≡ cell P 0 0 a
+
+  -- at the pump the potential is its cell
+  none-yet : (z : ℕ → ℕ) (x : ℕ → X) → potential z x 0 ≡ cell P 0 0 (x 0)
+  none-yet z x = omega (arith, sum-none (λ j. P .cost j (z j)), sum-more 0 (λ q. cell P 0 (pred q) (x (pred q))), sum-none (λ q. cell P 0 (pred q) (x (pred q))))
+
+  pub good-none : (a : X) (z : ℕ → ℕ) (x : ℕ → X) → x 0 ≡ a → Good a z x 0
+  good-none a z x e =
+      record {
+        start = e;
+        serves = λ j p l. absurd (omega arith);
+        same = none-yet z x ∙ ap (cell P 0 0) e;
+      }
+
+  -- at the last section no cell is left
+  all-done : (z : ℕ → ℕ) (x : ℕ → X) → potential z x (P .sections) ≡ costs z (P .sections)
+  all-done z x =
+      omega (
+        arith,
+        sum-nothing (suc (P .sections)) (λ q. cell P (P .sections) (pred q) (x (pred q))) (λ q p l. cell-last (pred q) (x (pred q))),
+      )
+
+  pub good-cost : (a : X) (z : ℕ → ℕ) (x : ℕ → X) → Good a z x (P .sections) → costs z (P .sections) ≡ cell P 0 0 a
+  good-cost a z x g = sym (all-done z x) ∙ g .same
+
+  module _ (lower : (s : ℕ) → 0 < s → s ≤ P .sections → P .parent s < s) where
+    -- Good says nothing of the sizes and states of later sections
+    pub good-ext : (a : X) (z z′ : ℕ → ℕ) (x x′ : ℕ → X) (s : ℕ) → s ≤ P .sections →
+        ((j : ℕ) → 0 < j → j ≤ s → z′ j ≡ z j) → ((j : ℕ) → j ≤ s → x′ j ≡ x j) → Good a z x s → Good a z′ x′ s
+    good-ext a z z′ x x′ s l ez ex g =
+        record {
+          start = ex 0 (omega arith) ∙ g .start;
+          serves = λ j p b.
+              let o = g .serves j p b in
+              let up : x′ (P .parent j) ≡ x (P .parent j) = ex (P .parent j) (omega (arith, lower j p (omega arith))) in
+              record {
+                low = rw (ez j p b) (o .low);
+                high = rw (ez j p b) (o .high);
+                met = rw (ez j p b, up) (o .met);
+                state = rw (ez j p b, up, ex j b) (o .state);
+              };
+          same = rw (
+            sum-ext s (λ j. P .cost j (z′ j)) (λ j. P .cost j (z j)) (λ j p b. rw (ez j p b)),
+            sum-ext (suc s) (λ q. cell P s (pred q) (x′ (pred q))) (λ q. cell P s (pred q) (x (pred q))) (λ q p b. rw (ex (pred q) (omega arith))),
+          )
+              (g .same);
+        }
+
+    -- where the pump's cell is below the mark, so is the least cost of the next section
+    pub good-real : (a : X) (z : ℕ → ℕ) (x : ℕ → X) (s : ℕ) → s < P .sections → cell P 0 0 a < top → Good a z x s →
+        nextLeast (suc s) (x (P .parent (suc s))) < top
+    good-real a z x s l c g =
+        omega (arith, g .same, waiting-eq z x s l (lower (suc s) (omega arith) l) (omega (arith, g .same)))
+
+    -- the next section takes a cheapest size
+    pub good-more : (a : X) (z : ℕ → ℕ) (x : ℕ → X) (s : ℕ) → s < P .sections → cell P 0 0 a < top → Good a z x s →
+        Cheap (suc s) (x (P .parent (suc s))) (z (suc s)) → x (suc s) ≡ P .next (suc s) (z (suc s)) (x (P .parent (suc s))) →
+        Good a z x (suc s)
+    good-more a z x s l c g t e =
+        let m = good-real a z x s l c g in
+        let here : Serves z x (suc s) = record { low = t .low; high = t .high; met = cheap-ok t m; state = e } in
+        record {
+          start = g .start;
+          serves = λ j p b. ⊎-elim (λ w. rw w here) (λ w. g .serves j p (omega arith)) (eq-or-lt-of-le b);
+          same = omega (
+            arith,
+            g .same,
+            waiting-eq z x s l (lower (suc s) (omega arith) l) (omega (arith, g .same)),
+            waiting-more x s (suc s),
+            costs-more z s,
+            cheap-is t m,
+            ap (cell P (suc s) (suc s)) e,
+          );
+        }
+
+    climbs : (z : ℕ → ℕ) (x : ℕ → X) → ((s : ℕ) → 0 < s → s ≤ P .sections → Serves z x s) →
+        (s : ℕ) → s ≤ P .sections → potential z x 0 ≤ potential z x s
+    climbs z x all zero l = omega arith
+    climbs z x all (suc s) l =
+        omega (arith, climbs z x all s (omega arith), never-falls z x s l (lower (suc s) (omega arith) l) (all (suc s) (omega arith) l))
+
+    -- sizes with which all sections serve cost at least the pump's cell
+    pub at-least : (a : X) (z : ℕ → ℕ) (x : ℕ → X) → x 0 ≡ a → ((s : ℕ) → 0 < s → s ≤ P .sections → Serves z x s) →
+        cell P 0 0 a ≤ costs z (P .sections)
+    at-least a z x e all =
+        omega (arith, climbs z x all (P .sections) (omega arith), none-yet z x, all-done z x, ap (cell P 0 0) e)
