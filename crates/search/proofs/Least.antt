@@ -1,0 +1,26 @@
+-- Laws of the least of f 1 .. f n, at most top.
+-- Assumes nothing.
+use mathlib.Core.Path.{_≡_, refl, sym, _∙_}
+use Prim.Native.Nat.{ℕ, zero, suc, _≤_, _<_, min}
+use native.Mathlib.Omega.{arith}
+use Rattle.search.specs.Plan.{top, leastTo}
+
+-- the definition's clauses
+pub least-none : (f : ℕ → ℕ) → leastTo 0 f ≡ top
+unfolding leastTo
+least-none f = refl
+
+pub least-more : (n : ℕ) (f : ℕ → ℕ) → leastTo (suc n) f ≡ min (leastTo n f) (f (suc n))
+unfolding leastTo
+least-more n f = refl
+
+pub least-top : (n : ℕ) (f : ℕ → ℕ) → leastTo n f ≤ top
+least-top zero f = omega (arith, least-none f)
+least-top (suc n) f = omega (arith, least-more n f, least-top n f)
+
+-- functions with the same values have the same least
+pub least-same : (n : ℕ) (f g : ℕ → ℕ) → ((t : ℕ) → 0 < t → t ≤ n → f t ≡ g t) → leastTo n f ≡ leastTo n g
+least-same zero f g e = least-none f ∙ sym (least-none g)
+least-same (suc n) f g e =
+    least-more n f ∙
+    rw (least-same n f g (λ t a b. e t a (omega arith)), e (suc n) (omega arith) (omega arith)) (sym (least-more n g))
