@@ -1,0 +1,65 @@
+-- One turn of the loops that pick the cheapest size and raise a row, and what they start from.
+-- Assumes nothing.
+use mathlib.Core.Path.{_≡_, refl, sym, ap, _∙_}
+use mathlib.Core.Bool.{cond}
+use mathlib.Core.List.{List}
+use Prim.Native.Nat.{ℕ, suc, _+_, _-_, _*_, _≤_, _<_, min}
+use native.Mathlib.Omega.{arith}
+use native.Mathlib.Numerals.{add-one}
+use lib.Dec.{leb}
+use lib.ListN.{length}
+use borrow.Author.Count.{below-more}
+use borrow.Author.Tests.{le-leb, lt-leb}
+use Rattle.basis.specs.Stored.{stored}
+use Rattle.wire.specs.Wire.{bytesOf}
+use Rattle.search.specs.Plan.{top, leastTo}
+use Rattle.search.specs.Cells.{cellAt}
+use Rattle.search.specs.Shape.{optionAt, rowAt, Picked, Raised}
+use Rattle.search.proofs.Least.{least-none, least-more, least-same}
+use Rattle.search.proofs.Workspace.{cell-length, cell-same, cell-other}
+
+-- an option that leaves the need, and one that does not
+module _ (loss cost : ℕ → ℕ) (need : ℕ) (v : ℕ → ℕ → ℕ) (h t : ℕ) where
+  pub option-met : loss t + need ≤ h → optionAt loss cost need v h t ≡ cost t + v t (h - loss t)
+  option-met b = rw (le-leb (loss t + need) h b)
+
+  pub option-short : h < loss t + need → optionAt loss cost need v h t ≡ top
+  option-short b = rw (lt-leb (loss t + need) h b)
+
+-- rows with the same cells have the same least
+pub least-rows : (loss cost : ℕ → ℕ) (need n h : ℕ) (v w : ℕ → ℕ → ℕ) → ((t x : ℕ) → v t x ≡ w t x) →
+    leastTo n (optionAt loss cost need v h) ≡ leastTo n (optionAt loss cost need w h)
+least-rows loss cost need n h v w e =
+    least-same n (optionAt loss cost need v h) (optionAt loss cost need w h)
+    (λ t a b. ap (λ (k : ℕ). cond (leb (loss t + need) h) (cost t + k) top) (e t (h - loss t)))
+
+pub picked-none : (f : ℕ → ℕ) → Picked 0 f top 0
+picked-none f = record { is = sym (least-none f); most = omega arith; low = λ m. absurd (omega arith); high = omega arith; at = λ m. absurd (omega arith) }
+
+module _ (f : ℕ → ℕ) (n c t : ℕ) (p : Picked n f c t) where
+  -- a cheaper size takes the place of the one before
+  pub picked-more : (v : ℕ) → f (n + 1) ≡ v → v < c → Picked (n + 1) f v (n + 1)
+  picked-more v e b =
+      let e′ : f (suc n) ≡ v = rw add-one at e in
+      record { is = rw add-one (omega (arith, least-more n f)); most = omega arith; low = λ m. omega arith; high = omega arith; at = λ m. e }
+
+  -- a size that is not
+  pub picked-kept : c ≤ f (n + 1) → Picked (n + 1) f c t
+  picked-kept b =
+      let b′ : c ≤ f (suc n) = rw add-one at b in
+      record { is = rw add-one (omega (arith, least-more n f)); most = p .most; low = p .low; high = omega arith; at = p .at }
+
+pub raised-none : (ws : List ℕ) (up : ℕ) (f : ℕ → ℕ) → Raised ws ws up 0 f
+raised-none ws up f = record { within = λ h b. absurd (omega arith); below = λ j b. refl; above = λ j b. refl }
+
+-- one cell more, with f worked out from the cells above the row as they stand now
+pub raised-more : (ws₀ ws : List ℕ) (up h v : ℕ) (f : ℕ → ℕ) → 4 * (up + h) + 4 ≤ length ws → v ≡ min top (cellAt ws (up + h) + f h) →
+    Raised ws₀ ws up h f → Raised ws₀ (stored ws (4 * (up + h)) (bytesOf 4 v)) up (h + 1) f
+raised-more ws₀ ws up h v f fits e r =
+    record {
+      within = below-more (λ x. cellAt (stored ws (4 * (up + h)) (bytesOf 4 v)) (up + x) ≡ min top (cellAt ws₀ (up + x) + f x)) h
+          (λ x b. cell-other ws (up + h) v fits (up + x) (λ i. omega arith) ∙ r .within x b)
+          (cell-same ws (up + h) v fits (omega arith) ∙ e ∙ rw (r .above (up + h) (omega arith)));
+      below = λ j b. cell-other ws (up + h) v fits j (λ i. omega arith) ∙ r .below j b;
+      above = λ j b. cell-other ws (up + h) v fits j (λ i. omega arith) ∙ r .above j (omega arith);
+    }

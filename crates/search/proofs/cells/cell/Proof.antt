@@ -1,0 +1,13 @@
+-- `search::cells::cell` meets its contract.
+-- Assumes nothing.
+use borrow.Author.Needs.{needs}
+use Rattle.search.specs.Cells.{cellAt}
+use Rattle.search.proofs.cells.cell.Statement.{statement}
+use Rattle.search.proofs.cells.cell.Tie as tie
+
+returns : tie.Need-returns
+unfolding cellAt
+returns c = search needs
+
+pub cell-spec : {M : Type 1} → statement M
+cell-spec = tie.close (tie.spec (λ c. search needs) (λ c κs. search needs) (λ c. search needs) returns)
