@@ -2,5 +2,9 @@ pub mod Least
 pub mod Sums
 pub mod Greatest
 pub mod Potential
+pub mod Paths
+pub mod Optimum
+pub mod Required
+pub mod Steps
 pub mod Workspace
 pub mod Turns
