@@ -14,9 +14,9 @@ use Rattle.basis.specs.Stored.{stored}
 use Rattle.wire.specs.Wire.{bytesOf}
 use Rattle.search.specs.Plan.{top, leastTo}
 use Rattle.search.specs.Cells.{cellAt}
-use Rattle.search.specs.Shape.{optionAt, rowAt, Picked, Raised}
+use Rattle.search.specs.Shape.{optionAt, rowAt, «from», Picked, Raised}
 use Rattle.search.proofs.Least.{least-none, least-more, least-same}
-use Rattle.search.proofs.Workspace.{cell-length, cell-same, cell-other}
+use Rattle.search.proofs.Workspace.{cell-same, cell-other}
 
 -- an option that leaves the need, and one that does not
 module _ (loss cost : ℕ → ℕ) (need : ℕ) (v : ℕ → ℕ → ℕ) (h t : ℕ) where
@@ -25,6 +25,13 @@ module _ (loss cost : ℕ → ℕ) (need : ℕ) (v : ℕ → ℕ → ℕ) (h t :
 
   pub option-short : h < loss t + need → optionAt loss cost need v h t ≡ top
   option-short b = rw (lt-leb (loss t + need) h b)
+
+-- the option of size t, read from the tables and the row: l is its loss, k its cost and v the cost of all below
+pub option-read : (losses costs ws : List ℕ) (at need row stride h t l k v : ℕ) → l ≡ «from» losses at t → k ≡ «from» costs at t →
+    v ≡ cellAt ws (row + t * stride + (h - l)) → l + need ≤ h →
+    optionAt («from» losses at) («from» costs at) need (rowAt ws row stride) h t ≡ k + v
+option-read losses costs ws at need row stride h t l k v el ek ev b =
+    option-met («from» losses at) («from» costs at) need (rowAt ws row stride) h t (omega arith) ∙ cc
 
 -- rows with the same cells have the same least
 pub least-rows : (loss cost : ℕ → ℕ) (need n h : ℕ) (v w : ℕ → ℕ → ℕ) → ((t x : ℕ) → v t x ≡ w t x) →
@@ -52,7 +59,7 @@ module _ (f : ℕ → ℕ) (n c t : ℕ) (p : Picked n f c t) where
 pub raised-none : (ws : List ℕ) (up : ℕ) (f : ℕ → ℕ) → Raised ws ws up 0 f
 raised-none ws up f = record { within = λ h b. absurd (omega arith); below = λ j b. refl; above = λ j b. refl }
 
--- one cell more, with f worked out from the cells above the row as they stand now
+-- one cell more
 pub raised-more : (ws₀ ws : List ℕ) (up h v : ℕ) (f : ℕ → ℕ) → 4 * (up + h) + 4 ≤ length ws → v ≡ min top (cellAt ws (up + h) + f h) →
     Raised ws₀ ws up h f → Raised ws₀ (stored ws (4 * (up + h)) (bytesOf 4 v)) up (h + 1) f
 raised-more ws₀ ws up h v f fits e r =
@@ -63,3 +70,13 @@ raised-more ws₀ ws up h v f fits e r =
       below = λ j b. cell-other ws (up + h) v fits j (λ i. omega arith) ∙ r .below j b;
       above = λ j b. cell-other ws (up + h) v fits j (λ i. omega arith) ∙ r .above j (omega arith);
     }
+
+-- the turn that adds the size picked: the section's rows lie above the row that is raised, so that they are still as they were
+pub raised-turn : (ws₀ ws ws′ : List ℕ) (loss cost : ℕ → ℕ) (need row stride n up h c t old v : ℕ) → up + h ≤ row →
+    4 * (up + h) + 4 ≤ length ws → Raised ws₀ ws up h (λ x. leastTo n (optionAt loss cost need (rowAt ws₀ row stride) x)) →
+    Picked n (optionAt loss cost need (rowAt ws row stride) h) c t → old ≡ cellAt ws (up + h) → v ≡ min top (old + c) →
+    ws′ ≡ stored ws (4 * (up + h)) (bytesOf 4 v) → Raised ws₀ ws′ up (h + 1) (λ x. leastTo n (optionAt loss cost need (rowAt ws₀ row stride) x))
+raised-turn ws₀ ws ws′ loss cost need row stride n up h c t old v a fits r p eo ev es =
+    let same : c ≡ leastTo n (optionAt loss cost need (rowAt ws₀ row stride) h) =
+    p .is ∙ least-rows loss cost need n h (rowAt ws row stride) (rowAt ws₀ row stride) (λ u x. r .above (row + u * stride + x) (omega arith)) in
+    rw es (raised-more ws₀ ws up h v _ fits (ev ∙ rw (eo, same)) r)
