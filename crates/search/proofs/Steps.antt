@@ -25,6 +25,11 @@ rows-apart p q w l = omega (arith, mul-le-mul-right w l, suc-mul p w)
 pub row-fits : (p n w : ℕ) → p ≤ n → p * w + w ≤ (n + 1) * w
 row-fits p n w l = rows-apart p (n + 1) w (omega arith)
 
+-- after no section all cells are 0
+pub holds-none : (N : Net) (w : ℕ) (ws : List ℕ) → ((k : ℕ) → k < (N .sections + 1) * w → cellAt ws k ≡ 0) → Holds N w ws (N .sections)
+holds-none N w ws z =
+    record { at = λ p h l b. z (p * w + h) (omega (arith, row-fits p (N .sections) w l)) ∙ sym (cell-last (planOf N) p h) }
+
 -- at a head below the mark the need alone says whether a size will do
 marked-fits : (l need h : ℕ) → h < top → (ltb l top && leb (l + need) h) ≡ leb (l + need) h
 marked-fits l need h b =
@@ -44,11 +49,6 @@ module _ (N : Net) (marked : (s t : ℕ) → N .allowed s t ≡ ltb (N .loss s t
   least-row : (ws : List ℕ) (s h : ℕ) → h < top → ((x : ℕ) → x ≤ h → cellAt ws (s * w + x) ≡ cell (planOf N) s s x) →
       leastTo (N .sizes) (optionAt (N .loss s) (N .cost s) (N .need s) (rowAt ws (s * w) 0) h) ≡ nextLeast (planOf N) s h
   least-row ws s h b row = least-same (N .sizes) _ _ (λ t p l. option-row ws s h b row t)
-
-  -- after no section all cells are 0
-  pub holds-none : (ws : List ℕ) → ((k : ℕ) → k < (N .sections + 1) * w → cellAt ws k ≡ 0) → Holds N w ws (N .sections)
-  holds-none ws z =
-      record { at = λ p h l b. z (p * w + h) (omega (arith, row-fits p (N .sections) w l)) ∙ sym (cell-last (planOf N) p h) }
 
   module _ (sound : Sound N) where
     -- section s + 1 is added to its parent's row
