@@ -21,11 +21,11 @@ least-top zero f = omega (arith, least-none f)
 least-top (suc n) f = omega (arith, least-more n f, least-top n f)
 
 -- functions with the same values have the same least
-pub least-same : (n : ℕ) (f g : ℕ → ℕ) → ((t : ℕ) → 0 < t → t ≤ n → f t ≡ g t) → leastTo n f ≡ leastTo n g
-least-same zero f g e = least-none f ∙ sym (least-none g)
-least-same (suc n) f g e =
+pub least-ext : (n : ℕ) (f g : ℕ → ℕ) → ((t : ℕ) → 0 < t → t ≤ n → f t ≡ g t) → leastTo n f ≡ leastTo n g
+least-ext zero f g e = least-none f ∙ sym (least-none g)
+least-ext (suc n) f g e =
     least-more n f ∙
-    rw (least-same n f g (λ t a b. e t a (omega arith)), e (suc n) (omega arith) (omega arith)) (sym (least-more n g))
+    rw (least-ext n f g (λ t a b. e t a (omega arith)), e (suc n) (omega arith) (omega arith)) (sym (least-more n g))
 
 pub least-le : (n : ℕ) (f : ℕ → ℕ) (t : ℕ) → 0 < t → t ≤ n → leastTo n f ≤ f t
 least-le zero f t p l = absurd (omega arith)

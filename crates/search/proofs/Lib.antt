@@ -6,5 +6,6 @@ pub mod Paths
 pub mod Optimum
 pub mod Required
 pub mod Steps
+pub mod Reading
 pub mod Workspace
 pub mod Turns

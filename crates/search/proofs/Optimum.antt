@@ -1,24 +1,27 @@
 -- Heads as the states of a plan: a list that suits is one with which all sections serve, and the other way round. So sizes whose potential is the pump's
 -- cell at each section are a list of least cost, and no list suits where the pump's cell is the mark.
 -- Assumes nothing.
-use mathlib.Core.Path.{_≡_, refl, sym, ap, _∙_}
+use mathlib.Core.Path.{_≡_}
 use mathlib.Core.Logic.{⊎-elim}
-use mathlib.Core.Bool.{Bool, true, false, _&&_}
+use mathlib.Core.Bool.{true}
 use mathlib.Core.List.{List}
-use Prim.Native.Nat.{ℕ, zero, suc, _+_, _-_, _*_, _≤_, _<_}
+use Prim.Native.Nat.{ℕ, zero, suc, _+_, _-_, _≤_, _<_}
 use native.Mathlib.Nat.{eq-zero-or-pos}
 use native.Mathlib.Omega.{arith}
 use lib.Dec.{leb}
 use lib.ListN.{length}
 use borrow.Author.Tests.{le-leb, leb-true}
-use Rattle.basis.specs.Range.{sumTo}
 use Rattle.basis.proofs.Sum.{sum-le}
 use Rattle.basis.proofs.Bools.{left, right}
-use Rattle.search.specs.Net.{Net, sizeOf, pathLoss, Suits, costOf, requiredOf, greatestTo, Best}
+use Rattle.search.specs.Net.{Net, sizeOf, pathLoss, Suits, costOf, Best}
 use Rattle.search.specs.Plan.{top, cell, planOf}
 use Rattle.search.specs.Shape.{Sound, None}
 use Rattle.search.proofs.Paths.{path-pump, path-step}
-use Rattle.search.proofs.Potential.{Serves, Good, costs, good-cost, at-least}
+use Rattle.search.proofs.Potential.{Serves, Good, good-cost, at-least}
+
+-- a size that a section may take leaves its end what it needs
+pub ok-fits : (N : Net) (s t h : ℕ) → planOf N .ok s t h ≡ true → N .loss s t + N .need s ≤ h
+ok-fits N s t h e = leb-true _ _ (right (N .allowed s t) (leb (N .loss s t + N .need s) h) e)
 
 module _ (N : Net) (lower : (s : ℕ) → 0 < s → s ≤ N .sections → N .parent s < s) (a : ℕ) where
   -- the heads that a list leaves
@@ -41,7 +44,7 @@ module _ (N : Net) (lower : (s : ℕ) → 0 < s → s ≤ N .sections → N .par
   -- where the sections 1 .. n serve
   module _ (z h : ℕ → ℕ) (start : h 0 ≡ a) (n : ℕ) (few : n ≤ N .sections) (all : (s : ℕ) → 0 < s → s ≤ n → Serves (planOf N) z h s) where
     serve-fits : (s : ℕ) → 0 < s → s ≤ n → N .loss s (z s) + N .need s ≤ h (N .parent s)
-    serve-fits s p l = leb-true _ _ (right (N .allowed s (z s)) (leb (N .loss s (z s) + N .need s) (h (N .parent s))) (all s p l .met))
+    serve-fits s p l = ok-fits N s (z s) (h (N .parent s)) (all s p l .met)
 
     -- by steps to the parent, of which there are at most m
     heads-from : (m s : ℕ) → s ≤ m → s ≤ n → h s + pathLoss N z s ≡ a

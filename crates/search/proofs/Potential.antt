@@ -11,7 +11,7 @@ use native.Mathlib.Omega.{arith}
 use borrow.Author.Tests.{eq-eqb, ne-eqb}
 use Rattle.basis.specs.Range.{sumTo}
 use Rattle.basis.proofs.Sum.{sum-none, sum-more, sum-ext, sum-at}
-use Rattle.search.specs.Plan.{Plan, top, leastTo, option, cheapest, added, rows, cell}
+use Rattle.search.specs.Plan.{Plan, top, option, cheapest, added, cell}
 use Rattle.search.proofs.Least.{least-le}
 use Rattle.search.proofs.Sums.{sum-nothing, sum-swap}
 

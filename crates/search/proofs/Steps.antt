@@ -1,10 +1,10 @@
 -- The rows as they are filled from the last section to the first, and the sizes as they are read back from the first to the last: one section more.
 -- Assumes nothing.
-use mathlib.Core.Path.{_≡_, refl, sym, ap, _∙_}
+use mathlib.Core.Path.{_≡_, sym, ap, _∙_}
 use mathlib.Core.Logic.{⊎-elim}
-use mathlib.Core.Bool.{true, false, _&&_}
+use mathlib.Core.Bool.{_&&_}
 use mathlib.Core.List.{List}
-use Prim.Native.Nat.{ℕ, zero, suc, _+_, _-_, _*_, _≤_, _<_, max}
+use Prim.Native.Nat.{ℕ, zero, suc, _+_, _-_, _*_, _≤_, _<_}
 use native.Mathlib.Nat.{mul-le-mul-right, suc-mul}
 use native.Mathlib.Omega.{arith}
 use lib.Dec.{leb, ltb}
@@ -12,10 +12,10 @@ use borrow.Author.Tests.{leb-true, lt-ltb}
 use Rattle.basis.proofs.Split.{lt-or-ge, eq-or-ne}
 use Rattle.basis.proofs.Bools.{same, right}
 use Rattle.search.specs.Net.{Net}
-use Rattle.search.specs.Plan.{top, leastTo, option, cheapest, cell, planOf}
+use Rattle.search.specs.Plan.{top, leastTo, option, cell, planOf}
 use Rattle.search.specs.Cells.{cellAt}
 use Rattle.search.specs.Shape.{Sound, optionAt, rowAt, Picked, Raised, Holds}
-use Rattle.search.proofs.Least.{least-same}
+use Rattle.search.proofs.Least.{least-ext}
 use Rattle.search.proofs.Potential.{cell-last, cell-parent, cell-other, nextLeast, Cheap}
 
 -- rows do not overlap, and none ends above the last
@@ -29,6 +29,10 @@ row-fits p n w l = rows-apart p (n + 1) w (omega arith)
 pub holds-none : (N : Net) (w : ℕ) (ws : List ℕ) → ((k : ℕ) → k < (N .sections + 1) * w → cellAt ws k ≡ 0) → Holds N w ws (N .sections)
 holds-none N w ws z =
     record { at = λ p h l b. z (p * w + h) (omega (arith, row-fits p (N .sections) w l)) ∙ sym (cell-last (planOf N) p h) }
+
+-- the pump's row is the first
+pub pump-cell : (N : Net) (w : ℕ) (ws : List ℕ) (a : ℕ) → a < w → Holds N w ws 0 → cellAt ws a ≡ cell (planOf N) 0 0 a
+pump-cell N w ws a b hold = let e : a ≡ 0 * w + a = omega arith in ap (cellAt ws) e ∙ hold .at 0 a (omega arith) b
 
 -- at a head below the mark the need alone says whether a size will do
 marked-fits : (l need h : ℕ) → h < top → (ltb l top && leb (l + need) h) ≡ leb (l + need) h
@@ -48,7 +52,7 @@ module _ (N : Net) (marked : (s t : ℕ) → N .allowed s t ≡ ltb (N .loss s t
 
   least-row : (ws : List ℕ) (s h : ℕ) → h < top → ((x : ℕ) → x ≤ h → cellAt ws (s * w + x) ≡ cell (planOf N) s s x) →
       leastTo (N .sizes) (optionAt (N .loss s) (N .cost s) (N .need s) (rowAt ws (s * w) 0) h) ≡ nextLeast (planOf N) s h
-  least-row ws s h b row = least-same (N .sizes) _ _ (λ t p l. option-row ws s h b row t)
+  least-row ws s h b row = least-ext (N .sizes) _ _ (λ t p l. option-row ws s h b row t)
 
   module _ (sound : Sound N) where
     -- section s + 1 is added to its parent's row

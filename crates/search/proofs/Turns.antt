@@ -15,7 +15,7 @@ use Rattle.wire.specs.Wire.{bytesOf}
 use Rattle.search.specs.Plan.{top, leastTo}
 use Rattle.search.specs.Cells.{cellAt}
 use Rattle.search.specs.Shape.{optionAt, rowAt, «from», Picked, Raised}
-use Rattle.search.proofs.Least.{least-none, least-more, least-same}
+use Rattle.search.proofs.Least.{least-none, least-more, least-ext}
 use Rattle.search.proofs.Workspace.{cell-same, cell-other}
 
 -- an option that leaves the need, and one that does not
@@ -37,7 +37,7 @@ option-read losses costs ws at need row stride h t l k v el ek ev b =
 pub least-rows : (loss cost : ℕ → ℕ) (need n h : ℕ) (v w : ℕ → ℕ → ℕ) → ((t x : ℕ) → v t x ≡ w t x) →
     leastTo n (optionAt loss cost need v h) ≡ leastTo n (optionAt loss cost need w h)
 least-rows loss cost need n h v w e =
-    least-same n (optionAt loss cost need v h) (optionAt loss cost need w h)
+    least-ext n (optionAt loss cost need v h) (optionAt loss cost need w h)
     (λ t a b. ap (λ (k : ℕ). cond (leb (loss t + need) h) (cost t + k) top) (e t (h - loss t)))
 
 pub picked-none : (f : ℕ → ℕ) → Picked 0 f top 0

@@ -1,11 +1,11 @@
 -- What the contracts of the search say.
 -- Assumes nothing.
 use mathlib.Core.Path.{_≡_}
-use mathlib.Core.Bool.{Bool, true, false, cond}
+use mathlib.Core.Bool.{cond}
 use mathlib.Core.List.{List}
-use Prim.Native.Nat.{ℕ, suc, _+_, _-_, _*_, _≤_, _<_, min}
+use Prim.Native.Nat.{ℕ, _+_, _-_, _*_, _≤_, _<_, min}
 use lib.Dec.{leb, ltb}
-use lib.ListN.{length, getD, take}
+use lib.ListN.{length, getD}
 use Rattle.search.specs.Net.{Net, Suits, Best, costOf, requiredOf}
 use Rattle.search.specs.Plan.{top, leastTo, cell, planOf}
 use Rattle.search.specs.Cells.{cellAt}

@@ -9,8 +9,7 @@ use rows::TOP;
 use rows::fill;
 ghost use mathlib.Core.Path.{_≡_};
 ghost use mathlib.Core.Bool.{true, false};
-ghost use Prim.Native.Nat.{_≤_, _<_};
-ghost use lib.ListN.{length, take};
+ghost use lib.ListN.{take};
 ghost use Rattle.search.specs.Shape.{netOf, Sound, Spacious, Found, None};
 
 // Whether a list suits, and one of least cost: the cost, its required head, and its sizes, section s at place s - 1.

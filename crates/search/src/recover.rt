@@ -4,9 +4,8 @@ use crate::rows::cheapest;
 use crate::rows::wide8;
 use crate::rows::wide32;
 ghost use mathlib.Core.Path.{_≡_};
-ghost use Prim.Native.Nat.{_+_, _*_, _≤_, _<_};
-ghost use lib.ListN.{length, take};
-ghost use Rattle.search.specs.Net.{requiredOf};
+ghost use Prim.Native.Nat.{_<_, max};
+ghost use lib.ListN.{take};
 ghost use Rattle.search.specs.Plan.{top, cell, planOf};
 ghost use Rattle.search.specs.Shape.{netOf, Sound, Spacious, Found, Holds};
 
@@ -14,6 +13,12 @@ ghost use Rattle.search.specs.Shape.{netOf, Sound, Spacious, Found, Hold
 pub struct Recovered {
     pub head: usize,
     pub sizes: [u8; 63],
+}
+
+fn greater(a: usize, b: usize) -> usize
+    ensures { λ r. ⌜ r ≡ max a b ⌝ }
+{
+    if a < b { b } else { a }
 }
 
 // From the first section to the last each takes a cheapest size at the head that its parent's end has.
@@ -52,9 +57,7 @@ pub fn recover(
         let here = above - wide32(losses[at + t]);
         list[s] = t as u8;
         heads[q] = here;
-        if required < head - here + need {
-            required = head - here + need;
-        }
+        required = greater(required, head - here + need);
         s = q;
     }
     Recovered {

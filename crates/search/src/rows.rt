@@ -4,7 +4,7 @@ use crate::cells::clear;
 use crate::cells::put_cell;
 ghost use mathlib.Core.Path.{_≡_};
 ghost use Prim.Native.Nat.{_+_, _*_, _≤_, _<_, min};
-ghost use lib.ListN.{length, getD};
+ghost use lib.ListN.{length};
 ghost use Rattle.search.specs.Plan.{top, leastTo};
 ghost use Rattle.search.specs.Shape.{netOf, Sound, optionAt, rowAt, «from», Picked, Raised, Holds};
 

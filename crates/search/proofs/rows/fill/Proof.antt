@@ -1,7 +1,7 @@
 -- `search::rows::fill` meets its contract: each turn adds a section to its parent's row.
 -- Assumes nothing.
 use mathlib.Core.Path.{_≡_, refl}
-use Prim.Native.Nat.{ℕ, _+_, _-_, _*_, _≤_, _<_}
+use Prim.Native.Nat.{_≤_, _<_}
 use native.Mathlib.Omega.{arith}
 use borrow.Author.Needs.{needs}
 use lib.ListN.{length}
@@ -31,7 +31,7 @@ mul-raise : tie.Need-mul-raise Inv-loop μ-loop
 mul-raise c =
     let g = c .before .before .before in
     let b = g .before .before .before .before .before .before in
-    omega (arith, row-fits (g .loop .s) (b .args .sections) (b .args .width) (g .loop .inv .0), b .pre .2, b .good .0)
+    omega (arith, row-fits (g .loop .s) (b .args .sections) (b .args .width) (g .loop .inv .0))
 
 -- the parent's number is less
 parent-low : (c : tie.After-wide8 Inv-loop μ-loop) → c .wide8 .result < c .before .before .before .before .before .before .loop .s
@@ -44,16 +44,16 @@ mul-raise-2 : tie.Need-mul-raise-2 Inv-loop μ-loop
 mul-raise-2 c =
     let g = c .before .before .before .before .before .before in
     let b = g .before .before .before .before .before .before in
-    omega (arith, row-fits (c .wide8 .result) (b .args .sections) (b .args .width) (omega (arith, parent-low c)), b .pre .2, b .good .0)
+    omega (arith, row-fits (c .wide8 .result) (b .args .sections) (b .args .width) (omega (arith, parent-low c)))
 
 raise-requires : tie.Need-raise-requires Inv-loop μ-loop
 raise-requires c κs =
     let g = c .before .before .before .before .before .before in
     let b = g .before .before .before .before .before .before in (
-      omega (arith, b .pre .0 .few, b .pre .0 .sizes),
-      omega (arith, c .before .before .before .wide32 .ensures .1),
+      omega arith,
+      omega arith,
       rows-apart (c .wide8 .result) (g .loop .s) (b .args .width) (parent-low c),
-      omega (arith, row-fits (g .loop .s) (b .args .sections) (b .args .width) (g .loop .inv .0), b .pre .2, g .loop .inv .1, g .before .before .before .clear .ensures .0),
+      omega (arith, row-fits (g .loop .s) (b .args .sections) (b .args .width) (g .loop .inv .0)),
     )
 
 loop-again : tie.Need-loop-again Inv-loop μ-loop
@@ -63,16 +63,16 @@ loop-again c =
     let g = d .before .before .before .before .before .before in
     let b = g .before .before .before .before .before .before in (
       omega arith,
-      omega (arith, g .loop .inv .1, r .raise .ensures .0),
+      omega arith,
       fill-turn (net b) (λ s t. refl) (b .args .width) (b .pre .0) (g .loop .ws) (r .raise .last .0) (g .loop .s) (d .wide8 .result) (d .before .before .before .wide32 .result)
-          (d .before .before .before .before .before .loop-test .taken) (g .loop .inv .0) (omega (arith, b .pre .1))
+          (d .before .before .before .before .before .loop-test .taken) (g .loop .inv .0) (omega arith)
           (d .wide8 .ensures .0) (d .before .before .before .wide32 .ensures .0) (g .loop .inv .2) (r .raise .ensures .1),
     )
 
 returns : tie.Need-returns Inv-loop μ-loop
 returns c =
-    let e : c .before .loop .s ≡ 0 = omega (arith, c .loop-test .left) in
-    (omega (arith, c .before .loop .inv .1, c .before .before .before .before .clear .ensures .0), rw e at (c .before .loop .inv .2))
+    let e : c .before .loop .s ≡ 0 = omega arith in
+    (omega arith, rw e at (c .before .loop .inv .2))
 
 pub fill-spec : {M : Type 1} → statement M
 fill-spec =
