@@ -16,10 +16,6 @@ pub least-more : (n : ℕ) (f : ℕ → ℕ) → leastTo (suc n) f ≡ min (leas
 unfolding leastTo
 least-more n f = refl
 
-pub least-top : (n : ℕ) (f : ℕ → ℕ) → leastTo n f ≤ top
-least-top zero f = omega (arith, least-none f)
-least-top (suc n) f = omega (arith, least-more n f, least-top n f)
-
 -- functions with the same values have the same least
 pub least-ext : (n : ℕ) (f g : ℕ → ℕ) → ((t : ℕ) → 0 < t → t ≤ n → f t ≡ g t) → leastTo n f ≡ leastTo n g
 least-ext zero f g e = least-none f ∙ sym (least-none g)

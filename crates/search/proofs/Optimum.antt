@@ -1,5 +1,4 @@
--- Heads as the states of a plan: a list that suits is one with which all sections serve, and the other way round. So sizes whose potential is the pump's
--- cell at each section are a list of least cost, and no list suits where the pump's cell is the mark.
+-- With heads as states the lists that suit are those with which all sections serve: a Good one is Best, and none suits where the pump's cell is the mark.
 -- Assumes nothing.
 use mathlib.Core.Path.{_≡_}
 use mathlib.Core.Logic.{⊎-elim}

@@ -1,6 +1,4 @@
--- What the rows of a plan say. The potential at s, for sizes and for states of which section s is the last, is the cost of the sizes of 1 .. s plus
--- the cells of 0 .. s, after all sections above s, at their states. From s to s + 1 it never falls where s + 1 may take its size, and it stays where s + 1
--- takes a cheapest one. At 0 it is the pump's cell and at the last section the cost of all, so that the pump's cell is the least cost.
+-- The pump's cell of a plan is the least cost of sizes with which all sections serve.
 -- Assumes nothing.
 use mathlib.Core.Path.{_≡_, refl, sym, ap, _∙_}
 use mathlib.Core.Logic.{⊎-elim}
@@ -15,8 +13,17 @@ use Rattle.search.specs.Plan.{Plan, top, option, cheapest, added, cell}
 use Rattle.search.proofs.Least.{least-le}
 use Rattle.search.proofs.Sums.{sum-nothing, sum-swap}
 
+-- The proof follows one number from the pump to the last section. The potential at s is the cost of the sizes of 1 .. s plus the cells of 0 .. s, after
+-- all sections above s, at the states of 0 .. s. At 0 it is the pump's cell, and at the last section it is the cost of all sizes.
+-- From s to s + 1 it never falls, whatever size section s + 1 may take, and it stays where section s + 1 takes a cheapest one.
+
+-- an option below the mark is of a size that the section may take
+option-real : (b : Bool) (v : ℕ) → cond b v top < top → b ≡ true
+option-real true v m = refl
+option-real false v m = absurd (omega arith)
+
 module _ {X : Type 0} (P : Plan X) where
-  -- the cells of the last section, and from a section to the one below it: the parent's row is raised, and no other row changes
+  -- after no section all cells are 0; section s + 1 raises its parent's row and changes no other
   pub cell-last : (p : ℕ) (x : X) → cell P (P .sections) p x ≡ 0
   unfolding cell
   cell-last p x = rw (sub-self (P .sections))
@@ -29,7 +36,7 @@ module _ {X : Type 0} (P : Plan X) where
       let d : P .sections - k ≡ suc s = omega arith in
       rw (e, d)
 
-  -- the least cost of section s and of all below it at the state x
+  -- the least cost of section s and of all below it, at the state x of its parent's end
   abbrev pub nextLeast : ℕ → X → ℕ
   nextLeast s x = cheapest P s (cell P s s) x
 
@@ -40,7 +47,7 @@ module _ {X : Type 0} (P : Plan X) where
   pub cell-other : (s p : ℕ) (x : X) → s < P .sections → (p ≡ P .parent (suc s) → ⊥) → cell P s p x ≡ cell P (suc s) p x
   cell-other s p x l n = cell-step s p x l ∙ rw (ne-eqb p (P .parent (suc s)) n)
 
-  -- with the sizes z and the states x section s may take its size at its parent's state, and hands on its own
+  -- with the sizes z and the states x section s may take its size at its parent's state, and its own state follows from the two
   pub record Serves (z : ℕ → ℕ) (x : ℕ → X) (s : ℕ) : Type 0 where
     pub low : 0 < z s
     pub high : z s ≤ P .sizes
@@ -80,7 +87,7 @@ module _ {X : Type 0} (P : Plan X) where
     cell-part : cell P s (P .parent (suc s)) (x (P .parent (suc s))) ≤ waiting x s s
     cell-part = sum-at (suc s) (suc (P .parent (suc s))) (λ q. cell P s (pred q) (x (pred q))) (omega arith) q
 
-    -- under the mark nothing is cut off
+    -- a sum below the mark has no cell that was capped
     waiting-eq : waiting x s s < top → waiting x s s ≡ waiting x s (suc s) + nextLeast (suc s) (x (P .parent (suc s)))
     waiting-eq m = omega (arith, waiting-swap, cell-part, cell-parent s (x (P .parent (suc s))) l)
 
@@ -106,11 +113,6 @@ module _ {X : Type 0} (P : Plan X) where
     pub high : t ≤ P .sizes
     pub least : option P s (cell P s s) x t ≡ nextLeast s x
 
-  -- an option below the mark is of a size that the section may take
-  option-real : (b : Bool) (v : ℕ) → cond b v top < top → b ≡ true
-  option-real true v m = refl
-  option-real false v m = absurd (omega arith)
-
   module _ {s : ℕ} {x : X} {t : ℕ} (c : Cheap s x t) (m : nextLeast s x < top) where
     pub cheap-ok : P .ok s t x ≡ true
     cheap-ok = option-real (P .ok s t x) (P .cost s t + cell P s s (P .next s t x)) (rw (c .least) m)
@@ -118,7 +120,7 @@ module _ {X : Type 0} (P : Plan X) where
     cheap-is : P .cost s t + cell P s s (P .next s t x) ≡ nextLeast s x
     cheap-is = rw cheap-ok at (c .least)
 
-  -- the sections 1 .. s serve, from the state a at the pump on, and their potential is the pump's cell
+  -- the state at the pump is a, the sections 1 .. s serve, and the potential at s is the pump's cell
   pub record Good (a : X) (z : ℕ → ℕ) (x : ℕ → X) (s : ℕ) : Type 0 where
     pub start : x 0 ≡ a
     pub serves : (j : ℕ) → 0 < j → j ≤ s → Serves z x j
@@ -126,7 +128,13 @@ module _ {X : Type 0} (P : Plan X) where
 
   -- at the pump the potential is its cell
   none-yet : (z : ℕ → ℕ) (x : ℕ → X) → potential z x 0 ≡ cell P 0 0 (x 0)
-  none-yet z x = omega (arith, sum-none (λ j. P .cost j (z j)), sum-more 0 (λ q. cell P 0 (pred q) (x (pred q))), sum-none (λ q. cell P 0 (pred q) (x (pred q))))
+  none-yet z x =
+      omega (
+        arith,
+        sum-none (λ j. P .cost j (z j)),
+        sum-more 0 (λ q. cell P 0 (pred q) (x (pred q))),
+        sum-none (λ q. cell P 0 (pred q) (x (pred q))),
+      )
 
   pub good-none : (a : X) (z : ℕ → ℕ) (x : ℕ → X) → x 0 ≡ a → Good a z x 0
   good-none a z x e =
@@ -197,6 +205,7 @@ module _ {X : Type 0} (P : Plan X) where
           );
         }
 
+    -- by never-falls at each section
     climbs : (z : ℕ → ℕ) (x : ℕ → X) → ((s : ℕ) → 0 < s → s ≤ P .sections → Serves z x s) →
         (s : ℕ) → s ≤ P .sections → potential z x 0 ≤ potential z x s
     climbs z x all zero l = omega arith

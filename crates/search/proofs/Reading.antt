@@ -1,4 +1,4 @@
--- The sizes as they are read back from the rows: the sections 1 .. s have theirs, the heads at their ends are known, and so is what these ends ask of the pump.
+-- The sizes read back from the rows, one section more at a time, with the heads at the ends and the greatest head that these ask of the pump.
 -- Assumes nothing.
 use mathlib.Core.Path.{_≡_, refl, sym, _∙_}
 use mathlib.Core.List.{List}
@@ -16,13 +16,14 @@ use Rattle.search.proofs.Potential.{Good, good-none, good-ext, good-rea
 use Rattle.search.proofs.Optimum.{ok-fits, serve-head, cost-of, best-of}
 use Rattle.search.proofs.Steps.{picked-cheap}
 
+-- what has been read back for the sections 1 .. s
 pub record Stands (N : Net) (a : ℕ) (list heads : List ℕ) (required s : ℕ) : Type 0 where
   pub list-long : length list ≡ 63
   pub heads-long : length heads ≡ 64
   pub good : Good (planOf N) a (sizeOf list) (λ j. getD heads j 0) s
   pub asked : required ≡ greatestTo s (λ j. a - getD heads j 0 + N .need j)
 
--- size t for section q at the head h of its parent's end
+-- size t is a cheapest one for section q at the head h of its parent's end, and loses no more than that
 pub record Taken (N : Net) (q h t : ℕ) : Type 0 where
   pub cheap : Cheap (planOf N) q h t
   pub fits : N .loss q t ≤ h
@@ -43,7 +44,8 @@ module _ (N : Net) (sound : Sound N) (a : ℕ) where
     stands-low k j l =
         omega (arith, serve-head N (sound .lower) a (sizeOf list) (λ j. getD heads j 0) (st .good .start) s k (st .good .serves) j l)
 
-    pub stands-more : (t v r : ℕ) → s < N .sections → cell (planOf N) 0 0 a < top → Cheap (planOf N) (suc s) (getD heads (N .parent (suc s)) 0) t →
+    -- section s + 1 takes a cheapest size
+    stands-more : (t v r : ℕ) → s < N .sections → cell (planOf N) 0 0 a < top → Cheap (planOf N) (suc s) (getD heads (N .parent (suc s)) 0) t →
         v ≡ getD heads (N .parent (suc s)) 0 - N .loss (suc s) t → r ≡ max required (a - v + N .need (suc s)) →
         Stands N a (set list s t) (set heads (suc s) v) r (suc s)
     stands-more t v r l c ch ev er =
@@ -53,13 +55,14 @@ module _ (N : Net) (sound : Sound N) (a : ℕ) where
         let size : sizeOf (set list s t) (suc s) ≡ t = rw (one, getD-set-same list s t 0 (omega (arith, st .list-long))) in
         let here : getD (set heads (suc s) v) (suc s) 0 ≡ v = getD-set-same heads (suc s) v 0 (omega (arith, st .heads-long)) in
         let kept : (j : ℕ) → j ≤ s → getD (set heads (suc s) v) j 0 ≡ getD heads j 0 = λ j b. getD-set-other heads (suc s) j v 0 (λ e. omega arith) in
-        let g = good-ext (planOf N) (sound .lower) a (sizeOf list) (sizeOf (set list s t)) (λ j. getD heads j 0) (λ j. getD (set heads (suc s) v) j 0) s (omega arith)
-        (λ j p b. getD-set-other list s (j - 1) t 0 (λ e. omega arith)) kept (st .good) in
+        let g = good-ext (planOf N) (sound .lower) a (sizeOf list) (sizeOf (set list s t)) (λ j. getD heads j 0) (λ j. getD (set heads (suc s) v) j 0) s
+        (omega arith) (λ j p b. getD-set-other list s (j - 1) t 0 (λ e. omega arith)) kept (st .good) in
         let up : getD (set heads (suc s) v) (N .parent (suc s)) 0 ≡ getD heads (N .parent (suc s)) 0 = kept (N .parent (suc s)) (omega arith) in
         record {
           list-long = simp length-set (st .list-long);
           heads-long = simp length-set (st .heads-long);
-          good = good-more (planOf N) (sound .lower) a (sizeOf (set list s t)) (λ j. getD (set heads (suc s) v) j 0) s l c g (rw (up, size) ch) (rw (here, up, size) ev);
+          good = good-more (planOf N) (sound .lower) a (sizeOf (set list s t)) (λ j. getD (set heads (suc s) v) j 0) s l c g
+              (rw (up, size) ch) (rw (here, up, size) ev);
           asked =
               er ∙
               rw (
@@ -100,7 +103,7 @@ module _ (N : Net) (sound : Sound N) (a : ℕ) where
         let cheap = picked-cheap N marked w sound ws hold (s + 1) (getD heads p 0) c t (omega arith) (omega arith) k real (rw en at pick) in
         record { cheap = cheap; fits = omega (arith, ok-fits N (s + 1) t (getD heads p 0) (cheap-ok (planOf N) cheap real)) }
 
-    -- the same as stands-more with the numbers of the code
+    -- the same with the numbers that the code has read
     pub stands-turn : (t p need l r : ℕ) → s < N .sections → cell (planOf N) 0 0 a < top → Taken N (s + 1) (getD heads p 0) t →
         p ≡ N .parent (s + 1) → need ≡ N .need (s + 1) → l ≡ N .loss (s + 1) t → r ≡ max required (a - (getD heads p 0 - l) + need) →
         Stands N a (set list s t) (set heads (s + 1) (getD heads p 0 - l)) r (s + 1)

@@ -1,4 +1,4 @@
--- The rows as they are filled from the last section to the first, and the sizes as they are read back from the first to the last: one section more.
+-- The rows of the workspace hold what the plan says, one section more at a time, and a size that is picked from them is a cheapest one.
 -- Assumes nothing.
 use mathlib.Core.Path.{_≡_, sym, ap, _∙_}
 use mathlib.Core.Logic.{⊎-elim}
@@ -56,36 +56,43 @@ module _ (N : Net) (marked : (s t : ℕ) → N .allowed s t ≡ ltb (N .loss s t
 
   module _ (sound : Sound N) where
     -- section s + 1 is added to its parent's row
-    holds-more : (ws ws′ : List ℕ) (s : ℕ) → s < N .sections → w ≤ top → Holds N w ws (suc s) →
-        Raised ws ws′ (N .parent (suc s) * w) w
-        (λ h. leastTo (N .sizes) (optionAt (N .loss (suc s)) (N .cost (suc s)) (N .need (suc s)) (rowAt ws (suc s * w) 0) h)) →
-        Holds N w ws′ s
-    holds-more ws ws′ s l k hold r =
-        let q = sound .lower (suc s) (omega arith) l in
-        record {
-          at = λ p h a b. ⊎-elim
-              (λ e. rw e
-              (r .within h b ∙
-              rw (hold .at (N .parent (suc s)) h (omega arith) b, least-row ws (suc s) h (omega arith) (λ x m. hold .at (suc s) x l (omega arith)))
-              (sym (cell-parent (planOf N) s h l))))
-              (λ n. ⊎-elim
-              (λ m. r .below (p * w + h) (omega (arith, rows-apart p (N .parent (suc s)) w m)))
-              (λ m. r .above (p * w + h) (omega (arith, rows-apart (N .parent (suc s)) p w (omega arith))))
-              (lt-or-ge p (N .parent (suc s))) ∙
-              hold .at p h a b ∙
-              sym (cell-other (planOf N) s p h l n))
-              (eq-or-ne p (N .parent (suc s)));
-        }
+    module _ (ws ws′ : List ℕ) (s : ℕ) (l : s < N .sections) (k : w ≤ top) (hold : Holds N w ws (suc s))
+        (r : Raised ws ws′ (N .parent (suc s) * w) w
+        (λ h. leastTo (N .sizes) (optionAt (N .loss (suc s)) (N .cost (suc s)) (N .need (suc s)) (rowAt ws (suc s * w) 0) h))) where
+      parent-holds : (h : ℕ) → h < w → cellAt ws′ (N .parent (suc s) * w + h) ≡ cell (planOf N) s (N .parent (suc s)) h
+      parent-holds h b =
+          r .within h b ∙
+          rw (
+            hold .at (N .parent (suc s)) h (omega (arith, sound .lower (suc s) (omega arith) l)) b,
+            least-row ws (suc s) h (omega arith) (λ x m. hold .at (suc s) x l (omega arith)),
+          )
+          (sym (cell-parent (planOf N) s h l))
+
+      other-holds : (p h : ℕ) → p ≤ N .sections → h < w → (p ≡ N .parent (suc s) → ⊥) → cellAt ws′ (p * w + h) ≡ cell (planOf N) s p h
+      other-holds p h a b n =
+          ⊎-elim
+          (λ m. r .below (p * w + h) (omega (arith, rows-apart p (N .parent (suc s)) w m)))
+          (λ m. r .above (p * w + h) (omega (arith, rows-apart (N .parent (suc s)) p w (omega arith))))
+          (lt-or-ge p (N .parent (suc s))) ∙
+          hold .at p h a b ∙
+          sym (cell-other (planOf N) s p h l n)
+
+      holds-more : Holds N w ws′ s
+      holds-more =
+          record {
+            at = λ p h a b. ⊎-elim (λ e. rw e (parent-holds h b)) (other-holds p h a b) (eq-or-ne p (N .parent (suc s)));
+          }
 
     -- the same with the section's number as the code has it
-    pub fill-turn : (ws ws′ : List ℕ) (s p need : ℕ) → 0 < s → s ≤ N .sections → w ≤ top → p ≡ N .parent s → need ≡ N .need s → Holds N w ws s →
+    pub fill-turn : (ws ws′ : List ℕ) (s p need : ℕ) → 0 < s → s ≤ N .sections → w ≤ top → p ≡ N .parent s → need ≡ N .need s →
+        Holds N w ws s →
         Raised ws ws′ (p * w) w (λ h. leastTo (N .sizes) (optionAt (N .loss s) (N .cost s) need (rowAt ws (s * w) 0) h)) →
         Holds N w ws′ (s - 1)
     fill-turn ws ws′ zero p need a b k ep en hold r = absurd (omega arith)
     fill-turn ws ws′ (suc s) p need a b k ep en hold r =
         let e : suc s - 1 ≡ s = omega arith in rw e (holds-more ws ws′ s b k hold (rw (ep, en) at r))
 
-    -- a section's row changes no more once the sections above it are added: those below it have higher numbers
+    -- only sections with higher numbers raise a section's row, so that it is complete after these
     row-done : (d s q x : ℕ) → s + d ≡ q → q ≤ N .sections → cell (planOf N) s q x ≡ cell (planOf N) q q x
     row-done zero s q x e l = let e′ : s ≡ q = omega arith in rw e′
     row-done (suc d) s q x e l =

@@ -69,27 +69,16 @@ taken c =
     let d = c .before in
     let g = d .before .before .before .before .before in
     let b = g .before .before in
-    stands-take (net b) (b .pre .0 .0) (b .args .head) (g .loop .inv .1) (λ s t. refl) (b .args .ws .now) (b .args .width) (c .cheapest .result .cost) (c .cheapest .result .size)
-    (d .wide8 .result) (d .before .before .wide32 .result) (b .pre .1 .0) (b .pre .0 .1 .column) (omega (arith, b .pre .0 .1 .narrow))
+    stands-take (net b) (b .pre .0 .0) (b .args .head) (g .loop .inv .1) (λ s t. refl) (b .args .ws .now) (b .args .width)
+    (c .cheapest .result .cost) (c .cheapest .result .size) (d .wide8 .result) (d .before .before .wide32 .result)
+    (b .pre .1 .0) (b .pre .0 .1 .column) (omega (arith, b .pre .0 .1 .narrow))
     (d .before .before .before .before .loop-test .taken) (b .pre .1 .1) (d .wide8 .ensures .0) (d .before .before .wide32 .ensures .0) (c .cheapest .ensures)
-
-add-wide32 : tie.Need-add-wide32 Inv-loop μ-loop
-add-wide32 c = omega arith
 
 sub-here : tie.Need-sub-here Inv-loop μ-loop
 sub-here c = omega (arith, taken (c .before .before) .fits)
 
-cast-list : tie.Need-cast-list Inv-loop μ-loop
-cast-list c = omega arith
-
-array-write-list : tie.Need-array-write-list Inv-loop μ-loop
-array-write-list c = omega arith
-
 sub-greater : tie.Need-sub-greater Inv-loop μ-loop
 sub-greater c = omega (arith, head-low (c .before .before .before))
-
-add-greater : tie.Need-add-greater Inv-loop μ-loop
-add-greater c = omega arith
 
 loop-again : tie.Need-loop-again Inv-loop μ-loop
 loop-again c =
@@ -100,8 +89,9 @@ loop-again c =
     let b = g .before .before in
     let test = d .before .before .before .before .loop-test .taken in (
       omega arith,
-      stands-turn (net b) (b .pre .0 .0) (b .args .head) (g .loop .inv .1) (k .cheapest .result .size) (d .wide8 .result) (d .before .before .wide32 .result) (r .wide322 .result)
-          (c .greater .result) test (b .pre .1 .1) (taken k) (d .wide8 .ensures .0) (d .before .before .wide32 .ensures .0) (r .wide322 .ensures .0) (c .greater .ensures),
+      stands-turn (net b) (b .pre .0 .0) (b .args .head) (g .loop .inv .1) (k .cheapest .result .size) (d .wide8 .result) (d .before .before .wide32 .result)
+          (r .wide322 .result) (c .greater .result) test (b .pre .1 .1) (taken k) (d .wide8 .ensures .0) (d .before .before .wide32 .ensures .0)
+          (r .wide322 .ensures .0) (c .greater .ensures),
     )
 
 returns : tie.Need-returns Inv-loop μ-loop
@@ -114,5 +104,5 @@ recover-spec =
     tie.close
     (tie.spec Inv-loop μ-loop (λ c. search needs) loop-holds (λ c. search needs) (λ c. search needs) (λ c. search needs) (λ c. search needs)
     (λ c κs. search needs) (λ c. search needs) (λ c κs. search needs) (λ c. search needs) array-read-above mul-wide32-2 cheapest-requires
-    add-wide32 (λ c. search needs) (λ c. search needs) (λ c κs. search needs) sub-here cast-list array-write-list (λ c. search needs)
-    (λ c. search needs) sub-greater add-greater (λ c κs. search needs) (λ c. search needs) loop-again returns)
+    (λ c. omega arith) (λ c. search needs) (λ c. search needs) (λ c κs. search needs) sub-here (λ c. omega arith) (λ c. omega arith) (λ c. search needs)
+    (λ c. search needs) sub-greater (λ c. omega arith) (λ c κs. search needs) (λ c. search needs) loop-again returns)

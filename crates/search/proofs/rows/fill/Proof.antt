@@ -64,7 +64,8 @@ loop-again c =
     let b = g .before .before .before .before .before .before in (
       omega arith,
       omega arith,
-      fill-turn (net b) (λ s t. refl) (b .args .width) (b .pre .0) (g .loop .ws) (r .raise .last .0) (g .loop .s) (d .wide8 .result) (d .before .before .before .wide32 .result)
+      fill-turn (net b) (λ s t. refl) (b .args .width) (b .pre .0) (g .loop .ws) (r .raise .last .0) (g .loop .s)
+          (d .wide8 .result) (d .before .before .before .wide32 .result)
           (d .before .before .before .before .before .loop-test .taken) (g .loop .inv .0) (omega arith)
           (d .wide8 .ensures .0) (d .before .before .before .wide32 .ensures .0) (g .loop .inv .2) (r .raise .ensures .1),
     )
