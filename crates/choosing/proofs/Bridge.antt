@@ -1,0 +1,147 @@
+-- The tree that is drawn from a job and a catalogue has the same suitable lists at the same costs: document 01's words both ways.
+-- Assumes nothing.
+use mathlib.Core.Path.{_≡_, sym, ap, _∙_}
+use mathlib.Core.Logic.{⊎-elim}
+use mathlib.Core.Bool.{true, false, not}
+use mathlib.Core.List.{List}
+use Prim.Native.Nat.{ℕ, zero, suc, _+_, _-_, _≤_, _<_}
+use native.Mathlib.Nat.{eq-zero-or-pos}
+use native.Mathlib.Omega.{arith}
+use borrow.Author.Tests.{eq-eqb, not-true}
+use lib.IntN.{pos, _+ℤ_}
+use lib.ListN.{length}
+use lib.Signed.{leZ}
+use Rattle.basis.specs.Range.{within}
+use Rattle.basis.proofs.Each.{all-each, any-at, any-each}
+use Rattle.basis.proofs.Sum.{sum-ext}
+use Rattle.basis.proofs.Within.{Within, in-within}
+use Rattle.fields.specs.declared.Job.{Job}
+use Rattle.fields.specs.Fields.{countOf, sectionOf}
+use Rattle.tree.specs.Tree.{Rooted}
+use Rattle.rules.proofs.HeadBounds.{head-in}
+use Rattle.demand.specs.Demand.{Ruled}
+use Rattle.demand.proofs.Ruling.{ruled-rooted, ruled-count}
+use Rattle.catalogue.specs.Layout.{sizesOf}
+use Rattle.heads.specs.Heads.{pathOf, reachOf, greatestTo, requiredOf}
+use Rattle.heads.proofs.Loss as heads
+use Rattle.heads.proofs.Signed.{le-trans}
+use Rattle.heads.proofs.Maximum.{Reached, greatest-bound, greatest-reached}
+use Rattle.rating.specs.Losses.{sizeOf, listOk, overAt, overAny, lossesOf}
+use Rattle.rating.proofs.Named.{list-all, list-long, list-names}
+use Rattle.search.specs.Net.{Net, pathLoss, Suits}
+use Rattle.search.specs.Net as net
+use Rattle.search.proofs.Paths as tree
+use Rattle.choosing.specs.Suitable.{Suitable, priceAt, costOf}
+use Rattle.choosing.specs.Shape.{headOf, Drawn}
+use Rattle.choosing.proofs.Shifted.{met-reach, reach-met, add-mono}
+
+module _ (job : Job) (cat : List ℕ) (N : Net) (d : Drawn job cat N) (ruled : Ruled job) where
+  rooted : Rooted job
+  rooted = ruled-rooted ruled
+
+  pub lower : (s : ℕ) → 0 < s → s ≤ N .sections → N .parent s < s
+  lower s h k = let l : s ≤ countOf job = rw (← d .sections) k in rw (d .parent s h l) (rooted .lower s h l)
+
+  -- a list that names sizes, of which no section is over
+  module _ (list : List ℕ) (named : listOk job cat list ≡ true) (serves : overAny job cat list ≡ false) where
+    under : (i : ℕ) → 0 < i → i ≤ countOf job → overAt job cat (sizeOf list i) i ≡ false
+    unfolding overAny
+    under i h k = any-at (countOf job) (λ j. overAt job cat (sizeOf list j) j) serves i h k
+
+    loss-is : (i : ℕ) → 0 < i → i ≤ countOf job → N .loss i (sizeOf list i) ≡ lossesOf job cat list i
+    loss-is i h k = let w = list-names job cat list named i h k in d .loss i (sizeOf list i) h k (w .low) (w .high) (under i h k)
+
+    at-pump : pathLoss N (sizeOf list) 0 ≡ pathOf job (lossesOf job cat list) 0
+    at-pump = tree.path-pump N (sizeOf list) ∙ sym (heads.path-pump job (lossesOf job cat list))
+
+    path-upto : (n i : ℕ) → i ≤ n → i ≤ countOf job → pathLoss N (sizeOf list) i ≡ pathOf job (lossesOf job cat list) i
+    path-upto zero i h k = let z : i ≡ 0 = omega arith in rw z at-pump
+    path-upto (suc n) i h k =
+        ⊎-elim
+        (λ z. rw z at-pump)
+        (λ l.
+        let p : sectionOf job i .parent < i = rooted .lower i l k in
+        tree.path-step N lower (sizeOf list) i l (rw (d .sections) k) ∙
+        rw (loss-is i l k, d .parent i l k, path-upto n (sectionOf job i .parent) (omega arith) (omega arith))
+        (sym (heads.path-step job rooted (lossesOf job cat list) i l k)))
+        (eq-zero-or-pos i)
+
+    pub path-is : (i : ℕ) → i ≤ countOf job → pathLoss N (sizeOf list) i ≡ pathOf job (lossesOf job cat list) i
+    path-is i k = path-upto i i (omega arith) k
+
+    -- the end of section i: its free head at the delivered head, and what the search asks there
+    module _ (i : ℕ) (low : 0 < i) (high : i ≤ countOf job) where
+      pub met-of : leZ (pos (job .head .meter) +ℤ reachOf job (lossesOf job cat list) i) (pos (job .head .delivered)) ≡ true →
+          pathLoss N (sizeOf list) i + N .need i ≤ headOf job
+      unfolding reachOf
+      met-of e =
+          rw (path-is i high)
+          (reach-met (sectionOf job i .elevation) (sectionOf job i .free) (pathOf job (lossesOf job cat list) i) (job .head .meter)
+          (job .head .delivered) (N .need i) (head-in (job .head) (ruled .head) .meter) (d .need i low high) e)
+
+      pub of-met : pathLoss N (sizeOf list) i + N .need i ≤ headOf job →
+          leZ (pos (job .head .meter) +ℤ reachOf job (lossesOf job cat list) i) (pos (job .head .delivered)) ≡ true
+      unfolding reachOf
+      of-met h =
+          met-reach (sectionOf job i .elevation) (sectionOf job i .free) (pathOf job (lossesOf job cat list) i) (job .head .meter)
+          (job .head .delivered) (N .need i) (head-in (job .head) (ruled .head) .meter) (d .need i low high) (rw (path-is i high) at h)
+
+  -- document 01's words to the search's
+  pub suits-net : (list : List ℕ) → Suitable job cat list → Suits N (headOf job) list
+  unfolding requiredOf
+  suits-net list s =
+      record {
+        long = list-long job cat list (s .sizes) ∙ sym (d .sections);
+        sized = λ i h k. let w = list-names job cat list (s .sizes) i h (inside i k) in (w .low, rw (d .sizes) (w .high));
+        allowed = λ i h k. let w = list-names job cat list (s .sizes) i h (inside i k) in
+            d .allowed i (sizeOf list i) h (inside i k) (w .low) (w .high) ∙ rw (under list (s .sizes) (s .serves) i h (inside i k));
+        met = λ i h k. met-of list (s .sizes) (s .serves) i h (inside i k)
+            (le-trans (pos (job .head .meter) +ℤ reachOf job (lossesOf job cat list) i) (requiredOf job (lossesOf job cat list)) (pos (job .head .delivered))
+            (add-mono (job .head .meter) (reachOf job (lossesOf job cat list) i) (greatestTo (countOf job) (reachOf job (lossesOf job cat list)))
+            (greatest-bound (reachOf job (lossesOf job cat list)) (countOf job) i h (inside i k)))
+            (s .head));
+      }
+    where
+      inside : (i : ℕ) → i ≤ N .sections → i ≤ countOf job
+      inside i k = rw (← d .sections) k
+
+  -- and back
+  module _ (list : List ℕ) (s : Suits N (headOf job) list) where
+    outside : (i : ℕ) → i ≤ countOf job → i ≤ N .sections
+    outside i k = rw (d .sections) k
+
+    long : length list ≡ countOf job
+    long = s .long ∙ d .sections
+
+    names : (i : ℕ) → 0 < i → i ≤ countOf job → Within 1 (sizesOf cat) (sizeOf list i)
+    names i h k = let w = s .sized i h (outside i k) in record { low = w .0; high = rw (← d .sizes) (w .1) }
+
+    named : listOk job cat list ≡ true
+    named =
+        list-all job cat list long ∙
+        all-each (countOf job) (λ i. within 1 (sizesOf cat) (sizeOf list i)) (λ i h k. in-within 1 (sizesOf cat) (sizeOf list i) (names i h k))
+
+    serving : overAny job cat list ≡ false
+    unfolding overAny
+    serving =
+        any-each (countOf job) (λ i. overAt job cat (sizeOf list i) i)
+        (λ i h k. let w = names i h k in
+        not-true (overAt job cat (sizeOf list i) i) (sym (d .allowed i (sizeOf list i) h k (w .low) (w .high)) ∙ s .allowed i h (outside i k)))
+
+    pub net-suits : Suitable job cat list
+    unfolding requiredOf
+    net-suits =
+        let r : Reached (countOf job) (reachOf job (lossesOf job cat list)) = greatest-reached (reachOf job (lossesOf job cat list)) (countOf job) (ruled-count ruled .low) in
+        record {
+          sizes = named;
+          serves = serving;
+          head = rw (r .reached) (of-met list named serving (r .place) (r .low) (r .high) (s .met (r .place) (r .low) (outside (r .place) (r .high))));
+        }
+
+  -- the same cost
+  pub cost-net : (list : List ℕ) → listOk job cat list ≡ true → net.costOf N list ≡ costOf job cat list
+  unfolding net.costOf costOf
+  cost-net list named =
+      rw (d .sections)
+      (sum-ext (countOf job) (λ i. N .cost i (sizeOf list i)) (λ i. priceAt job cat (sizeOf list i) i)
+      (λ i h k. let w = list-names job cat list named i h k in d .cost i (sizeOf list i) h k (w .low) (w .high)))

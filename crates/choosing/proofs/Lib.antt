@@ -1,0 +1,3 @@
+pub mod Shifted
+pub mod Bridge
+pub mod Promised

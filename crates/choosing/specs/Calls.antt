@@ -1,0 +1,64 @@
+-- The choosing call: document 01, "Refused orders" 1 to 11 and 14 to 16, and the choosing result.
+-- Assumes nothing.
+use mathlib.Core.Path.{_≡_}
+use mathlib.Core.Logic.{_⊎_}
+use mathlib.Core.Bool.{Bool}
+use mathlib.Core.List.{List, [], _∷_, _++_}
+use Prim.Native.Nat.{ℕ, _+_, _*_, _≤_}
+use lib.Dec.{ltb}
+use lib.ListN.{length}
+use Rattle.basis.specs.Stored.{stored}
+use Rattle.answer.specs.Checks.{firstNo}
+use Rattle.wire.specs.Wire.{bytesOf}
+use Rattle.fields.specs.declared.Job.{Job}
+use Rattle.fields.specs.Fields.{countOf}
+use Rattle.record.specs.Record.{decode}
+use Rattle.flow.specs.Calls.{jobChecks}
+use Rattle.catalogue.specs.Rules.{catChecks}
+use Rattle.choosing.specs.Suitable.{Suitable, costOf}
+
+-- the length of a choosing result for S sections
+abbrev pub chooseLength : ℕ → ℕ
+chooseLength count = 4 + count
+
+-- the workspace: 4 × (S + 1) × (H + 1,001) bytes
+abbrev pub workLength : Job → ℕ
+workLength job = 4 * ((countOf job + 1) * (job .head .delivered + 1001))
+
+-- 1 to 9, 10, 11, 14, 15
+unfoldable pub chooseChecks : List ℕ → List ℕ → ℕ → ℕ → List (Bool × ℕ)
+chooseChecks b cat room work =
+    jobChecks b ++ (catChecks cat ++ ((ltb room (chooseLength (countOf (decode b))), 14) ∷ (ltb work (workLength (decode b)), 15) ∷ []))
+
+-- the number from 1 to 15, 0 where none of them applies
+unfoldable pub chooseNo : List ℕ → List ℕ → ℕ → ℕ → ℕ
+chooseNo b cat room work = firstNo (chooseChecks b cat room work)
+
+-- the choosing result: cost (4), then S size numbers
+unfoldable pub chooseBytes : Job → List ℕ → List ℕ → List ℕ
+chooseBytes job cat list = bytesOf 4 (costOf job cat list) ++ list
+
+-- 16: no list suits, and the result buffer is as it was
+pub record Unsuitable (job : Job) (cat before after : List ℕ) (n : ℕ) : Type 0 where
+  pub number : n ≡ 16
+  pub none : (y : List ℕ) → Suitable job cat y → ⊥
+  pub kept : after ≡ before
+
+-- a result: one list stands behind cost and sizes; it suits, and every list that suits costs at least as much
+pub record Cheapest (job : Job) (cat before after : List ℕ) (n : ℕ) : Type 0 where
+  pub number : n ≡ 0
+  pub list : List ℕ
+  pub suits : Suitable job cat list
+  pub least : (y : List ℕ) → Suitable job cat y → costOf job cat list ≤ costOf job cat y
+  pub written : after ≡ stored before 0 (chooseBytes job cat list)
+
+-- a number from 1 to 15, and both buffers as they were
+pub record Refused (no : ℕ) (out work out₀ work₀ : List ℕ) (n : ℕ) : Type 0 where
+  pub number : n ≡ no
+  pub kept : out ≡ out₀
+  pub untouched : work ≡ work₀
+
+-- what a call gives: the number of 1 to 15 that applies, else 16 or a result. The workspace is free after 16 and a result
+pub record Chosen (b cat out₀ work₀ out work : List ℕ) (n : ℕ) : Type 0 where
+  pub refused : (chooseNo b cat (length out₀) (length work₀) ≡ 0 → ⊥) → Refused (chooseNo b cat (length out₀) (length work₀)) out work out₀ work₀ n
+  pub chosen : chooseNo b cat (length out₀) (length work₀) ≡ 0 → Unsuitable (decode b) cat out₀ out n ⊎ Cheapest (decode b) cat out₀ out n

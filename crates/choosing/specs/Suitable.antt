@@ -1,0 +1,30 @@
+-- Document 01, "Rating and choosing": when a list of sizes suits, and what it costs.
+-- Assumes nothing.
+use mathlib.Core.Path.{_≡_}
+use mathlib.Core.Bool.{true, false}
+use mathlib.Core.List.{List}
+use Prim.Native.Nat.{ℕ, _*_}
+use lib.IntN.{pos}
+use lib.Signed.{leZ}
+use Rattle.basis.specs.Range.{sumTo}
+use Rattle.fields.specs.declared.Job.{Job}
+use Rattle.fields.specs.Fields.{countOf, sectionOf}
+use Rattle.catalogue.specs.Layout.{priceOf}
+use Rattle.heads.specs.Heads.{requiredOf}
+use Rattle.rating.specs.Losses.{sizeOf, listOk, overAny, lossesOf}
+
+pub record Suitable (job : Job) (cat list : List ℕ) : Type 0 where
+  -- each section has one of the catalogue's sizes
+  pub sizes : listOk job cat list ≡ true
+  -- every section's size serves its flow, and no velocity passes the limit
+  pub serves : overAny job cat list ≡ false
+  -- the required head is at most H
+  pub head : leZ (requiredOf job (lossesOf job cat list)) (pos (job .head .delivered)) ≡ true
+
+-- the price of size s for the length of section i, in tenths of the price unit
+unfoldable pub priceAt : Job → List ℕ → ℕ → ℕ → ℕ
+priceAt job cat s i = priceOf cat s * sectionOf job i .decimetres
+
+-- the cost of a list: the sum of price × length
+unfoldable pub costOf : Job → List ℕ → List ℕ → ℕ
+costOf job cat list = sumTo (countOf job) (λ i. priceAt job cat (sizeOf list i) i)
