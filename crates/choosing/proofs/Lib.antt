@@ -1,3 +1,5 @@
 pub mod Shifted
 pub mod Bridge
 pub mod Promised
+pub mod Placed
+pub mod Entries

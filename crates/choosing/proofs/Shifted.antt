@@ -3,13 +3,16 @@
 use mathlib.Core.Path.{_≡_, refl, sym, ap, _∙_}
 use mathlib.Core.Logic.{⊎-elim}
 use mathlib.Core.Bool.{true, false}
+use Prim.{tt}
 use Prim.Native.Nat.{ℕ, zero, suc, _+_, _-_, _≤_, _<_}
 use native.Mathlib.Omega.{arith}
+use lib.Dec.{T, leb}
 use lib.IntN.{ℤ, pos, negsuc, natAbs, subℕ, _+ℤ_}
 use lib.Signed.{leZ, nonNeg}
 use borrow.Author.Tests.{lt-ltb, le-ltb, le-leb, leb-true}
 use Rattle.basis.proofs.Split.{lt-or-ge}
-use Rattle.basis.proofs.Bools.{apart}
+use Rattle.basis.proofs.Bools.{apart, left}
+use Rattle.rules.specs.Rules.{elevationOk}
 
 -- a difference from which a number is left
 sub-over : (a b : ℕ) → b ≤ a → subℕ a b ≡ pos (a - b)
@@ -41,12 +44,12 @@ add-sub m a b =
 left-over : (a b n : ℕ) → pos n ≡ subℕ a b → n + b ≡ a
 left-over a b n e =
     ⊎-elim
-    (λ l. let z : pos n ≡ negsuc (b - suc a) = e ∙ sub-under a b l in absurd (not-negative n _ z))
+    (λ l. let z : pos n ≡ negsuc (b - suc a) = e ∙ sub-under a b l in absurd (differ n _ z))
     (λ g. omega (arith, ap natAbs (e ∙ sub-over a b g)))
     (lt-or-ge a b)
   where
-    not-negative : (n k : ℕ) → pos n ≡ negsuc k → ⊥
-    not-negative n k z = apart {t = nonNeg (pos n)} refl (ap nonNeg z)
+    differ : (n k : ℕ) → pos n ≡ negsuc k → ⊥
+    differ n k z = apart {t = nonNeg (pos n)} refl (ap nonNeg z)
 
 -- elevation, free head f, path loss p and meter loss m against the delivered head h
 pub met-reach : (elevation : ℤ) (f p m h need : ℕ) → m ≤ 1000 → pos need ≡ elevation +ℤ pos (f + 1000) →
@@ -78,3 +81,15 @@ add-mono m (pos a) (pos b) e = le-leb (m + a) (m + b) (omega (arith, leb-true a 
 add-mono m (pos a) (negsuc b) e = absurd (apart e refl)
 add-mono m (negsuc a) (pos b) e = sub-le m (suc a) (m + b) (omega arith)
 add-mono m (negsuc a) (negsuc b) e = sub-mono m a b (leb-true b a e)
+
+-- 1,000 more than an elevation in its range is not negative
+pub not-negative : (elevation : ℤ) (n : ℕ) → elevationOk elevation ≡ true → 1000 ≤ n → T (nonNeg (elevation +ℤ pos n))
+unfolding elevationOk
+not-negative (pos a) n e h = tt
+not-negative (negsuc a) n e h =
+    let low : a ≤ 999 = leb-true a 999 (left (leb a 999) (leZ (negsuc a) (pos 6000)) e) in
+    rw (sub-over n (suc a) (omega arith)) tt
+
+pub size-of : (z : ℤ) → T (nonNeg z) → pos (natAbs z) ≡ z
+size-of (pos n) t = refl
+size-of (negsuc n) t = absurd t

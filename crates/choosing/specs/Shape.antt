@@ -8,7 +8,9 @@ use lib.IntN.{pos, _+ℤ_}
 use lib.ListN.{length, getD}
 use Rattle.fields.specs.declared.Job.{Job}
 use Rattle.fields.specs.Fields.{countOf, sectionOf}
-use Rattle.catalogue.specs.Layout.{sizesOf, priceOf}
+use Rattle.demand.specs.Demand.{Accepted}
+use Rattle.catalogue.specs.Layout.{sizesOf}
+use Rattle.catalogue.specs.Shape.{Listed}
 use Rattle.rating.specs.Losses.{overAt, lossAt}
 use Rattle.search.specs.Net.{Net}
 use Rattle.search.specs.Plan.{top}
@@ -31,6 +33,35 @@ pub record Drawn (job : Job) (cat : List ℕ) (N : Net) : Type 0 where
   pub allowed : (i s : ℕ) → 0 < i → i ≤ countOf job → 0 < s → s ≤ sizesOf cat → N .allowed i s ≡ not (overAt job cat s i)
   pub loss : (i s : ℕ) → 0 < i → i ≤ countOf job → 0 < s → s ≤ sizesOf cat → overAt job cat s i ≡ false → N .loss i s ≡ lossAt job cat s i
   pub cost : (i s : ℕ) → 0 < i → i ≤ countOf job → 0 < s → s ≤ sizesOf cat → N .cost i s ≡ priceAt job cat s i
+
+-- what the table of losses holds for section i with size s: its loss, or the mark where it is over its last row or the limit
+unfoldable pub lossEntry : Job → List ℕ → ℕ → ℕ → ℕ
+lossEntry job cat i s = cond (overAt job cat s i) top (lossAt job cat s i)
+
+-- section i of an accepted job and size s of an accepted catalogue
+pub record Pair (job : Job) (cat : List ℕ) (i s : ℕ) : Type 0 where
+  pub accepted : Accepted job
+  pub listed : Listed cat
+  pub first : 0 < i
+  pub last : i ≤ countOf job
+  pub low : 0 < s
+  pub high : s ≤ sizesOf cat
+
+-- row i of a table of 13 columns has f in columns 1 to n, and the other rows are as they were
+pub record Entered (f : ℕ → ℕ) (i n : ℕ) (before after : List ℕ) : Type 0 where
+  pub long : length after ≡ 832
+  pub here : (s : ℕ) → 0 < s → s ≤ n → getD after (i * 13 + s) 0 ≡ f s
+  pub other : (j s : ℕ) → (j ≡ i → ⊥) → s < 13 → getD after (j * 13 + s) 0 ≡ getD before (j * 13 + s) 0
+
+-- rows 1 to n of such a table have f in columns 1 to m
+pub record Tabled (f : ℕ → ℕ → ℕ) (n m : ℕ) (l : List ℕ) : Type 0 where
+  pub long : length l ≡ 832
+  pub at : (i s : ℕ) → 0 < i → i ≤ n → 0 < s → s ≤ m → getD l (i * 13 + s) 0 ≡ f i s
+
+-- parents and needs at the sections' places
+pub record Ended (job : Job) (parents needs : List ℕ) : Type 0 where
+  pub parent : (i : ℕ) → 0 < i → i ≤ countOf job → getD parents i 0 ≡ sectionOf job i .parent
+  pub need : (i : ℕ) → 0 < i → i ≤ countOf job → pos (getD needs i 0) ≡ sectionOf job i .elevation +ℤ pos (sectionOf job i .free + shift)
 
 -- a list that suits at the cost c, which no list that suits undercuts
 pub record Least (job : Job) (cat : List ℕ) (c : ℕ) (list : List ℕ) : Type 0 where

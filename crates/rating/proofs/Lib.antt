@@ -1,5 +1,5 @@
 pub mod Ordering
-pub mod Loss
+pub mod LossBounds
 pub mod Named
 pub mod Upto
 pub mod Written

@@ -4,3 +4,4 @@ mod result;
 mod sections;
 
 pub use call::rate;
+pub use sections::loss;

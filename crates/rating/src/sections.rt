@@ -21,7 +21,7 @@ fn wide(x: u8) -> usize
 }
 
 // slope × length × (10 + k) / 1,000, up.
-fn loss(slope: u32, decimetres: u16, tenths: u8) -> u32
+pub fn loss(slope: u32, decimetres: u16, tenths: u8) -> u32
     requires { ⌜ (slope ≤ 65535) × (decimetres ≤ 5000) × (tenths ≤ 3) ⌝ }
     ensures { λ r. ⌜ (r ≡ lossOf slope decimetres tenths) × (r ≤ 4259775) ⌝ }
 {

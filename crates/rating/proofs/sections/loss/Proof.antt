@@ -5,7 +5,7 @@ use Prim.Native.Nat.{_+_, _*_, _≤_}
 use native.Mathlib.Omega.{arith}
 use borrow.Author.Needs.{needs}
 use Rattle.rating.specs.Losses.{lossOf}
-use Rattle.rating.proofs.Loss.{run-top, product-top, loss-top}
+use Rattle.rating.proofs.LossBounds.{run-top, product-top, loss-top}
 use Rattle.rating.proofs.sections.loss.Statement.{statement}
 use Rattle.rating.proofs.sections.loss.Tie as tie
 

@@ -1,0 +1,69 @@
+-- `choosing::options::put_options` meets its contract: rows 1 to i - 1 of both tables hold their entries.
+-- Assumes nothing.
+use mathlib.Core.Path.{_≡_}
+use Prim.Native.Nat.{_+_, _-_, _≤_, _<_}
+use native.Mathlib.Omega.{arith}
+use borrow.Author.Needs.{needs}
+use Rattle.basis.proofs.Slots.{slots-in}
+use Rattle.fields.specs.Fields.{countOf}
+use Rattle.demand.specs.Demand.{sectionFlow}
+use Rattle.demand.proofs.Ruling.{ruled-count}
+use Rattle.catalogue.specs.Layout.{sizesOf}
+use Rattle.catalogue.proofs.Listed.{listed-counts}
+use Rattle.choosing.specs.Suitable.{priceAt}
+use Rattle.choosing.specs.Shape.{lossEntry, Tabled}
+use Rattle.choosing.proofs.Placed.{tabled-start, tabled-more, tabled-end}
+use Rattle.choosing.proofs.options.put_options.Statement.{statement}
+use Rattle.choosing.proofs.options.put_options.Tie as tie
+
+abbrev Inv-loop : tie.InvT-loop
+Inv-loop job cat losses₀ costs₀ count flows i₀ losses costs i =
+    (0 < i) × (i ≤ countOf job + 1) × Tabled (lossEntry job cat) (i - 1) (sizesOf cat) losses × Tabled (λ j s. priceAt job cat s j) (i - 1) (sizesOf cat) costs
+
+abbrev μ-loop : tie.MeasureT-loop
+μ-loop job cat losses₀ costs₀ count flows i₀ losses costs i = countOf job + 1 - i
+
+few : (c : tie.Start Inv-loop μ-loop) → countOf (c .args .job) ≤ 63
+few c = ruled-count (c .pre .0 .ruled) .high
+
+loop-holds : tie.Need-loop-holds Inv-loop μ-loop
+loop-holds c = let e = c .before .before .before .pre .2 in (omega arith, omega arith, tabled-start _ _ _ (e .0), tabled-start _ _ _ (e .1))
+
+place : (c : tie.In-loop Inv-loop μ-loop) → c .before .loop .i < 64
+place c = omega (arith, few (c .before .before .before .before .before))
+
+put-row-requires : tie.Need-put-row-requires Inv-loop μ-loop
+put-row-requires c κs =
+    let at = c .before .before .before in
+    let start = at .before .before .before .before in
+    let p = start .pre in (
+      (
+        p .0,
+        p .1,
+        (omega arith, omega arith),
+        rw (at .before .flows .ensures)
+            (slots-in 64 1 (countOf (start .args .job) + 1) 0 (sectionFlow (start .args .job)) (at .loop .i) 0 (omega arith) (omega arith) (omega (arith, few start))),
+      ),
+      (at .loop .inv .2 .long, at .loop .inv .3 .long),
+    )
+
+loop-again : tie.Need-loop-again Inv-loop μ-loop
+loop-again c =
+    let at = c .before .before .before .before in
+    let thin = listed-counts (at .before .before .before .before .pre .1) .0 .high in (
+      omega arith,
+      omega arith,
+      tabled-more _ _ _ _ _ (omega (arith, thin)) (omega arith) (at .loop .inv .2) (c .put-row .ensures .0),
+      tabled-more _ _ _ _ _ (omega (arith, thin)) (omega arith) (at .loop .inv .3) (c .put-row .ensures .1),
+    )
+
+returns : tie.Need-returns Inv-loop μ-loop
+returns c =
+    let at = c .before in
+    (tabled-end _ _ _ _ _ (omega arith) (at .loop .inv .2), tabled-end _ _ _ _ _ (omega arith) (at .loop .inv .3))
+
+pub put-options-spec : {M : Type 1} → statement M
+put-options-spec =
+    tie.close
+    (tie.spec Inv-loop μ-loop (λ c. search needs) (λ c κs. search needs) loop-holds (λ c. omega (arith, place c)) place put-row-requires
+    (λ c. search needs) (λ c. search needs) loop-again returns)
