@@ -3,3 +3,4 @@ pub mod Bridge
 pub mod Promised
 pub mod Placed
 pub mod Entries
+pub mod Worked
