@@ -1,3 +1,4 @@
 pub mod Suitable
 pub mod Calls
 pub mod Shape
+pub mod OwnCase

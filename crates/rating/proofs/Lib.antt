@@ -1,3 +1,4 @@
+pub mod Inputs
 pub mod Ordering
 pub mod LossBounds
 pub mod Named

@@ -7,31 +7,30 @@ use Prim.Native.Nat.{ℕ, _≤_, _<_}
 use lib.Dec.{ltb}
 use borrow.Author.Tests.{lt-ltb, le-ltb}
 use Rattle.answer.specs.Checks.{firstNo}
-use Rattle.answer.proofs.First.{first-none, first-found, first-next, first-after, first-before}
+use Rattle.answer.proofs.First.{first-none, first-found, first-next}
 use Rattle.fields.specs.Fields.{countOf}
 use Rattle.record.specs.Record.{decode}
-use Rattle.flow.specs.Calls.{jobChecks, jobNo}
-use Rattle.flow.proofs.Accepting.{job-numbered}
-use Rattle.catalogue.specs.Rules.{catChecks, catNo}
-use Rattle.catalogue.proofs.Listed.{cat-numbered}
+use Rattle.flow.specs.Calls.{jobNo}
+use Rattle.catalogue.specs.Rules.{catNo}
 use Rattle.rating.specs.Losses.{listOk, overAny}
 use Rattle.rating.specs.Calls.{rateLength, rateChecks, rateNo}
+use Rattle.rating.proofs.Inputs.{by-job, by-cat, by-rest}
 
 module _ (b cat list : List ℕ) (room : ℕ) where
   pub rate-job : (jobNo b ≡ 0 → ⊥) → rateNo b cat list room ≡ jobNo b
-  unfolding rateNo rateChecks jobNo
-  rate-job n = first-before (jobChecks b) _ (job-numbered b) n
+  unfolding rateNo rateChecks
+  rate-job n = by-job b cat _ n
 
   module _ (job : jobNo b ≡ 0) where
     pub rate-cat : (catNo cat ≡ 0 → ⊥) → rateNo b cat list room ≡ catNo cat
-    unfolding rateNo rateChecks jobNo catNo
-    rate-cat n = first-after (jobChecks b) _ (job-numbered b) job ∙ first-before (catChecks cat) _ (cat-numbered cat) n
+    unfolding rateNo rateChecks
+    rate-cat n = by-cat b cat _ job n
 
     module _ (catalogue : catNo cat ≡ 0) where
       past : rateNo b cat list room ≡
           firstNo ((not (listOk (decode b) cat list), 12) ∷ (ltb room (rateLength (countOf (decode b))), 14) ∷ (overAny (decode b) cat list, 13) ∷ [])
-      unfolding rateNo rateChecks jobNo catNo
-      past = first-after (jobChecks b) _ (job-numbered b) job ∙ first-after (catChecks cat) _ (cat-numbered cat) catalogue
+      unfolding rateNo rateChecks
+      past = by-rest b cat _ job catalogue
 
       pub rate-list : listOk (decode b) cat list ≡ false → rateNo b cat list room ≡ 12
       rate-list e = past ∙ first-found 12 _ (rw e)

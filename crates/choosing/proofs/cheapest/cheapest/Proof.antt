@@ -1,0 +1,72 @@
+-- `choosing::cheapest::cheapest` meets its contract: the tables are a tree drawn from the job and the catalogue.
+-- Assumes nothing.
+use mathlib.Core.Path.{_≡_, refl}
+use mathlib.Core.List.{List}
+use Prim.Native.Nat.{ℕ, _+_, _≤_, _<_}
+use native.Mathlib.Omega.{arith}
+use borrow.Author.Needs.{needs}
+use lib.ListN.{length}
+use Rattle.fields.specs.declared.Job.{Job}
+use Rattle.fields.specs.Fields.{countOf}
+use Rattle.wire.specs.Wire.{byteAt}
+use Rattle.rules.proofs.HeadBounds.{HeadIn, head-in}
+use Rattle.catalogue.specs.Layout.{sizesOf}
+use Rattle.catalogue.proofs.Listed.{listed-counts}
+use Rattle.catalogue.proofs.ShapeBounds.{shape-in}
+use Rattle.search.specs.Net.{Net}
+use Rattle.search.specs.Shape.{netOf, Sound, Spacious}
+use Rattle.choosing.specs.Shape.{Drawn}
+use Rattle.choosing.proofs.Drawing.{drawn, sound}
+use Rattle.choosing.proofs.Promised.{none-suitable, least-suitable}
+use Rattle.choosing.proofs.cheapest.cheapest.Statement.{statement}
+use Rattle.choosing.proofs.cheapest.cheapest.Tie as tie
+
+head : (c : tie.Start) → HeadIn (c .args .job .head)
+head c = head-in (c .args .job .head) (c .pre .0 .ruled .head)
+
+shared-slice-read-sizes : tie.Need-shared-slice-read-sizes
+shared-slice-read-sizes c = omega (arith, shape-in _ (c .before .before .before .before .pre .1 .shape) .long)
+
+cast-sizes : tie.Need-cast-sizes
+cast-sizes c = omega (arith, listed-counts (c .before .before .before .before .pre .1) .0 .high)
+
+put-options-requires : tie.Need-put-options-requires
+put-options-requires c κs = let p = c .before .before .before .before .before .before .before .before .before .before .before .pre in (p .0, p .1, (refl, refl))
+
+module _ (c : tie.After-put-options) where
+  abbrev start : tie.Start
+  start = c .before .before .before .before .before .before .before .before .before .before .before .before
+
+  bytes : (k : ℕ) → byteAt (start .args .cat .now) k < 256
+  bytes k = omega (arith, c .before .before .before .before .before .before .before .before .before .before .before .shared-slice-known .given k)
+
+  abbrev net : Net
+  net =
+      netOf (countOf (start .args .job)) (sizesOf (start .args .cat .now)) (c .before .before .before .before .before .ends-of .result .parents) (c .before .before .before .before .before .ends-of .result .needs)
+      (c .put-options .last .1 .1 .0) (c .put-options .last .1 .1 .1 .0)
+
+  tree : Drawn (start .args .job) (start .args .cat .now) net
+  tree = drawn (start .pre .0) (start .pre .1) bytes (c .before .before .before .before .before .ends-of .ensures) (c .put-options .ensures .0) (c .put-options .ensures .1)
+
+  taken : Sound net
+  taken = sound (start .pre .0) (start .pre .1) bytes (c .before .before .before .before .before .ends-of .ensures) (c .put-options .ensures .0) (c .put-options .ensures .1)
+
+choose-requires : tie.Need-choose-requires
+choose-requires c κs =
+    let options = c .before .before .before .before .before in
+    let p = start options .pre in
+    (taken options, record { rows = p .2; column = omega arith; narrow = omega (arith, head (start options) .delivered) })
+
+returns : tie.Need-returns
+returns c =
+    let options = c .before .before .before .before .before .before .before .before in
+    let r = start options .pre .0 .ruled in
+    let found = c .before .before .choose .ensures in
+    (λ e. none-suitable (tree options) r (found .0 e), λ e. least-suitable (tree options) r (found .1 e))
+
+pub cheapest-spec : {M : Type 1} → statement M
+cheapest-spec =
+    tie.close
+    (tie.spec (λ c. search needs) shared-slice-read-sizes cast-sizes (λ c. search needs) (λ c. search needs) (λ c κs. search needs) put-options-requires
+    (λ c. omega (arith, head (c .before .before .before .before .before .before .before .before .before .before .before .before .before .before .before .before .before) .delivered)) (λ c. omega (arith, head (c .before .before .before .before .before .before .before .before .before .before .before .before .before .before .before .before .before) .delivered)) (λ c. omega (arith, head (c .before .before .before .before .before .before .before .before .before .before .before .before .before .before .before .before .before) .meter))
+    choose-requires (λ c. search needs) returns)
