@@ -1,103 +1,130 @@
+-- `choosing::call::choose` meets its contract.
+-- Assumes nothing.
+use mathlib.Core.Path.{_≡_, refl, sym, ap, _∙_}
+use Prim.Native.Nat.{ℕ, _+_, _*_, _≤_}
+use native.Mathlib.Nat.{mul-le-mul}
+use native.Mathlib.Omega.{arith}
 use borrow.Author.Needs.{needs}
+use borrow.Author.Tests.{not-true, not-false}
+use lib.ListN.{length}
+use Rattle.answer.specs.Answer.{numberOf}
+use Rattle.fields.specs.declared.Job.{Job}
+use Rattle.fields.specs.Fields.{countOf}
+use Rattle.record.specs.Record.{decode}
+use Rattle.demand.specs.Demand.{Accepted}
+use Rattle.demand.proofs.Ruling.{ruled-count}
+use Rattle.rules.proofs.HeadBounds.{head-in}
+use Rattle.flow.specs.Calls.{jobNo}
+use Rattle.flow.proofs.Accepting.{accept-fields, accept-accepted}
+use Rattle.catalogue.specs.Rules.{catNo}
+use Rattle.catalogue.proofs.Listed.{listed-of}
+use Rattle.choosing.specs.Calls.{chooseLength, workLength, chooseNo}
+use Rattle.choosing.proofs.Ordering.{choose-job, choose-cat, choose-short, choose-narrow, choose-ready}
+use Rattle.choosing.proofs.Promised.{chosen-refused, chosen-none, chosen-least}
 use Rattle.choosing.proofs.call.choose.Statement.{statement}
 use Rattle.choosing.proofs.call.choose.Tie as tie
-use Rattle.choosing.proofs.call.choose.Reads as reads
-use Rattle.choosing.proofs.call.choose.Lts as lts
-use Rattle.answer.proofs.number.Reads as number-reads
-use Rattle.catalogue.proofs.catalogue_refusal.Reads as catalogue-refusal-reads
-use Rattle.choosing.proofs.call.put_result.Reads as put-result-reads
-use Rattle.choosing.proofs.cheapest.cheapest.Reads as cheapest-reads
-use Rattle.flow.proofs.accept.Reads as accept-reads
 
-accept-requires : tie.Need-accept-requires
-accept-requires c κs = ?
-
-number-requires : tie.Need-number-requires
-number-requires c κs = ?
+-- 1 to 9
+found : (c : tie.After-number) → c .number .result ≡ jobNo (c .before .before .before .before .before .before .args .b .now)
+found c = c .number .ensures ∙ c .before .accept .ensures .0
 
 returns : tie.Need-returns
-returns c = ?
+returns c =
+    let no = c .before .before .accept .ensures .0 in
+    chosen-refused (no ∙ sym (choose-job _ _ _ _ (λ e. c .if1 .taken (found (c .before) ∙ e)))) (λ e. c .if1 .taken (c .before .number .ensures ∙ e))
 
-catalogue-refusal-requires : tie.Need-catalogue-refusal-requires
-catalogue-refusal-requires c κs = ?
+passed : (c : tie.Else1) → jobNo (c .before .before .before .before .before .before .before .args .b .now) ≡ 0
+passed c = sym (found (c .before)) ∙ c .if1 .left
 
-number-requires-2 : tie.Need-number-requires-2
-number-requires-2 c κs = ?
+fields : (c : tie.Else1) → c .before .before .accept .result .job ≡ decode (c .before .before .before .before .before .before .before .args .b .now)
+fields c = c .before .before .accept .ensures .1 ∙ accept-fields _ (passed c)
+
+accepted : (c : tie.Else1) → Accepted (c .before .before .accept .result .job)
+accepted c = rw (fields c) (accept-accepted _ (passed c))
+
+-- 10 and 11
+listing : (c : tie.After-number2) → c .number2 .result ≡ catNo (c .before .before .before .before .before .before .before .before .before .args .cat .now)
+listing c = c .number2 .ensures ∙ c .before .catalogue-refusal .ensures
 
 returns-2 : tie.Need-returns-2
-returns-2 c = ?
+returns-2 c =
+    let at = c .before in
+    chosen-refused
+    (at .before .catalogue-refusal .ensures ∙ sym (choose-cat _ _ _ _ (passed (at .before .before)) (λ e. c .if2 .taken (listing at ∙ e))))
+    (λ e. c .if2 .taken (at .number2 .ensures ∙ e))
 
-cast-count : tie.Need-cast-count
-cast-count c = ?
+listed : (c : tie.Else2) → catNo (c .before .before .before .before .before .before .before .before .before .before .args .cat .now) ≡ 0
+listed c = sym (listing (c .before)) ∙ c .if2 .left
 
-add-if3 : tie.Need-add-if3
-add-if3 c = ?
+-- 14
+count : (c : tie.Else1) → countOf (c .before .before .accept .result .job) ≡ countOf (decode (c .before .before .before .before .before .before .before .args .b .now))
+count c = ap (λ (job : Job). job .head .sections) (fields c)
 
 returns-3 : tie.Need-returns-3
-returns-3 c = ?
+returns-3 c =
+    let two = c .before .before .before in
+    let one = two .before .before .before in
+    chosen-refused (sym (choose-short _ _ _ _ (passed one) (listed two) (rw (← count one) (omega arith)))) (λ z. omega arith)
 
-add-if4 : tie.Need-add-if4
-add-if4 c = ?
+room : (c : tie.Else3) → chooseLength (countOf (decode (c .before .before .before .before .before .before .before .before .before .before .before .before .before .args .b .now))) ≤ length (c .before .before .before .before .before .before .before .before .before .before .before .before .before .args .out .now)
+room c = rw (← count (c .before .before .before .before .before .before)) (omega arith)
 
-cast-if4 : tie.Need-cast-if4
-cast-if4 c = ?
+-- 15
+space : (c : tie.Else1) → (countOf (c .before .before .accept .result .job) + 1) * (c .before .before .accept .result .job .head .delivered + 1001) ≤ 448064
+space c =
+    let r = accepted c .ruled in
+    mul-le-mul {n₂ = 64} {m₂ = 7001} (omega (arith, ruled-count r .high)) (omega (arith, head-in _ (r .head) .delivered))
 
-add-if4-2 : tie.Need-add-if4-2
-add-if4-2 c = ?
-
-mul-if4 : tie.Need-mul-if4
-mul-if4 c = ?
-
-mul-if4-2 : tie.Need-mul-if4-2
-mul-if4-2 c = ?
+needed : (c : tie.Else1) → workLength (c .before .before .accept .result .job) ≡ workLength (decode (c .before .before .before .before .before .before .before .args .b .now))
+needed c = ap workLength (fields c)
 
 returns-4 : tie.Need-returns-4
-returns-4 c = ?
+returns-4 c =
+    let three = c .before .before in
+    let two = three .before .before .before in
+    let one = two .before .before .before in
+    chosen-refused (sym (choose-narrow _ _ _ _ (passed one) (listed two) (room three) (rw (← needed one) (c .if4 .taken)))) (λ z. omega arith)
+
+ready : (c : tie.Else4) → chooseNo (c .before .before .before .before .before .before .before .before .before .before .before .before .before .before .before .args .b .now) (c .before .before .before .before .before .before .before .before .before .before .before .before .before .before .before .args .cat .now) (length (c .before .before .before .before .before .before .before .before .before .before .before .before .before .before .before .args .out .now)) (length (c .before .before .before .before .before .before .before .before .before .before .before .before .before .before .before .args .work .now)) ≡ 0
+ready c =
+    let three = c .before .before in
+    let two = three .before .before .before in
+    let one = two .before .before .before in
+    choose-ready _ _ _ _ (passed one) (listed two) (room three) (rw (← needed one) (c .if4 .left))
 
 cheapest-requires : tie.Need-cheapest-requires
-cheapest-requires c κs = ?
+cheapest-requires c κs =
+    let two = c .before .before .before .before .before .before in (accepted (two .before .before .before), listed-of _ (listed two), c .before .if4 .left)
 
-same-length : tie.Need-same-length
-same-length c = ?
-
+-- 16
 returns-5 : tie.Need-returns-5
-returns-5 c = ?
+returns-5 c =
+    let search = c .before .before .before .before in
+    let four = search .before .before in
+    let one = four .before .before .before .before .before .before .before .before in
+    chosen-none (ready four) (rw (fields one) at (search .cheapest .ensures .0 (not-true (search .cheapest .result .found) (c .if5 .taken))))
 
 put-result-requires : tie.Need-put-result-requires
-put-result-requires c κs = ?
+put-result-requires c κs =
+    let four = c .before .before .before .before .before .before .before .before in
+    let one = four .before .before .before .before .before .before .before .before in
+    (ruled-count (accepted one .ruled) .high, rw (count one) (room (four .before .before)))
 
-same-length-2 : tie.Need-same-length-2
-same-length-2 c = ?
-
-same-length-3 : tie.Need-same-length-3
-same-length-3 c = ?
-
+-- the result
 returns-6 : tie.Need-returns-6
-returns-6 c = ?
+returns-6 c =
+    let five = c .before .before .before .before .before in
+    let search = five .before .before .before .before in
+    let four = search .before .before in
+    let one = four .before .before .before .before .before .before .before .before in
+    let none = one .before .before .accept .ensures .0 ∙ passed one in
+    let least = search .cheapest .ensures .1 (not-false (search .cheapest .result .found) (five .if5 .left)) in
+    chosen-least (ready four) none (rw (fields one) at least) (c .before .before .put-result .ensures ∙ rw (count one))
 
 pub choose-spec : {M : Type 1} → statement M
 choose-spec =
     tie.close
-    (tie.spec
-    accept-requires
-    number-requires
-    returns
-    catalogue-refusal-requires
-    number-requires-2
-    returns-2
-    cast-count
-    add-if3
-    returns-3
-    add-if4
-    cast-if4
-    add-if4-2
-    mul-if4
-    mul-if4-2
-    returns-4
-    cheapest-requires
-    same-length
-    returns-5
-    put-result-requires
-    same-length-2
-    same-length-3
-    returns-6)
+    (tie.spec (λ c κs. search needs) (λ c κs. search needs) returns (λ c κs. search needs) (λ c κs. search needs) returns-2
+    (λ c. search needs) (λ c. search needs) returns-3 (λ c. search needs) (λ c. search needs) (λ c. search needs) (λ c. omega (arith, space (c .before .before .before .before .before .before .before)))
+    (λ c. omega (arith, space (c .before .before .before .before .before .before .before))) returns-4
+    cheapest-requires (λ c. search needs) returns-5 put-result-requires (λ c. search needs) (λ c. search needs) returns-6)
