@@ -6,6 +6,7 @@ ghost use Rattle.record.specs.Record.{decode};
 ghost use Rattle.job.specs.Calls.{copyNo, bufferAfter};
 ghost use Rattle.flow.specs.Calls.{flowNo, flowBytes};
 ghost use Rattle.rating.specs.Calls.{rateNo, rateBytes};
+ghost use Rattle.choosing.specs.Calls.{Chosen};
 
 // Reads a record and writes it again: 1 to 7, 14, or the record's bytes.
 #[no_mangle]
@@ -29,4 +30,12 @@ pub extern "C" fn order_rate(job: &[u8], cat: &[u8], sizes: &[u8], out: &mut [u8
     ensures { λ r. ⌜ (r ≡ rateNo (now (job .entry)) (now (cat .entry)) (now (sizes .entry)) (length (now (out .entry)))) × (now (out .exit) ≡ bufferAfter r (rateBytes (decode (now (job .entry))) (now (cat .entry)) (now (sizes .entry))) (now (out .entry))) ⌝ }
 {
     answer::number(rating::rate(job, cat, sizes, out))
+}
+
+// A list of sizes of least cost: 1 to 11, 14, 15, 16, or the choosing result.
+#[no_mangle]
+pub extern "C" fn order_choose(job: &[u8], cat: &[u8], work: &mut [u8], out: &mut [u8]) -> u32
+    ensures { λ r. ⌜ Chosen (now (job .entry)) (now (cat .entry)) (now (out .entry)) (now (work .entry)) (now (out .exit)) (now (work .exit)) r ⌝ }
+{
+    answer::number(choosing::choose(job, cat, work, out))
 }
