@@ -9,7 +9,7 @@ use lib.IntN.{ℤ, pos, negsuc}
 -- n in decimal, without leading zeros; at most so many digits
 unfoldable pub digits : ℕ → ℕ → List ℕ
 digits zero n = []
-digits (suc most) n = cond (ltb n 10) (48 + n ∷ []) (digits most (n / 10) ++ (48 + n % 10 ∷ []))
+digits (suc most) n = cond (ltb n 10) ((48 + n) ∷ []) (digits most (n / 10) ++ ((48 + n % 10) ∷ []))
 
 -- a figure of 32 bits has at most ten digits
 unfoldable pub decimal : ℕ → List ℕ
