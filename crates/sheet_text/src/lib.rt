@@ -1,1 +1,2 @@
 // The text of the sheet.
+mod text;
