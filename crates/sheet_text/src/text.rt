@@ -35,3 +35,25 @@ fn put_decimal(out: &mut [u8], at: usize, n: u32) -> usize
     let last = put_decimal(out, at, n / 10);
     put_byte(out, last, (48 + n % 10) as u8)
 }
+
+// A space and a figure.
+pub fn put_figure(out: &mut [u8], at: usize, n: u32) -> usize
+    requires { ⌜ at + 11 ≤ length (now out) ⌝ }
+    ensures { λ r. ⌜ Wrote 11 (now (out .entry)) (now (out .exit)) at r (32 ∷ decimal n) ⌝ }
+{
+    let next = put_byte(out, at, b' ');
+    put_decimal(out, next, n)
+}
+
+// The same with a minus sign where it is negative: from its bits, which are then 2 to the 32 more.
+pub fn put_signed(out: &mut [u8], at: usize, z: i32) -> usize
+    requires { ⌜ at + 12 ≤ length (now out) ⌝ }
+    ensures { λ r. ⌜ Wrote 12 (now (out .entry)) (now (out .exit)) at r (32 ∷ signedDecimal z) ⌝ }
+{
+    let bits = heads::bits32(z) as u64;
+    if bits < 2147483648 {
+        return put_figure(out, at, bits as u32);
+    }
+    let next = put_word(out, at, b" -");
+    put_decimal(out, next, (4294967296 - bits) as u32)
+}
