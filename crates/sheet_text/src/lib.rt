@@ -1,2 +1,3 @@
 // The text of the sheet.
+mod lines;
 mod text;
