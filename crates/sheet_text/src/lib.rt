@@ -1,3 +1,4 @@
 // The text of the sheet.
 mod lines;
+mod rated;
 mod text;
