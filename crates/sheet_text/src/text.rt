@@ -1,5 +1,4 @@
 // Pieces of a line: a byte, a word, and figures in decimal. Each writer answers the place after its piece.
-ghost use mathlib.Core.Path.{_≡_};
 ghost use mathlib.Core.List.{[], _∷_};
 ghost use Prim.Native.Nat.{_+_, _≤_};
 ghost use lib.ListN.{length};

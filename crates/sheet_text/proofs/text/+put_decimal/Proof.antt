@@ -3,7 +3,6 @@
 use mathlib.Core.Path.{sym, _∙_}
 use Prim.Native.Nat.{ℕ, _<_}
 use native.Mathlib.Omega.{arith}
-use borrow.Author.Needs.{needs}
 use borrow.Fn.Kinds.{In}
 use borrow.Fn.PlainCycle.{Measures, is, falls, and}
 use Rattle.sheet_text.proofs.Pieces.{wrote-then, wrote-as, wrote-within}
