@@ -5,11 +5,11 @@ use mathlib.Core.List.{List, [], _∷_, _++_}
 use Prim.Native.Nat.{ℕ, zero, suc, _+_, _-_, _*_, _≤_, _<_}
 use native.Mathlib.Omega.{arith}
 use native.Mathlib.Nat.{mul-zero, mul-suc}
-use lib.ListN.{length, set, length-append}
+use lib.ListN.{length, drop, set, length-append}
 use Rattle.basis.specs.Range.{concatTo}
 use Rattle.basis.specs.Stored.{stored}
 use Rattle.basis.proofs.Concat.{concat-none, concat-more}
-use Rattle.basis.proofs.Stored.{stored-none, stored-one, stored-length, stored-next}
+use Rattle.basis.proofs.Stored.{stored-none, stored-one, stored-front, stored-length, stored-next}
 use Rattle.sheet_text.specs.Pieces.{Wrote}
 
 -- a piece that is stored where there is room for the most
@@ -60,3 +60,7 @@ module _ (w : ℕ) (f : ℕ → List ℕ) where
       let e : suc n + 1 - 1 ≡ suc n = omega arith in
       let d : suc n - 1 ≡ n = omega arith in
       rw (e, mul-suc w n, concat-more n f) (wrote-then (rw d at p) q)
+
+-- a text that stands at the front of a buffer lies within it
+pub front-within : (before x : List ℕ) {now : List ℕ} {n : ℕ} → (n ≡ length x) × (now ≡ stored before 0 x) → n ≤ length now
+front-within before x e = rw (e .0, e .1, stored-front before x, length-append x (drop (length x) before)) (omega arith)
