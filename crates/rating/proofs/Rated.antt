@@ -8,14 +8,17 @@ use lib.ListN.{getD}
 use Rattle.basis.specs.Range.{concatTo}
 use Rattle.basis.proofs.Concat.{concat-ext}
 use Rattle.basis.proofs.Slots.{slots-in}
+use Rattle.basis.proofs.Within.{Within}
 use Rattle.wire.specs.Wire.{bytesOf}
 use Rattle.fields.specs.declared.Job.{Job}
 use Rattle.fields.specs.Fields.{countOf}
 use Rattle.tree.specs.Tree.{Rooted}
+use Rattle.demand.proofs.Ruling.{ruled-count, ruled-sections}
+use Rattle.heads.specs.Shape.{Given}
 use Rattle.heads.proofs.Same.{required-same, pump-same, dictating-same}
 use Rattle.rating.specs.Losses.{sizeOf, readingOf, lossesOf}
 use Rattle.rating.specs.Calls.{headsBytes, ratedBytes, rateBytes}
-use Rattle.rating.specs.Shape.{RatedAt}
+use Rattle.rating.specs.Shape.{RatedAt, RatedJob}
 
 module _ (job : Job) (cat list : List ℕ) {v w : List ℕ} (rated : RatedAt job cat list v w) (few : countOf job ≤ 63) where
   pub velocity-at : (i : ℕ) → 0 < i → i ≤ countOf job → getD v i 0 ≡ readingOf job cat (sizeOf list i) i .velocity
@@ -45,3 +48,16 @@ module _ (job : Job) (cat list : List ℕ) {v w : List ℕ} (rated : RatedAt job
             (λ i. bytesOf 2 (readingOf job cat (sizeOf list i) i .velocity) ++ bytesOf 4 (lossesOf job cat list i))
             (λ i a h. rw (velocity-at i a h, loss-at i a h)),
       )
+
+-- what a job that is rated gives those that write it
+module _ {b cat list : List ℕ} {room : ℕ} {job : Job} {v w : List ℕ} (r : RatedJob b cat list room job v w) where
+  pub rated-count : Within 1 63 (countOf job)
+  rated-count = ruled-count (r .accepted .ruled)
+
+  pub rated-given : Given job w
+  rated-given =
+      record {
+        head = r .accepted .ruled .head;
+        sections = ruled-sections (r .accepted .ruled);
+        top = loss-small job cat list (r .at) (rated-count .high);
+      }

@@ -7,9 +7,11 @@ use mathlib.Core.List.{List}
 use Rattle.basis.specs.Slots.{slots}
 use Rattle.fields.specs.declared.Job.{Job}
 use Rattle.fields.specs.Fields.{countOf}
+use Rattle.record.specs.Record.{decode}
 use Rattle.demand.specs.Demand.{Accepted}
 use Rattle.catalogue.specs.Shape.{Listed}
 use Rattle.rating.specs.Losses.{sizeOf, listOk, readingOf, lossesOf}
+use Rattle.rating.specs.Calls.{rateLength}
 
 -- an accepted job, an accepted catalogue and a list that 12 lets pass
 pub record Rateable (j : Job) (c l : List ℕ) : Type 0 where
@@ -27,3 +29,10 @@ pub record RatedAt (job : Job) (cat list v w : List ℕ) : Type 0 where
   pub velocities : v ≡ slots 64 1 (countOf job + 1) 0 (λ i. readingOf job cat (sizeOf list i) i .velocity)
   pub losses : w ≡ slots 64 1 (countOf job + 1) 0 (lossesOf job cat list)
   pub small : (i : ℕ) → 0 < i → i < countOf job + 1 → Fitting job cat list i
+
+-- a job that is rated: the record's fields, accepted, with room for its result, and its velocities and losses
+pub record RatedJob (b cat list : List ℕ) (room : ℕ) (job : Job) (v w : List ℕ) : Type 0 where
+  pub fields : job ≡ decode b
+  pub accepted : Accepted job
+  pub fits : rateLength (countOf job) ≤ room
+  pub at : RatedAt job cat list v w

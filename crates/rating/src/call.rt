@@ -1,43 +1,66 @@
 // The rating call.
+use crate::refusal::Outcome;
+use crate::refusal::refused;
 use crate::result::put_result;
 use crate::sections::list_ok;
 use crate::sections::rate_sections;
 use answer::Answer;
 ghost use mathlib.Core.Path.{_≡_};
-ghost use Prim.Native.Nat.{_+_, _≤_};
-ghost use lib.ListN.{length, getD};
+ghost use lib.ListN.{length};
 ghost use Rattle.answer.specs.Answer.{numberOf};
 ghost use Rattle.job.specs.Calls.{bufferAfter};
 ghost use Rattle.record.specs.Record.{decode};
 ghost use Rattle.rating.specs.Calls.{rateNo, rateBytes};
+ghost use Rattle.rating.specs.Shape.{RatedJob};
+
+// What a rating comes to with a result buffer of so many bytes.
+pub fn outcome(b: &[u8], cat: &[u8], list: &[u8], room: usize) -> Outcome
+    ensures number { λ r. ⌜ numberOf (r .answer) ≡ rateNo (now (b .entry)) (now (cat .entry)) (now (list .entry)) room ⌝ }
+    ensures rated { λ r. ⌜ (numberOf (r .answer) ≡ 0 → RatedJob (now (b .entry)) (now (cat .entry)) (now (list .entry)) room (r .job) (r .velocities) (r .losses)) ⌝ }
+{
+    let accepted = flow::accept(b);
+    let answer = accepted.answer;
+    if answer::number(answer) != 0 {
+        return refused(answer);
+    }
+    let listed = catalogue::catalogue_refusal(cat);
+    if answer::number(listed) != 0 {
+        return refused(listed);
+    }
+    let job = accepted.job;
+    if !list_ok(job, cat, list) {
+        return refused(Answer::Sizes);
+    }
+    let count = job.head.sections as usize;
+    if room < 9 + 6 * count {
+        return refused(Answer::Room);
+    }
+    let rated = rate_sections(job, cat, list);
+    if rated.over {
+        return refused(Answer::Capacity);
+    }
+    let velocities = rated.velocities;
+    let losses = rated.losses;
+    Outcome {
+        answer,
+        job,
+        velocities,
+        losses,
+    }
+}
 
 // Required head, pump head, dictating section, then velocity and loss of each section; or a number and the buffer as it was.
 pub fn rate(b: &[u8], cat: &[u8], list: &[u8], out: &mut [u8]) -> Answer
     ensures { λ r. ⌜ (numberOf r ≡ rateNo (now (b .entry)) (now (cat .entry)) (now (list .entry)) (length (now (out .entry)))) × (now (out .exit) ≡ bufferAfter (numberOf r) (rateBytes (decode (now (b .entry))) (now (cat .entry)) (now (list .entry))) (now (out .entry))) ⌝ }
 {
-    let accepted = flow::accept(b);
-    let answer = accepted.answer;
+    let found = outcome(b, cat, list, out.len());
+    let answer = found.answer;
     if answer::number(answer) != 0 {
         return answer;
     }
-    let listed = catalogue::catalogue_refusal(cat);
-    if answer::number(listed) != 0 {
-        return listed;
-    }
-    let job = accepted.job;
-    if !list_ok(job, cat, list) {
-        return Answer::Sizes;
-    }
-    let count = job.head.sections as usize;
-    if out.len() < 9 + 6 * count {
-        return Answer::Room;
-    }
-    let rated = rate_sections(job, cat, list);
-    if rated.over {
-        return Answer::Capacity;
-    }
-    let velocities = rated.velocities;
-    let losses = rated.losses;
+    let job = found.job;
+    let velocities = found.velocities;
+    let losses = found.losses;
     put_result(out, job, velocities, losses);
     answer
 }

@@ -1,7 +1,10 @@
 // Rating: what a list of sizes gives an accepted job with an accepted catalogue.
 mod call;
+mod refusal;
 mod result;
 mod sections;
 
+pub use call::outcome;
 pub use call::rate;
+pub use refusal::Outcome;
 pub use sections::loss;

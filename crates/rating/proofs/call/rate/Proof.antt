@@ -1,156 +1,50 @@
 -- `rating::call::rate` meets its contract.
 -- Assumes nothing.
-use mathlib.Core.Path.{_≡_, refl, sym, ap, _∙_}
-use mathlib.Core.Bool.{true}
-use Prim.Native.Nat.{_≤_}
-use native.Mathlib.Omega.{arith}
+use mathlib.Core.Path.{_≡_, sym, _∙_}
 use borrow.Author.Needs.{needs}
-use borrow.Author.Tests.{eq-eqb, ne-eqb, not-true, not-false}
+use borrow.Author.Tests.{eq-eqb, ne-eqb}
 use lib.ListN.{length}
 use Rattle.answer.specs.Answer.{numberOf}
-use Rattle.fields.specs.declared.Job.{Job}
-use Rattle.fields.specs.Fields.{countOf}
-use Rattle.record.specs.Record.{decode}
-use Rattle.demand.specs.Demand.{Accepted}
-use Rattle.demand.proofs.Ruling.{ruled-rooted, ruled-count, ruled-sections}
-use Rattle.flow.specs.Calls.{jobNo}
-use Rattle.flow.proofs.Accepting.{accept-fields, accept-accepted}
-use Rattle.catalogue.specs.Rules.{catNo}
-use Rattle.catalogue.proofs.Listed.{listed-of}
-use Rattle.catalogue.proofs.ShapeBounds.{shape-in}
-use Rattle.rating.specs.Losses.{listOk, overAny}
-use Rattle.rating.specs.Calls.{rateLength}
-use Rattle.rating.specs.Shape.{RatedAt}
-use Rattle.rating.proofs.Ordering.{rate-job, rate-cat, rate-list, rate-short, rate-over, rate-done}
-use Rattle.rating.proofs.Rated.{velocity-thin, loss-small, result-is}
+use Rattle.demand.proofs.Ruling.{ruled-rooted}
+use Rattle.rating.specs.Shape.{RatedJob}
+use Rattle.rating.proofs.Rated.{velocity-thin, result-is, rated-count, rated-given}
 use Rattle.rating.proofs.call.rate.Statement.{statement}
 use Rattle.rating.proofs.call.rate.Tie as tie
 
--- 1 to 9
-found : (c : tie.After-number) → c .number .result ≡ jobNo (c .before .before .before .before .before .before .args .b .now)
-found c = c .number .ensures ∙ c .before .accept .ensures .0
-
 returns : tie.Need-returns
-returns c = (
-  c .before .before .accept .ensures .0 ∙ sym (rate-job _ _ _ _ (λ e. c .if1 .taken (found (c .before) ∙ e))),
-  rw (ne-eqb (numberOf (c .before .before .accept .result .answer)) 0 (λ e. c .if1 .taken (c .before .number .ensures ∙ e))),
-)
-
-passed : (c : tie.Else1) → jobNo (c .before .before .before .before .before .before .before .args .b .now) ≡ 0
-passed c = sym (found (c .before)) ∙ c .if1 .left
-
-fields : (c : tie.Else1) → c .before .before .accept .result .job ≡ decode (c .before .before .before .before .before .before .before .args .b .now)
-fields c = c .before .before .accept .ensures .1 ∙ accept-fields _ (passed c)
-
-accepted : (c : tie.Else1) → Accepted (c .before .before .accept .result .job)
-accepted c = rw (fields c) (accept-accepted _ (passed c))
-
--- 10 and 11
-listing : (c : tie.After-number2) → c .number2 .result ≡ catNo (c .before .before .before .before .before .before .before .before .before .args .cat .now)
-listing c = c .number2 .ensures ∙ c .before .catalogue-refusal .ensures
-
-returns-2 : tie.Need-returns-2
-returns-2 c =
-    let at = c .before in (
-      at .before .catalogue-refusal .ensures ∙ sym (rate-cat _ _ _ _ (passed (at .before .before)) (λ e. c .if2 .taken (listing at ∙ e))),
-      rw (ne-eqb (numberOf (at .before .catalogue-refusal .result)) 0 (λ e. c .if2 .taken (at .number2 .ensures ∙ e))),
+returns c =
+    let found = c .before .before in (
+      found .outcome .ensures .0,
+      rw (ne-eqb (numberOf (found .outcome .result .answer)) 0 (λ e. c .if1 .taken (c .before .number .ensures ∙ e))),
     )
 
-listed : (c : tie.Else2) → catNo (c .before .before .before .before .before .before .before .before .before .before .args .cat .now) ≡ 0
-listed c = sym (listing (c .before)) ∙ c .if2 .left
+-- where the code goes on, the number is 0 and the job is rated
+none : (c : tie.Else1) → numberOf (c .before .before .outcome .result .answer) ≡ 0
+none c = sym (c .before .number .ensures) ∙ c .if1 .left
 
--- 12
-list-ok-requires : tie.Need-list-ok-requires
-list-ok-requires c κs = shape-in _ (listed-of _ (listed (c .before)) .shape) .long
-
-naming : (c : tie.After-list-ok) →
-    let start = c .before .before .before .before .before .before .before .before .before .before .before .before in
-    c .list-ok .result ≡ listOk (decode (start .args .b .now)) (start .args .cat .now) (start .args .list .now)
-naming c = rw (fields (c .before .before .before .before .before)) at (c .list-ok .ensures)
-
-returns-3 : tie.Need-returns-3
-returns-3 c =
-    let two = c .before .before .before in
-    (sym (rate-list _ _ _ _ (passed (two .before .before .before)) (listed two) (sym (naming (c .before)) ∙ not-true (c .before .list-ok .result) (c .if3 .taken))), refl)
-
-named : (c : tie.Else3) →
-    let start = c .before .before .before .before .before .before .before .before .before .before .before .before .before in
-    listOk (decode (start .args .b .now)) (start .args .cat .now) (start .args .list .now) ≡ true
-named c = sym (naming (c .before)) ∙ not-false (c .before .list-ok .result) (c .if3 .left)
-
--- 14
-count : (c : tie.Else1) → countOf (c .before .before .accept .result .job) ≡ countOf (decode (c .before .before .before .before .before .before .before .args .b .now))
-count c = ap (λ (job : Job). job .head .sections) (fields c)
-
-returns-4 : tie.Need-returns-4
-returns-4 c =
-    let three = c .before .before in
-    let two = three .before .before .before in
-    let one = two .before .before .before in
-    (sym (rate-short _ _ _ _ (passed one) (listed two) (named three) (rw (← count one) (omega arith))), refl)
-
-room : (c : tie.Else4) →
-    let start = c .before .before .before .before .before .before .before .before .before .before .before .before .before .before .before in
-    rateLength (countOf (decode (start .args .b .now))) ≤ length (start .args .out .now)
-room c = rw (← count (c .before .before .before .before .before .before .before .before)) (omega arith)
-
--- 13
-rate-sections-requires : tie.Need-rate-sections-requires
-rate-sections-requires c κs =
-    let three = c .before .before in
-    let two = three .before .before .before in
-    let one = two .before .before .before in
-    record { job = accepted one; cat = listed-of _ (listed two); list = rw (fields one) (named three) }
-
-over : (c : tie.After-rate-sections) →
-    let start = c .before .before .before .before .before .before .before .before .before .before .before .before .before .before .before .before in
-    c .rate-sections .result .over ≡ overAny (decode (start .args .b .now)) (start .args .cat .now) (start .args .list .now)
-over c = rw (fields (c .before .before .before .before .before .before .before .before .before)) at (c .rate-sections .ensures .0)
-
-returns-5 : tie.Need-returns-5
-returns-5 c =
-    let four = c .before .before in
-    let three = four .before .before in
-    let two = three .before .before .before in
-    let one = two .before .before .before in
-    (sym (rate-over _ _ _ _ (passed one) (listed two) (named three) (room four) (sym (over (c .before)) ∙ c .if5 .taken)), refl)
-
--- the result
-rated : (c : tie.Else5) →
-    let start = c .before .before .before .before .before .before .before .before .before .before .before .before .before .before .before .before .before in
-    RatedAt (c .before .before .before .before .before .before .before .before .before .before .before .before .accept .result .job) (start .args .cat .now) (start .args .list .now) (c .before .rate-sections .result .velocities) (c .before .rate-sections .result .losses)
-rated c = c .before .rate-sections .ensures .1 (c .if5 .left)
+done : (c : tie.Else1) →
+    let start = c .before .before .before .before .before .before .before in
+    let found = c .before .before .outcome .result in
+    RatedJob (start .args .b .now) (start .args .cat .now) (start .args .list .now) (length (start .args .out .now)) (found .job) (found .velocities) (found .losses)
+done c = c .before .before .outcome .ensures .1 (none c)
 
 put-result-requires : tie.Need-put-result-requires
 put-result-requires c κs =
-    let five = c .before .before .before in
-    let four = five .before .before in
-    let one = four .before .before .before .before .before .before .before .before in
-    let a = accepted one in
-    let few = ruled-count (a .ruled) .high in (
-      record { head = a .ruled .head; sections = ruled-sections (a .ruled); top = loss-small _ _ _ (rated five) few },
-      rw (count one) (room four),
-      velocity-thin _ _ _ (rated five) few,
-    )
+    let r = done (c .before .before .before .before) in
+    (rated-given r, r .fits, velocity-thin _ _ _ (r .at) (rated-count r .high))
 
-returns-6 : tie.Need-returns-6
-returns-6 c =
-    let five = c .before .before .before .before .before .before in
-    let four = five .before .before in
-    let three = four .before .before in
-    let two = three .before .before .before in
-    let one = two .before .before .before in
-    let a = accepted one in
-    let size = ruled-count (a .ruled) in
-    let none = one .before .before .accept .ensures .0 ∙ passed one in
-    let whole = result-is _ _ _ (rated five) (size .high) (ruled-rooted (a .ruled)) (size .low) in (
-      none ∙ sym (rate-done _ _ _ _ (passed one) (listed two) (named three) (room four) (sym (over (five .before)) ∙ five .if5 .left)),
-      c .before .before .put-result .ensures ∙ rw (whole, fields one, eq-eqb (numberOf (one .before .before .accept .result .answer)) 0 none),
+returns-2 : tie.Need-returns-2
+returns-2 c =
+    let put = c .before .before in
+    let one = put .before .before .before .before .before in
+    let r = done one in
+    let size = rated-count r in
+    let whole = result-is _ _ _ (r .at) (size .high) (ruled-rooted (r .accepted .ruled)) (size .low) in (
+      one .before .before .outcome .ensures .0,
+      put .put-result .ensures ∙ rw (whole, r .fields, eq-eqb (numberOf (one .before .before .outcome .result .answer)) 0 (none one)),
     )
 
 pub rate-spec : {M : Type 1} → statement M
 rate-spec =
     tie.close
-    (tie.spec (λ c κs. search needs) (λ c κs. search needs) returns (λ c κs. search needs) (λ c κs. search needs) returns-2 list-ok-requires
-    returns-3 (λ c. search needs) (λ c. search needs) (λ c. search needs) returns-4 rate-sections-requires returns-5 put-result-requires
-    (λ c. search needs) returns-6)
+    (tie.spec (λ c κs. search needs) (λ c κs. search needs) returns put-result-requires (λ c. search needs) returns-2)

@@ -5,6 +5,7 @@ use mathlib.Core.Bool.{true}
 use Prim.Native.Nat.{_-_, _≤_}
 use native.Mathlib.Omega.{arith}
 use borrow.Author.Needs.{needs}
+use lib.ListN.{length}
 use Rattle.basis.specs.Range.{within, allTo}
 use Rattle.basis.proofs.Each.{all-none}
 use Rattle.fields.specs.Fields.{countOf}
@@ -20,17 +21,21 @@ abbrev μ-loop : tie.MeasureT-loop
 μ-loop cat list count sizes i₀ i = count - i
 
 returns : tie.Need-returns Inv-loop μ-loop
-returns c = sym (other-length _ _ _ (c .if1 .taken))
+returns c = sym (other-length _ _ _ (λ e. omega arith))
+
+-- where the code goes on, the list is S long
+long : (c : tie.Else1 Inv-loop μ-loop) → length (c .before .before .before .args .list .now) ≡ countOf (c .before .before .before .args .job)
+long c = omega arith
 
 returns-2 : tie.Need-returns-2 Inv-loop μ-loop
 returns-2 c =
     let at = c .before .before .before in
-    sym (no-size _ _ _ (at .before .if1 .left) (at .loop .i) (omega arith) (λ w. omega arith))
+    sym (no-size _ _ _ (long (at .before)) (at .loop .i) (omega arith) (λ w. omega arith))
 
 returns-3 : tie.Need-returns-3 Inv-loop μ-loop
 returns-3 c =
     let at = c .before .before .before .before .before in
-    sym (no-size _ _ _ (at .before .if1 .left) (at .loop .i) (omega arith) (λ w. omega arith))
+    sym (no-size _ _ _ (long (at .before)) (at .loop .i) (omega arith) (λ w. omega arith))
 
 loop-again : tie.Need-loop-again Inv-loop μ-loop
 loop-again c =
@@ -43,7 +48,7 @@ returns-4 c =
     let at = c .before in
     let start = at .before .before .before .before in
     let e : at .loop .i ≡ countOf (start .args .job) = omega arith in
-    sym (list-all _ _ _ (at .before .if1 .left) ∙ (rw e at (at .loop .inv .1)))
+    sym (list-all _ _ _ (long (at .before)) ∙ (rw e at (at .loop .inv .1)))
 
 pub list-ok-spec : {M : Type 1} → statement M
 list-ok-spec = tie.close (tie.spec Inv-loop μ-loop (λ c. search needs) (λ c. search needs) returns (λ c. (omega arith, all-none _)) (λ c. search needs) returns-2 (λ c. search needs) returns-3 (λ c. search needs) (λ c. search needs) loop-again returns-4)

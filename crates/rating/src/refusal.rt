@@ -1,0 +1,24 @@
+// What a rating comes to, and the form of a refusal.
+use answer::Answer;
+use fields::Job;
+ghost use mathlib.Core.Path.{_≡_};
+
+// The answer, and where it is a result the job with the velocities and losses at the sections' places; all zero after a refusal.
+pub struct Outcome {
+    pub answer: Answer,
+    pub job: Job,
+    pub velocities: [u32; 64],
+    pub losses: [u32; 64],
+}
+
+// A refusal.
+pub fn refused(answer: Answer) -> Outcome
+    ensures { λ r. ⌜ r .answer ≡ answer ⌝ }
+{
+    Outcome {
+        answer,
+        job: fields::blank_job(),
+        velocities: [0u32; 64],
+        losses: [0u32; 64],
+    }
+}

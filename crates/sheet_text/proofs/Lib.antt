@@ -1,0 +1,5 @@
+pub mod Pieces
+pub mod Digits
+pub mod Signs
+pub mod Figures
+pub mod Cut

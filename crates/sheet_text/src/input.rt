@@ -1,0 +1,71 @@
+// The input cut into job, catalogue and size list, and the sheet of the three.
+use crate::lines::put_refused;
+use crate::rated::put_rated;
+ghost use mathlib.Core.Path.{_≡_};
+ghost use Prim.Native.Nat.{_≤_, min};
+ghost use lib.ListN.{length};
+ghost use Rattle.basis.specs.Stored.{stored};
+ghost use Rattle.sheet_text.specs.Sheet.{recordEnd, recordOf, afterRecord, textOf, writtenText};
+ghost use Rattle.sheet_text.specs.Pieces.{Wrote};
+
+fn wide(x: u32) -> usize
+    ensures { λ r. ⌜ r ≡ x ⌝ }
+{
+    x as usize
+}
+
+fn least(a: usize, b: usize) -> usize
+    ensures { λ r. ⌜ r ≡ min a b ⌝ }
+{
+    if a < b { a } else { b }
+}
+
+// Where the record at the front ends: at its stated length, or where the input ends. Under four bytes state none.
+fn record_end(s: &[u8]) -> usize
+    ensures { λ r. ⌜ (r ≡ recordEnd (now (s .entry))) × (r ≤ length (now (s .entry))) ⌝ }
+{
+    if s.len() < 4 {
+        return s.len();
+    }
+    let stated = wide(wire::be32(s, 0));
+    least(stated, s.len())
+}
+
+// A rating's lines, or the line of a refusal. There is room for the longest result, 9 + 6 × 63 bytes.
+fn put_text(b: &[u8], cat: &[u8], list: &[u8], out: &mut [u8]) -> usize
+    requires { ⌜ 4096 ≤ length (now out) ⌝ }
+    ensures { λ r. ⌜ Wrote 4096 (now (out .entry)) (now (out .exit)) 0 r (textOf (now (b .entry)) (now (cat .entry)) (now (list .entry))) ⌝ }
+{
+    let found = rating::outcome(b, cat, list, 387);
+    let answer = found.answer;
+    let number = answer::number(answer);
+    if number != 0 {
+        return put_refused(out, 0, number);
+    }
+    let job = found.job;
+    let velocities = found.velocities;
+    let losses = found.losses;
+    put_rated(out, job, velocities, losses)
+}
+
+// The sheet of job, catalogue and size list, one after another.
+fn put_parts(read: &[u8], out: &mut [u8]) -> usize
+    requires { ⌜ 4096 ≤ length (now out) ⌝ }
+    ensures { λ r. ⌜ Wrote 4096 (now (out .entry)) (now (out .exit)) 0 r (textOf (recordOf (now (read .entry))) (recordOf (afterRecord (now (read .entry)))) (afterRecord (afterRecord (now (read .entry))))) ⌝ }
+{
+    let first = record_end(read);
+    let rest = &read[first..];
+    let second = record_end(rest);
+    put_text(&read[..first], &rest[..second], &rest[second..], out)
+}
+
+// The sheet of the first 65,536 bytes of the input, at the front of the buffer, and its length. A buffer of under 4,096 bytes gets nothing.
+pub fn sheet(input: &[u8], out: &mut [u8]) -> usize
+    ensures { λ r. ⌜ (r ≡ length (writtenText (length (now (out .entry))) (now (input .entry)))) × (now (out .exit) ≡ stored (now (out .entry)) 0 (writtenText (length (now (out .entry))) (now (input .entry)))) ⌝ }
+{
+    if out.len() < 4096 {
+        return 0;
+    }
+    let n = least(input.len(), 65536);
+    put_parts(&input[..n], out)
+}
