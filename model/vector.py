@@ -12,11 +12,17 @@ class Vector(NamedTuple):
     lines: Optional[list] = None  # by hand, lines of the answer that follow one another
 
 
+def first_number(lines):
+    """The number behind the word of an answer's first line."""
+    return int(lines[0].split(" ")[1])
+
+
 class Call(NamedTuple):
     word: str
     lines: Callable
     conditions: Callable
-    numbers: Iterable  # of its refusals
+    numbers: Iterable  # of its refusals, those that a vector has alone
+    number: Callable = first_number  # that its lines give
 
 
 def digits(data):

@@ -1,4 +1,4 @@
-"""Test vectors for job records, design flows and ratings.
+"""Test vectors for job records, design flows, ratings and sheets.
 
     python3 model/vectors.py STDIN STDOUT
 
@@ -18,6 +18,9 @@ Input, in lines:
     f HEX    a job whose flows are wanted: room (2 bytes), then the record
     p HEX HEX HEX HEX   a job to rate: room (2 bytes), the record, the
              catalogue, the size list; each but the room may be empty
+    s HEX HEX HEX   an input whose sheet is wanted: the length of the buffer
+             (4 bytes, at most 8,192), a number of zero bytes (4), and the bytes
+             that these zero bytes follow, in all at most 131,072
 A room is at most 1,000. A line has at most 2,048 bytes; the program reads its
 input in chunks, so the number of lines has no limit that vectors could reach.
 Output:
@@ -33,12 +36,14 @@ Output:
              mean` and `flows` with the flow of each section
     rate N HEX    the same for p; when N is 0 there follow `heads required pump
              dictating` and for each section `rated i velocity loss`
+    sheet N  the length of the text, and the text
 
 Every vector has its number written by hand, those of `a` and `f` in
-flow_vectors.py and those of `p` in rating_vectors.py. It is compared with the
-model (job.py, demand.py, catalogue.py, rating.py) and with the first of all
-conditions that hold (conditions.py, rating_conditions.py). Where `holds` is
-given, these are all the conditions that hold; where `lines` is given, they
+flow_vectors.py, those of `p` in rating_vectors.py and those of `s` in
+sheet_vectors.py. It is compared with the model (job.py, demand.py,
+catalogue.py, rating.py, sheet.py) and with the first of all conditions that
+hold (conditions.py, rating_conditions.py, sheet_conditions.py). Where `holds`
+is given, these are all the conditions that hold; where `lines` is given, they
 stand in the model's answer one after another.
 """
 
@@ -50,6 +55,7 @@ import conditions
 import flow_vectors
 import job
 import rating_vectors
+import sheet_vectors
 from edit import OWN, fields, head, house, people, section, stating
 from houses import (END, INNER, INNER_AND_END, TWO_ENDS, broken, chain, comb, greedy,
                     halving, star, twelve_kinds, under)
@@ -486,7 +492,7 @@ GROUPS = [
     ("writer, section counts", writer_counts), ("writer, order", writing_order),
     ("writer, places", writer_places), ("writer, values", writer_values),
     ("writer, residents", writer_residents), ("copying", copies),
-] + flow_vectors.GROUPS + rating_vectors.GROUPS
+] + flow_vectors.GROUPS + rating_vectors.GROUPS + sheet_vectors.GROUPS
 
 # The answers to the own case and to three of its copies, by hand.
 OWN_ANSWER = [
@@ -551,6 +557,7 @@ CALLS = {
     "c": Call("copy", copy_lines, conditions.of_copy, (1, 2, 3, 4, 5, 6, 7, 14)),
     **flow_vectors.CALLS,
     **rating_vectors.CALLS,
+    **sheet_vectors.CALLS,
 }
 
 
@@ -561,7 +568,7 @@ def answer(vector):
 # The checks of the vectors themselves
 
 def model_number(vector):
-    return int(answer(vector)[0].split(" ")[1])
+    return CALLS[vector.letter].number(answer(vector))
 
 
 def conditions_of(vector):
@@ -596,11 +603,15 @@ def check_room(vector):
         assert len(vector.data) >= 2 and room_of(vector.data) <= 1000, vector.name
     if vector.letter == "p":
         assert len(vector.data[0]) == 2 and room_of(vector.data[0]) <= 1000, vector.name
+    if vector.letter == "s":
+        room, zeros, data = vector.data
+        assert int.from_bytes(room, "big") <= 8192, vector.name
+        assert len(data) < 1024 and len(data) + int.from_bytes(zeros, "big") <= 131_072, vector.name
 
 
 def check_length(vector):
-    """The program takes lines of 2,048 bytes; those of `p` keep well under."""
-    assert len(input_lines(vector)[1]) < 2000 or vector.letter != "p", vector.name
+    """The program takes lines of 2,048 bytes; those of `p` and `s` keep well under."""
+    assert len(input_lines(vector)[1]) < 2000 or vector.letter not in ("p", "s"), vector.name
 
 
 def check_alone(vectors):

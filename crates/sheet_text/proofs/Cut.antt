@@ -1,6 +1,6 @@
 -- The input cut: its first bytes, the record at its front and what follows it; and the text of the parts.
 -- Assumes nothing.
-use mathlib.Core.Path.{_≡_}
+use mathlib.Core.Path.{_≡_, refl}
 use mathlib.Core.Logic.{⊎-elim}
 use mathlib.Core.List.{List, []}
 use Prim.Native.Nat.{ℕ, _-_, _≤_, _<_, min}
@@ -32,7 +32,7 @@ module _ (l : List ℕ) where
   parts-text a b e f =
       let g : b ≡ recordEnd (drop a l) = rw (to-end l a) at f in rw (to-end l a, to-end (drop a l) b, g, e)
 
-  pub read-is : take (min (length l) 65536) l ≡ readOf l
+  read-is : take (min (length l) 65536) l ≡ readOf l
   read-is =
       ⊎-elim
       (λ (lt : length l < 65536).
@@ -40,6 +40,12 @@ module _ (l : List ℕ) where
       rw (e, take-all (length l) l (omega arith), take-all 65536 l (omega arith)))
       (λ (ge : 65536 ≤ length l). let e : min (length l) 65536 ≡ 65536 = omega arith in rw e)
       (lt-or-ge (length l) 65536)
+
+  -- and those of the first 65,536 bytes
+  pub parts-sheet : let read = take (min (length l) 65536) l in
+      textOf (recordOf read) (recordOf (afterRecord read)) (afterRecord (afterRecord read)) ≡ sheetText l
+  unfolding sheetText
+  parts-sheet = rw read-is refl
 
 module _ (room : ℕ) (l : List ℕ) where
   pub written-short : room < 4096 → writtenText room l ≡ []

@@ -4,6 +4,7 @@ use crate::calls;
 use crate::hex;
 use crate::parts;
 use crate::print;
+use crate::sheets;
 use libc::STDIN_FILENO;
 
 // Answers the lines that end in the next chunk of input; false where there is none.
@@ -70,6 +71,7 @@ fn answer(line: &[u8]) {
     }
     let known = match line[0] {
         b'p' => parts::rate(&line[2..]),
+        b's' => sheets::sheet(&line[2..]),
         _ => vector(line[0], &line[2..]),
     };
     if !known {

@@ -1,5 +1,5 @@
-// Feeds the test vectors of standard input to the calls that read, write and copy a job, find its flows and rate it, and
-// prints what they answer.
+// Feeds the test vectors of standard input to the calls that read, write and copy a job, find its flows, rate it and make a
+// sheet, and prints what they answer.
 // model/vectors.py says what stands in the lines of the input and the output.
 mod calls;
 mod hex;
@@ -7,6 +7,7 @@ mod lines;
 mod parts;
 mod print;
 mod report;
+mod sheets;
 
 // Nothing says that the input ends, so the chunks are counted: at most 256 MiB are read.
 fn main() {

@@ -77,7 +77,8 @@ pub fn hex(out: &mut [u8; 4096], from: usize, bytes: &[u8]) -> usize {
     at
 }
 
-fn front(bytes: &[u8], count: usize) {
+// The first bytes, as they are.
+pub fn front(bytes: &[u8], count: usize) {
     if count <= bytes.len() {
         io::write_all(STDOUT_FILENO, &bytes[0..count]);
     }

@@ -74,7 +74,8 @@ returns-3 : tie.Need-returns-3
 returns-3 c =
     let three = c .before in
     let two = three .before .before .before in
-    refusal (ap numberOf (c .refused3 .ensures))
+    let number : numberOf (c .refused3 .result .answer) ≡ 12 = ap numberOf (c .refused3 .ensures) in
+    refusal number
     (sym (rate-list _ _ _ _ (passed (two .before .before .before)) (listed two) (sym (naming (three .before)) ∙ not-true (three .before .list-ok .result) (three .if3 .taken))))
     (λ e. omega arith)
 
@@ -92,7 +93,8 @@ returns-4 c =
     let three = c .before .before .before in
     let two = three .before .before .before in
     let one = two .before .before .before in
-    refusal (ap numberOf (c .refused4 .ensures))
+    let number : numberOf (c .refused4 .result .answer) ≡ 14 = ap numberOf (c .refused4 .ensures) in
+    refusal number
     (sym (rate-short _ _ _ _ (passed one) (listed two) (named three) (rw (← count one) (omega arith))))
     (λ e. omega arith)
 
@@ -121,7 +123,8 @@ returns-5 c =
     let three = four .before .before in
     let two = three .before .before .before in
     let one = two .before .before .before in
-    refusal (ap numberOf (c .refused5 .ensures))
+    let number : numberOf (c .refused5 .result .answer) ≡ 13 = ap numberOf (c .refused5 .ensures) in
+    refusal number
     (sym (rate-over _ _ _ _ (passed one) (listed two) (named three) (room four) (sym (over (five .before)) ∙ five .if5 .taken)))
     (λ e. omega arith)
 

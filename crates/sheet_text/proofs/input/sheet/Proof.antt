@@ -1,13 +1,14 @@
 -- `sheet_text::input::sheet` meets its contract.
 -- Assumes nothing.
-use mathlib.Core.Path.{refl, sym}
+use mathlib.Core.Path.{_≡_, refl, sym}
+use Prim.Native.Nat.{min}
 use native.Mathlib.Omega.{arith}
 use borrow.Author.Needs.{needs}
 use lib.ListN.{length}
 use lib.Seq.{length-take-le}
 use Rattle.basis.proofs.Stored.{stored-none}
-use Rattle.sheet_text.specs.Sheet.{sheetText}
-use Rattle.sheet_text.proofs.Cut.{read-is, written-short, written-long}
+use Rattle.sheet_text.proofs.Pieces.{wrote-as}
+use Rattle.sheet_text.proofs.Cut.{parts-sheet, written-short, written-long}
 use Rattle.sheet_text.proofs.input.sheet.Statement.{statement}
 use Rattle.sheet_text.proofs.input.sheet.Tie as tie
 
@@ -18,12 +19,12 @@ slice-aggregate-put-parts : tie.Need-slice-aggregate-put-parts
 slice-aggregate-put-parts c = sym (length-take-le _ _ (omega (arith, c .before .least .ensures)))
 
 returns-2 : tie.Need-returns-2
-unfolding sheetText
 returns-2 c =
     let put = c .before .before in
     let cut = put .before .before .before in
     let start = cut .before .before .before .before in
-    let p = rw (cut .least .ensures, read-is (start .args .input .now)) at (put .put-parts .ensures) in
+    let n : cut .least .result ≡ min (length (start .args .input .now)) 65536 = cut .least .ensures in
+    let p = wrote-as (rw n at (put .put-parts .ensures)) (parts-sheet (start .args .input .now)) in
     rw (written-long (length (start .args .out .now)) (start .args .input .now) (omega arith)) (omega (arith, p .place), p .text)
 
 pub sheet-spec : {M : Type 1} → statement M

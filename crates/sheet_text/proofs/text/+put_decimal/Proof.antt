@@ -1,10 +1,12 @@
 -- The proof of the cycle of calls {put_decimal}. The measure is the figure, and a tenth of it is less.
 -- Assumes nothing.
 use mathlib.Core.Path.{sym, _∙_}
-use Prim.Native.Nat.{ℕ, _<_}
+use mathlib.Core.List.{[], _∷_}
+use Prim.Native.Nat.{ℕ, _+_, _%_, _<_}
 use native.Mathlib.Omega.{arith}
 use borrow.Fn.Kinds.{In}
 use borrow.Fn.PlainCycle.{Measures, is, falls, and}
+use Rattle.sheet_text.specs.Pieces.{Wrote}
 use Rattle.sheet_text.proofs.Pieces.{wrote-then, wrote-as, wrote-within}
 use Rattle.sheet_text.proofs.Digits.{decimal-most, decimal-one, decimal-more, tenth-most}
 use Rattle.sheet_text.proofs.text.put_decimal.Reads as put-decimal
@@ -37,4 +39,5 @@ pub +put-decimal-spec : {M : Type 1} → statement M
     (λ c. omega arith)
     (λ c κs. omega (arith, c .before .before .before .put-decimal .ensures .place, tenth-most (c .before .before .before .before .before .before .before .args .n) (omega arith) (omega arith)))
     (λ c. c .before .before .put-byte2 .ensures .same ∙ c .before .before .before .before .before .before .put-decimal .ensures .same)
-    (λ c. wrote-within (wrote-as (wrote-then (c .before .before .before .before .before .before .put-decimal .ensures) (c .before .before .put-byte2 .ensures)) (sym (decimal-more _ (omega arith) (omega arith)))) (decimal-most _))
+    (λ c. let byte : Wrote 1 _ _ _ _ ((48 + c .before .before .before .before .before .before .before .before .before .before .args .n % 10) ∷ []) = c .before .before .put-byte2 .ensures in
+    wrote-within (wrote-as (wrote-then (c .before .before .before .before .before .before .put-decimal .ensures) byte) (sym (decimal-more _ (omega arith) (omega arith)))) (decimal-most _))

@@ -1,0 +1,230 @@
+"""Vectors for the sheet; vectors.py tells their lines."""
+
+import random
+
+import sheet
+import sheet_conditions
+from edit import OWN, head, house, put, section
+from flow_vectors import end, inner
+from houses import greedy
+from rating_vectors import (GREEDY_SIZES, LEVEL, SIZES, catalogue, low, order_parts, random_parts)
+from vector import Call, Vector
+
+# The bytes of the own case: the job, the catalogue, and size 2.
+INPUT = OWN + SIZES + b"\2"
+
+# The least buffer that gets a text.
+BUFFER = 4096
+
+
+def four(number):
+    return number.to_bytes(4, "big")
+
+
+def printing(name, data, expect, holds=None, lines=None, zeros=0, room=BUFFER):
+    """A vector for the sheet of these bytes and so many zero bytes more."""
+    return Vector(name, (four(room), four(zeros), data), expect, holds, "s", lines)
+
+
+def refused(name, data, number, holds=None, **more):
+    """A vector whose sheet is the line of a refusal."""
+    text = f"refused {number}"
+    return printing(name, data, number, holds, [f"sheet {len(text) + 1}", text], **more)
+
+
+def rated(name, data, *lines, **more):
+    """A vector that is rated, with lines of its sheet."""
+    return printing(name, data, 0, set(), list(lines), **more)
+
+
+def whole(name, data, *lines, **more):
+    """The same with all its lines, and so its length."""
+    length = sum(len(line) + 1 for line in lines)
+    return rated(name, data, f"sheet {length}", *lines, **more)
+
+
+# The own case
+
+OWN_LINES = ["house 4542 17750 740", "section 1 2052 1026 71", "head 921 421 1"]
+
+
+def own_case():
+    return [
+        whole("sheet, document 01's own case", INPUT, *OWN_LINES),
+        refused("sheet, own case, size 1", OWN + SIZES + b"\1", 13, {13}),
+        whole("sheet, own case, H 0", head(OWN, H=0) + SIZES + b"\2", *OWN_LINES),
+    ]
+
+
+def buffers():
+    return [whole(f"sheet, buffer of {room}", INPUT, *OWN_LINES, room=room)
+            for room in (4096, 4097, 8192)] + [
+        printing(f"sheet, buffer of {room}: nothing is written", INPUT, 0, set(), ["sheet 0"],
+                 room=room) for room in (4095, 59, 0)]
+
+
+# Where the records end
+
+def short_inputs():
+    return [refused(f"sheet, {count} bytes", INPUT[:count], 1)
+            for count in (0, 1, 3, 4, 5, 30, 39, 40, 49)] + [
+        refused("sheet, four zero bytes", bytes(4), 1),
+        refused("sheet, three bytes ff", b"\xff" * 3, 1),
+        refused("sheet, four bytes ff", b"\xff" * 4, 1),
+    ]
+
+
+def stated_jobs():
+    """Of the own case's 98 bytes the job takes as many as it states; the rest
+    is cut as a catalogue and a size list."""
+    return [refused(f"sheet, job stating {stated}", head(INPUT, stated=stated), number)
+            for stated, number in [
+                (0, 1), (1, 1), (4, 1), (39, 1), (40, 4), (49, 4), (51, 4), (97, 4), (98, 4),
+                (99, 1), (306, 1), (65_586, 1), (2 ** 31 + 50, 1), (2 ** 32 - 1, 1)]] + [
+        refused("sheet, 40 bytes of job stating 40", head(INPUT[:40], stated=40), 4),
+        refused("sheet, job alone", OWN, 10, {10, 12}),
+    ]
+
+
+def stated_catalogues():
+    """The catalogue starts at byte 50, and 48 bytes are left for it."""
+    return [refused(f"sheet, {count} bytes of catalogue", INPUT[:50 + count], 10)
+            for count in (1, 3, 4, 5, 6, 7, 46)] + [
+        refused(f"sheet, catalogue stating {stated}", put(INPUT, 50, 4, stated), 10)
+        for stated in (0, 1, 6, 7, 46, 48, 49, 2 ** 32 - 1)] + [
+        refused("sheet, catalogue of 7 bytes stating 7", put(INPUT[:57], 50, 4, 7), 10),
+    ]
+
+
+def sizes():
+    return [
+        refused("sheet, one byte less", INPUT[:-1], 12, {12}),
+        refused("sheet, one byte more", INPUT + b"\2", 12, {12}),
+        refused("sheet, a newline more", INPUT + b"\n", 12, {12}),
+        refused("sheet, 1,000 zero bytes more", INPUT, 12, {12}, zeros=1000),
+        refused("sheet, zero bytes to the last that is read", INPUT, 12, {12}, zeros=65_438),
+        refused("sheet, zero bytes past it", INPUT, 12, {12}, zeros=65_439),
+        refused("sheet, size 0", INPUT[:-1] + b"\0", 12, {12}),
+        refused("sheet, size 3", INPUT[:-1] + b"\3", 12, {12}),
+        refused("sheet, a figure in text", INPUT[:-1] + b"2", 12, {12}),
+    ]
+
+
+def long_inputs():
+    """A head that would be fine, stating many bytes, with zero bytes after it."""
+    def stating(stated, total):
+        return head(OWN, stated=stated), total - len(OWN)
+
+    found = []
+    for stated, total, number in [
+            (65_536, 65_536, 4), (65_536, 65_537, 4), (65_536, 70_000, 4), (65_536, 65_535, 1),
+            (65_537, 65_537, 1), (65_537, 65_536, 1), (65_537, 70_000, 1), (70_000, 70_000, 1),
+            (65_535, 65_535, 4), (65_535, 65_536, 4), (131_072, 131_072, 1), (1000, 131_072, 4)]:
+        data, zeros = stating(stated, total)
+        found.append(refused(f"sheet, job stating {stated} in {total} bytes", data, number,
+                             zeros=zeros))
+    return found + [
+        refused("sheet, catalogue to the last byte read", put(INPUT, 50, 4, 65_486), 10,
+                {10, 12}, zeros=65_438),
+        refused("sheet, catalogue past it", put(INPUT, 50, 4, 65_487), 10, {10, 12}, zeros=65_439),
+    ]
+
+
+# Each number
+
+def order():
+    """1 never holds alone here: a job is cut at its stated length, so 1 is
+    either a job under 40 bytes, which is 4 too, or one that the input ends in."""
+    found = []
+    for number in range(2, 14):
+        parts = order_parts({number})
+        data = parts["record"] + parts["sizes"] + bytes(parts["numbers"])
+        found.append(refused(f"sheet, {number} alone", data, number, {number}))
+    ten = put(SIZES, 4, 1, 2)
+    return found + [
+        refused("sheet, 9 and 10", section(OWN, 1, fixtures=70) + ten + b"\2", 9, {9, 10}),
+        refused("sheet, 10 and 12", OWN + ten + b"\0", 10, {10, 12}),
+        refused("sheet, 11 and 12", OWN + put(SIZES, 9, 2, 0) + b"\0", 11, {11, 12}),
+        refused("sheet, S 64", head(INPUT, S=64), 3),
+    ]
+
+
+# Heads
+
+def negative_heads():
+    return [whole(f"sheet, required head {required}", low(elevation, **more) + SIZES + b"\2",
+                  *OWN_LINES[:2], f"head {required} {pump} 1")
+            for elevation, more, required, pump in [
+                (-321, {}, 0, 0), (-322, {}, -1, 0), (-331, {}, -10, 0), (-421, {}, -100, 0),
+                (-1000, {"free": 0, "meter": 0}, -929, 0)]] + [
+        whole("sheet, pump head 0", head(OWN, G=921) + SIZES + b"\2", *OWN_LINES[:2],
+              "head 921 0 1"),
+        rated("sheet, the greatest loss", section(OWN, 1, length=5000)
+              + catalogue((50, 1300, (2052, 1500, 65_535), (3000, 1500, 65_535))) + b"\1",
+              "section 1 2052 1500 4259775", "head 4260625 4260125 1"),
+    ]
+
+
+# Houses of several sections
+
+def many():
+    turns = bytes(1 + i % 3 for i in range(63))
+    star = house([(0, 7, 30, 100, 600, 200)] * 63, {7: 71})
+    row = house([inner(i) for i in range(62)] + [end(7, 80, 62)], {7: 71})
+    return [
+        rated("sheet, three sections", greedy() + GREEDY_SIZES + b"\1\2\2",
+              "section 1 874 994 1242", "section 2 631 603 86", "section 3 606 584 143",
+              "head 2383 1883 3"),
+        refused("sheet, three sections, two sizes", greedy() + GREEDY_SIZES + b"\1\2", 12, {12}),
+        rated("sheet, star of 63", star + LEVEL + turns, "head 902 402 3"),
+        rated("sheet, chain of 63", row + LEVEL + turns, "section 63 2052 300 52",
+              "head 2761 2261 63"),
+        refused("sheet, chain of 63, 62 sizes", row + LEVEL + turns[:-1], 12, {12}),
+        refused("sheet, chain of 63, a newline more", row + LEVEL + turns + b"\n", 12, {12}),
+    ]
+
+
+def random_sheets():
+    rng = random.Random(2)
+    found = []
+    for i, count in enumerate([1, 2, 3, 5, 8, 13, 21, 34, 55], start=1):
+        parts = random_parts(rng, count)
+        data = parts["record"] + parts["sizes"] + bytes(parts["numbers"])
+        found.append(rated(f"sheet, random house {i}, {count} sections", data))
+    return found
+
+
+GROUPS = [
+    ("sheet, own case", own_case), ("sheet, buffers", buffers),
+    ("sheet, short inputs", short_inputs), ("sheet, stated lengths of jobs", stated_jobs),
+    ("sheet, stated lengths of catalogues", stated_catalogues), ("sheet, size lists", sizes),
+    ("sheet, long inputs", long_inputs), ("sheet, order", order), ("sheet, heads", negative_heads),
+    ("sheet, several sections", many), ("sheet, random houses", random_sheets),
+]
+
+
+# The answers
+
+def input_of(parts):
+    """The bytes of the input; a buffer under 4,096 bytes gets no text."""
+    _, zeros, data = parts
+    return data + bytes(int.from_bytes(zeros, "big"))
+
+
+def sheet_lines(parts):
+    room = int.from_bytes(parts[0], "big")
+    lines = sheet.sheet(input_of(parts)) if room >= BUFFER else []
+    return [f"sheet {sum(len(each) + 1 for each in lines)}"] + lines
+
+
+def number_in(lines):
+    """The number that the text gives; 0 where it is none of a refusal."""
+    word, _, number = (lines + [""])[1].partition(" ")
+    return int(number) if word == "refused" else 0
+
+
+def conditions(parts):
+    return sheet_conditions.of_sheet(input_of(parts))
+
+
+CALLS = {"s": Call("sheet", sheet_lines, conditions, range(2, 14), number_in)}
