@@ -25,12 +25,12 @@ chooseLength count = 4 + count
 abbrev pub workLength : Job → ℕ
 workLength job = 4 * ((countOf job + 1) * (job .head .delivered + 1001))
 
--- 1 to 9, 10, 11, 14, 15
+-- 1 to 9, 10, 11, 14, 15: what is checked before the search
 unfoldable pub chooseChecks : List ℕ → List ℕ → ℕ → ℕ → List (Bool × ℕ)
 chooseChecks b cat room work =
     jobChecks b ++ (catChecks cat ++ ((ltb room (chooseLength (countOf (decode b))), 14) ∷ (ltb work (workLength (decode b)), 15) ∷ []))
 
--- the number from 1 to 15, 0 where none of them applies
+-- the number of the first that finds something, 0 where none does
 unfoldable pub chooseNo : List ℕ → List ℕ → ℕ → ℕ → ℕ
 chooseNo b cat room work = firstNo (chooseChecks b cat room work)
 
@@ -52,13 +52,13 @@ pub record Cheapest (job : Job) (cat before after : List ℕ) (n : ℕ) : Type 0
   pub least : (y : List ℕ) → Suitable job cat y → costOf job cat list ≤ costOf job cat y
   pub written : after ≡ stored before 0 (chooseBytes job cat list)
 
--- a number from 1 to 15, and both buffers as they were
-pub record Refused (no : ℕ) (out work out₀ work₀ : List ℕ) (n : ℕ) : Type 0 where
+-- a number found before the search, and both buffers as they were
+pub record Refused (no : ℕ) (out₀ work₀ out work : List ℕ) (n : ℕ) : Type 0 where
   pub number : n ≡ no
   pub kept : out ≡ out₀
   pub untouched : work ≡ work₀
 
--- what a call gives: the number of 1 to 15 that applies, else 16 or a result. The workspace is free after 16 and a result
+-- what a call gives: the number found before the search, else 16 or a result. The workspace is free after 16 and a result
 pub record Chosen (b cat out₀ work₀ out work : List ℕ) (n : ℕ) : Type 0 where
-  pub refused : (chooseNo b cat (length out₀) (length work₀) ≡ 0 → ⊥) → Refused (chooseNo b cat (length out₀) (length work₀)) out work out₀ work₀ n
+  pub refused : (chooseNo b cat (length out₀) (length work₀) ≡ 0 → ⊥) → Refused (chooseNo b cat (length out₀) (length work₀)) out₀ work₀ out work n
   pub chosen : chooseNo b cat (length out₀) (length work₀) ≡ 0 → Unsuitable (decode b) cat out₀ out n ⊎ Cheapest (decode b) cat out₀ out n

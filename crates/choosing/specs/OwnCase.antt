@@ -4,6 +4,9 @@ use mathlib.Core.Path.{_≡_}
 use mathlib.Core.List.{List, [], _∷_}
 use Prim.Native.Nat.{ℕ, _≤_}
 use lib.IntN.{pos}
+use lib.ListN.{length}
+use Rattle.basis.specs.Stored.{stored}
+use Rattle.fields.specs.Fields.{countOf}
 use Rattle.record.specs.Record.{decode}
 use Rattle.tree.specs.Tree.{servedOf, houseOf}
 use Rattle.coefficient.specs.Alpha.{alphaOf}
@@ -14,6 +17,7 @@ use Rattle.heads.specs.Heads.{requiredOf, pumpOf, dictatingOf}
 use Rattle.rating.specs.Losses.{readingOf, lossAt, lossesOf}
 use Rattle.rating.specs.Calls.{rateNo}
 use Rattle.choosing.specs.Suitable.{Suitable, costOf}
+use Rattle.choosing.specs.Calls.{chooseLength, workLength, chooseNo, Chosen}
 
 -- the job's bytes, with the two of H left open: head, residents and the one section
 abbrev pub jobOf : ℕ → ℕ → List ℕ
@@ -38,6 +42,11 @@ job921 = jobOf 3 153
 
 abbrev pub job920 : List ℕ
 job920 = jobOf 3 152
+
+-- result space and workspace are enough when neither 14 nor 15 applies
+pub record Ample (b out work : List ℕ) : Type 0 where
+  pub result : chooseLength (countOf (decode b)) ≤ length out
+  pub space : workLength (decode b) ≤ length work
 
 -- what document 01 says of its own case
 pub record OwnCase : Type 0 where
@@ -91,5 +100,13 @@ pub record OwnCase : Type 0 where
   pub least-921 : (y : List ℕ) → Suitable (decode job921) ownCat y → 130000 ≤ costOf (decode job921) ownCat y
   -- the job with H 920 is accepted
   pub job-920 : jobNo job920 ≡ 0
-  -- and no list suits it, which is 16
+  -- and no list suits it
   pub none-920 : (y : List ℕ) → Suitable (decode job920) ownCat y → ⊥
+  -- 5 bytes of result and 17,608 of workspace are enough for the own case, and one less of either is not
+  pub enough : chooseNo ownJob ownCat 5 17608 ≡ 0
+  pub room : chooseNo ownJob ownCat 4 17608 ≡ 14
+  pub workspace : chooseNo ownJob ownCat 5 17607 ≡ 15
+  -- so the choosing call gives the bytes of 130,000 and size 2 for H 921, and 16 for H 920
+  pub chosen-921 : (out₀ work₀ out work : List ℕ) (n : ℕ) → Ample job921 out₀ work₀ → Chosen job921 ownCat out₀ work₀ out work n →
+      (n ≡ 0) × (out ≡ stored out₀ 0 (0 ∷ 1 ∷ 251 ∷ 208 ∷ 2 ∷ []))
+  pub chosen-920 : (out₀ work₀ out work : List ℕ) (n : ℕ) → Ample job920 out₀ work₀ → Chosen job920 ownCat out₀ work₀ out work n → n ≡ 16

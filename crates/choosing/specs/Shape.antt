@@ -20,7 +20,7 @@ use Rattle.choosing.specs.Suitable.{Suitable, priceAt, costOf}
 abbrev pub shift : ℕ
 shift = 1000
 
--- the head at the pump, less the meter loss
+-- the delivered head less the meter loss, shifted
 abbrev pub headOf : Job → ℕ
 headOf job = job .head .delivered + shift - job .head .meter
 

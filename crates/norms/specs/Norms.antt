@@ -21,7 +21,7 @@ tapNorms = 30 ∷ 20 ∷ 20 ∷ 30 ∷ 20 ∷ 30 ∷ 30 ∷ 30 ∷ 20 ∷ 20 ∷
 unfoldable pub drawNorms : List ℕ
 drawNorms = 300 ∷ 100 ∷ 100 ∷ 300 ∷ 115 ∷ 250 ∷ 280 ∷ 300 ∷ 100 ∷ 80 ∷ 80 ∷ 100 ∷ []
 
--- the norms of a kind; the service is not looked at before L4: every one is total, cold plus hot
+-- the norms of a kind, total (cold plus hot) whatever the service
 unfoldable pub normOf : ℕ → ℕ → Norm
 normOf service kind =
     record {

@@ -4,9 +4,10 @@ use mathlib.Core.Path.{_≡_}
 use mathlib.Core.Bool.{true}
 use Prim.Native.Nat.{ℕ, _+_, _≤_, _<_}
 use mathlib.Core.List.{List}
+use lib.ListN.{replicate}
 use Rattle.basis.specs.Slots.{slots}
 use Rattle.fields.specs.declared.Job.{Job}
-use Rattle.fields.specs.Fields.{countOf}
+use Rattle.fields.specs.Fields.{blankJob, countOf}
 use Rattle.record.specs.Record.{decode}
 use Rattle.demand.specs.Demand.{Accepted}
 use Rattle.catalogue.specs.Shape.{Listed}
@@ -36,3 +37,9 @@ pub record RatedJob (b cat list : List ℕ) (room : ℕ) (job : Job) (v w : List
   pub accepted : Accepted job
   pub fits : rateLength (countOf job) ≤ room
   pub at : RatedAt job cat list v w
+
+-- after a refusal: all zero
+pub record Blank (job : Job) (v w : List ℕ) : Type 0 where
+  pub fields : job ≡ blankJob
+  pub velocities : v ≡ replicate 64 0
+  pub losses : w ≡ replicate 64 0

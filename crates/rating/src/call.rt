@@ -11,12 +11,13 @@ ghost use Rattle.answer.specs.Answer.{numberOf};
 ghost use Rattle.job.specs.Calls.{bufferAfter};
 ghost use Rattle.record.specs.Record.{decode};
 ghost use Rattle.rating.specs.Calls.{rateNo, rateBytes};
-ghost use Rattle.rating.specs.Shape.{RatedJob};
+ghost use Rattle.rating.specs.Shape.{RatedJob, Blank};
 
 // What a rating comes to with a result buffer of so many bytes.
 pub fn outcome(b: &[u8], cat: &[u8], list: &[u8], room: usize) -> Outcome
     ensures number { λ r. ⌜ numberOf (r .answer) ≡ rateNo (now (b .entry)) (now (cat .entry)) (now (list .entry)) room ⌝ }
     ensures rated { λ r. ⌜ (numberOf (r .answer) ≡ 0 → RatedJob (now (b .entry)) (now (cat .entry)) (now (list .entry)) room (r .job) (r .velocities) (r .losses)) ⌝ }
+    ensures refused { λ r. ⌜ ((numberOf (r .answer) ≡ 0 → ⊥) → Blank (r .job) (r .velocities) (r .losses)) ⌝ }
 {
     let accepted = flow::accept(b);
     let answer = accepted.answer;

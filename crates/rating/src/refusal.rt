@@ -2,6 +2,7 @@
 use answer::Answer;
 use fields::Job;
 ghost use mathlib.Core.Path.{_≡_};
+ghost use Rattle.rating.specs.Shape.{Blank};
 
 // The answer, and where it is a result the job with the velocities and losses at the sections' places; all zero after a refusal.
 pub struct Outcome {
@@ -13,7 +14,7 @@ pub struct Outcome {
 
 // A refusal.
 pub fn refused(answer: Answer) -> Outcome
-    ensures { λ r. ⌜ r .answer ≡ answer ⌝ }
+    ensures { λ r. ⌜ (r .answer ≡ answer) × Blank (r .job) (r .velocities) (r .losses) ⌝ }
 {
     Outcome {
         answer,

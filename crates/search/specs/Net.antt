@@ -1,4 +1,4 @@
--- A size for each section of a tree, at the least cost that leaves each end what it needs. Nothing of pipes is said here.
+-- A size for each section of a tree, at the least cost that leaves each end what it needs. Where losses and costs come from is not said here.
 -- Assumes nothing.
 use mathlib.Core.Path.{_≡_}
 use mathlib.Core.Bool.{Bool, true, cond}
@@ -49,7 +49,7 @@ unfoldable pub greatestTo : ℕ → (ℕ → ℕ) → ℕ
 greatestTo zero f = 0
 greatestTo (suc n) f = max (greatestTo n f) (f (suc n))
 
--- the required head of a list: the least head at the pump that gives each end what it needs
+-- the least head at the pump with which a list gives each end what it needs
 unfoldable pub requiredOf : Net → List ℕ → ℕ
 requiredOf N z = greatestTo (N .sections) (λ s. pathLoss N (sizeOf z) s + N .need s)
 

@@ -33,7 +33,7 @@ pub record Spacious (sections width a : ℕ) (ws : List ℕ) : Type 0 where
 abbrev pub optionAt : (ℕ → ℕ) → (ℕ → ℕ) → ℕ → (ℕ → ℕ → ℕ) → ℕ → ℕ → ℕ
 optionAt loss cost need v h t = cond (leb (loss t + need) h) (cost t + v t (h - loss t)) top
 
--- the cell of size t and head x, where the rows of a section's sizes start at `row` and lie `stride` apart
+-- the cell of size t and head x. The stride lays a row for each size apart; at stride 0 the sizes share one row
 abbrev pub rowAt : List ℕ → ℕ → ℕ → ℕ → ℕ → ℕ
 rowAt ws row stride t x = cellAt ws (row + t * stride + x)
 
@@ -66,7 +66,7 @@ pub record Sound (N : Net) : Type 0 where
   pub lower : (s : ℕ) → 0 < s → s ≤ N .sections → N .parent s < s
   pub cheap : (s t : ℕ) → 0 < s → s ≤ N .sections → 0 < t → t ≤ N .sizes → N .cost s t ≤ 50000000
 
--- a list behind cost and head: it suits at the head a, no list that suits costs less, and this is its cost and its required head
+-- a list behind cost and head: it suits at the head a, no list that suits costs less, and this is its cost and the least head that it needs
 pub record Found (N : Net) (a c h : ℕ) (z : List ℕ) : Type 0 where
   pub best : Best N a z
   pub cost : c ≡ costOf N z

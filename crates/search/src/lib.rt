@@ -12,7 +12,7 @@ ghost use mathlib.Core.Bool.{true, false};
 ghost use lib.ListN.{take};
 ghost use Rattle.search.specs.Shape.{netOf, Sound, Spacious, Found, None};
 
-// Whether a list suits, and one of least cost: the cost, its required head, and its sizes, section s at place s - 1.
+// Whether a list suits, and one of least cost: the cost, the least head at the pump that it needs, and its sizes, section s at place s - 1.
 pub struct Choice {
     pub found: bool,
     pub cost: u32,

@@ -9,7 +9,7 @@ ghost use lib.ListN.{take};
 ghost use Rattle.search.specs.Plan.{top, cell, planOf};
 ghost use Rattle.search.specs.Shape.{netOf, Sound, Spacious, Found, Holds};
 
-// A list of sizes, section s at place s - 1, and its required head.
+// A list of sizes, section s at place s - 1, and the least head at the pump that it needs.
 pub struct Recovered {
     pub head: usize,
     pub sizes: [u8; 63],

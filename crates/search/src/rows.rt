@@ -16,7 +16,7 @@ pub struct Pick {
     pub size: usize,
 }
 
-// A section: what its end needs, where its sizes stand in the tables, where its rows start and how far apart those of its sizes lie.
+// A section: what its end needs, where its sizes stand in the tables, and where its row starts. Its sizes share one row at stride 0.
 pub struct Section {
     pub need: usize,
     pub at: usize,

@@ -31,7 +31,7 @@ fn record_end(s: &[u8]) -> usize
     least(stated, s.len())
 }
 
-// A rating's lines, or the line of a refusal. There is room for the longest result, 9 + 6 × 63 bytes.
+// A rating's lines, or the line of a refusal. Nothing is lent for a result, so it is rated with room for the longest, 9 + 6 × 63 bytes.
 fn put_text(b: &[u8], cat: &[u8], list: &[u8], out: &mut [u8]) -> usize
     requires { ⌜ 4096 ≤ length (now out) ⌝ }
     ensures { λ r. ⌜ Wrote 4096 (now (out .entry)) (now (out .exit)) 0 r (textOf (now (b .entry)) (now (cat .entry)) (now (list .entry))) ⌝ }

@@ -33,6 +33,9 @@ module _ (c : tie.After-struct-known2) where
   above : T (nonNeg (c .before .before .before .args .s .elevation +ℤ pos (c .before .before .before .args .s .free + 1000)))
   above = not-negative (c .before .before .before .args .s .elevation) _ (c .before .before .before .pre) (omega arith)
 
+returns : tie.Need-returns
+returns c = simp (toZ-ofZ (low (c .before)), toZ-ofZ (wide (c .before)), small c, toZ-ofZ (fits c)) (size-of _ (above c))
+
 cast-result : tie.Need-cast-result
 cast-result c = simp (toZ-ofZ (low c)) (wide c)
 
@@ -41,9 +44,6 @@ add-result-2 c = simp (toZ-ofZ (low (c .before)), toZ-ofZ (wide (c .before)), sm
 
 cast-result-4 : tie.Need-cast-result-4
 cast-result-4 c = simp (toZ-ofZ (low (c .before)), toZ-ofZ (wide (c .before)), small c, toZ-ofZ (fits c)) (above c, fits-natAbs tt (fits c))
-
-returns : tie.Need-returns
-returns c = simp (toZ-ofZ (low (c .before)), toZ-ofZ (wide (c .before)), small c, toZ-ofZ (fits c)) (size-of _ (above c))
 
 pub need-spec : {M : Type 1} → statement M
 need-spec =

@@ -22,9 +22,9 @@ use Rattle.rating.proofs.Ordering.{rate-job, rate-cat, rate-list, rate-
 use Rattle.rating.proofs.call.outcome.Statement.{statement}
 use Rattle.rating.proofs.call.outcome.Tie as tie
 
--- a refusal has the number that was found, which is not 0
-refusal : {A : Type 0} {r n m : ℕ} → r ≡ n → n ≡ m → (n ≡ 0 → ⊥) → (r ≡ m) × (r ≡ 0 → A)
-refusal e f k = (e ∙ f, λ z. absurd (k (sym e ∙ z)))
+-- a refusal has the number that was found, which is not 0, and is blank
+refusal : {A B : Type 0} {r n m : ℕ} → r ≡ n → B → n ≡ m → (n ≡ 0 → ⊥) → (r ≡ m) × ((r ≡ 0 → A) × ((r ≡ 0 → ⊥) → B))
+refusal e b f k = (e ∙ f, (λ z. absurd (k (sym e ∙ z)), λ h. b))
 
 -- 1 to 9
 found : (c : tie.After-number) → c .number .result ≡ jobNo (c .before .before .before .before .before .args .b .now)
@@ -33,7 +33,7 @@ found c = c .number .ensures ∙ c .before .accept .ensures .0
 returns : tie.Need-returns
 returns c =
     let one = c .before in
-    refusal (ap numberOf (c .refused .ensures))
+    refusal (ap numberOf (c .refused .ensures .0)) (c .refused .ensures .1)
     (one .before .before .accept .ensures .0 ∙ sym (rate-job _ _ _ _ (λ e. one .if1 .taken (found (one .before) ∙ e))))
     (λ e. one .if1 .taken (one .before .number .ensures ∙ e))
 
@@ -54,7 +54,7 @@ returns-2 : tie.Need-returns-2
 returns-2 c =
     let two = c .before in
     let at = two .before in
-    refusal (ap numberOf (c .refused2 .ensures))
+    refusal (ap numberOf (c .refused2 .ensures .0)) (c .refused2 .ensures .1)
     (at .before .catalogue-refusal .ensures ∙ sym (rate-cat _ _ _ _ (passed (at .before .before)) (λ e. two .if2 .taken (listing at ∙ e))))
     (λ e. two .if2 .taken (at .number2 .ensures ∙ e))
 
@@ -74,8 +74,8 @@ returns-3 : tie.Need-returns-3
 returns-3 c =
     let three = c .before in
     let two = three .before .before .before in
-    let number : numberOf (c .refused3 .result .answer) ≡ 12 = ap numberOf (c .refused3 .ensures) in
-    refusal number
+    let number : numberOf (c .refused3 .result .answer) ≡ 12 = ap numberOf (c .refused3 .ensures .0) in
+    refusal number (c .refused3 .ensures .1)
     (sym (rate-list _ _ _ _ (passed (two .before .before .before)) (listed two) (sym (naming (three .before)) ∙ not-true (three .before .list-ok .result) (three .if3 .taken))))
     (λ e. omega arith)
 
@@ -93,8 +93,8 @@ returns-4 c =
     let three = c .before .before .before in
     let two = three .before .before .before in
     let one = two .before .before .before in
-    let number : numberOf (c .refused4 .result .answer) ≡ 14 = ap numberOf (c .refused4 .ensures) in
-    refusal number
+    let number : numberOf (c .refused4 .result .answer) ≡ 14 = ap numberOf (c .refused4 .ensures .0) in
+    refusal number (c .refused4 .ensures .1)
     (sym (rate-short _ _ _ _ (passed one) (listed two) (named three) (rw (← count one) (omega arith))))
     (λ e. omega arith)
 
@@ -123,8 +123,8 @@ returns-5 c =
     let three = four .before .before in
     let two = three .before .before .before in
     let one = two .before .before .before in
-    let number : numberOf (c .refused5 .result .answer) ≡ 13 = ap numberOf (c .refused5 .ensures) in
-    refusal number
+    let number : numberOf (c .refused5 .result .answer) ≡ 13 = ap numberOf (c .refused5 .ensures .0) in
+    refusal number (c .refused5 .ensures .1)
     (sym (rate-over _ _ _ _ (passed one) (listed two) (named three) (room four) (sym (over (five .before)) ∙ five .if5 .taken)))
     (λ e. omega arith)
 
@@ -138,12 +138,15 @@ returns-6 c =
     let one = two .before .before .before in (
       one .before .before .accept .ensures .0 ∙ passed one ∙
           sym (rate-done _ _ _ _ (passed one) (listed two) (named three) (room four) (sym (over (five .before)) ∙ five .if5 .left)),
-      λ e. record {
-        fields = fields one;
-        accepted = accepted one;
-        fits = rw (count one) (room four);
-        at = five .before .rate-sections .ensures .1 (five .if5 .left);
-      },
+      (
+        λ e. record {
+          fields = fields one;
+          accepted = accepted one;
+          fits = rw (count one) (room four);
+          at = five .before .rate-sections .ensures .1 (five .if5 .left);
+        },
+        λ h. absurd (h (one .before .before .accept .ensures .0 ∙ passed one)),
+      ),
     )
 
 pub outcome-spec : {M : Type 1} → statement M

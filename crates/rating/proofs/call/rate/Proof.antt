@@ -26,7 +26,7 @@ done : (c : tie.Else1) →
     let start = c .before .before .before .before .before .before .before in
     let found = c .before .before .outcome .result in
     RatedJob (start .args .b .now) (start .args .cat .now) (start .args .list .now) (length (start .args .out .now)) (found .job) (found .velocities) (found .losses)
-done c = c .before .before .outcome .ensures .1 (none c)
+done c = c .before .before .outcome .ensures .1 .0 (none c)
 
 put-result-requires : tie.Need-put-result-requires
 put-result-requires c κs =

@@ -35,7 +35,7 @@ done : (c : tie.Else1) →
     let start = c .before .before .before .before .before .before .before in
     let r = c .before .before .outcome .result in
     RatedJob (start .args .b .now) (start .args .cat .now) (start .args .list .now) 387 (r .job) (r .velocities) (r .losses)
-done c = c .before .before .outcome .ensures .1 (c .before .before .outcome .ensures .0 ∙ none c)
+done c = c .before .before .outcome .ensures .1 .0 (c .before .before .outcome .ensures .0 ∙ none c)
 
 put-rated-requires : tie.Need-put-rated-requires
 put-rated-requires c κs = let r = done (c .before .before .before .before) in (r .accepted, rated-given r, omega arith)
