@@ -11,3 +11,4 @@ cmp "$fresh/stdout" crates/vectors/stdout
 python3 -B model/test_job.py
 python3 -B model/test_demand.py
 python3 -B model/test_rating.py
+python3 -B model/test_choosing.py
