@@ -9,9 +9,9 @@ import random
 
 import catalogue
 import choosing
+import choosing_vectors
 import job
 import rating
-import rating_vectors
 from choosing_conditions import NONE, least, of_choose
 from edit import head, put
 from vector import first
@@ -22,63 +22,19 @@ LEAST_COUNT = 15
 
 # Random small houses
 
-def random_rows(rng, count):
-    """Small figures, so that several lists may be equally cheap. One size in
-    four ends at a flow that not every section keeps under."""
-    last = rng.choice([200_000, 200_000, 200_000, rng.randint(300, 3000)])
-    flows = sorted(rng.sample(range(100, last), count - 1)) + [last]
-    columns = [sorted(rng.randint(1, most) for _ in range(count)) for most in (2000, 60)]
-    return tuple(zip(flows, *columns))
-
-
-def random_sizes(rng):
-    """One to four sizes; wider ones are not always dearer or flatter."""
-    rows, bores = rng.randint(2, 4), sorted(rng.sample(range(10, 200), rng.randint(1, 4)))
-    prices = rng.choice([range(1, 10_001), range(1, 4)])
-    return rating_vectors.catalogue(*[(bore, rng.choice(prices)) + random_rows(rng, rows)
-                                      for bore in bores])
-
-
-def span(record, sizes):
-    """The least and the greatest head that lists of sizes that serve require;
-    nothing where some section has no such size."""
-    house = job.decode(record)
-    offered = choosing.offered_to(house, catalogue.decode(sizes))
-    if not all(offered):
-        return None
-    return [rating.heads(house, [pick(each.loss for each in some) for some in offered])[0]
-            for pick in (min, max)]
-
-
-def with_head(rng, record, sizes):
-    """The record with an H that most often matters."""
-    found = span(record, sizes)
-    low, high = found or (0, 6000)
-    H = rng.choice([low - 1, low, high, rng.randint(low, high), rng.randint(low, high)])
-    return head(record, H=min(6000, max(0, H)))
-
-
 def random_parts(rng):
-    sizes = random_sizes(rng)
-    record = rating_vectors.random_parts(rng, rng.randint(1, 6))["record"]
+    parts = choosing_vectors.random_parts(rng, rng.randint(1, 6), rng.randint(1, 4))
+    record, sizes = parts["record"], parts["sizes"]
     if rng.randrange(4) == 0:
         record = head(record, limit=rng.randint(1000, 2000))
-    record = with_head(rng, head(record, meter=rng.randint(0, 300)), sizes)
     if rng.randrange(8) == 0:
         sizes = put(sizes, rng.randrange(len(sizes)), 1, rng.randrange(256))
-    exact = 4 * (record[6] + 1) * (int.from_bytes(record[12:14], "big") + 1001)
-    room = 4 + record[6] - (rng.randrange(12) == 0)
-    work = exact - (rng.randrange(12) == 0)
+    room = choosing_vectors.exact_room(record) - (rng.randrange(12) == 0)
+    work = choosing_vectors.exact_work(record) - (rng.randrange(12) == 0)
     return room.to_bytes(2, "big"), work.to_bytes(4, "big") + b"\0", record, sizes
 
 
 # What has to hold
-
-def by_call(parts):
-    room, work, record, sizes = parts
-    return choosing.choose(record, sizes, int.from_bytes(work[:4], "big"),
-                           int.from_bytes(room, "big"))
-
 
 def check_list(record, sizes, choice):
     """The list rates, requires at most H, and costs what is said."""
@@ -101,7 +57,7 @@ def check_cost(record, sizes, choice):
 def check(parts):
     """The same number, cost and count; gives the number."""
     _, _, record, sizes = parts
-    choice = by_call(parts)
+    choice = choosing_vectors.choice_of(parts)
     assert choice.number == first(of_choose(parts)), (parts, choice)
     if choice.number == 0:
         check_cost(record, sizes, choice)
@@ -120,7 +76,18 @@ def check_both(parts):
     return (tried.count or 0) > 1
 
 
+def check_vectors():
+    """The stored vectors agree with the second evaluation too, and a line that
+    gives a list has one alone."""
+    for _, group in choosing_vectors.GROUPS:
+        for vector in group():
+            assert check(vector.data) == vector.expect, vector.name
+            count = choosing_vectors.choice_of(vector.data).count
+            assert count is None or (count > 1) == (vector.letter == "k"), vector.name
+
+
 def main():
+    check_vectors()
     rng = random.Random(1)
     counts, shapes, several = collections.Counter(), set(), 0
     for _ in range(ROUNDS):
