@@ -77,11 +77,13 @@ def check_both(parts):
 
 
 def check_vectors():
-    """The stored vectors agree with the second evaluation too, and a line that
-    gives a list has one alone."""
+    """The vectors agree with the second evaluation too and keep the protocol's
+    bound of the workspace, and a line that gives a list has one alone."""
     for _, group in choosing_vectors.GROUPS:
         for vector in group():
             assert check(vector.data) == vector.expect, vector.name
+            work = int.from_bytes(vector.data[1][:4], "big")
+            assert work <= choosing_vectors.MOST_WORK and len(vector.data[1]) == 5, vector.name
             count = choosing_vectors.choice_of(vector.data).count
             assert count is None or (count > 1) == (vector.letter == "k"), vector.name
 
