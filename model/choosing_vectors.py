@@ -18,7 +18,8 @@ filled as it was, else `touched`; after 0 and 16 its bytes are free.
 A line `l` has a result only where one list alone is cheapest. Where `chosen` or
 `costing` states the cost, and the list, they are worked out by hand; where
 `found` leaves them to the model, test_choosing.py compares them with a second
-evaluation. The number of every vector is written by hand.
+evaluation. Every vector has its number written down; which random houses have
+no list was read from the model and is confirmed by the condition of 16.
 """
 
 import functools
