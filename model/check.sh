@@ -12,3 +12,4 @@ python3 -B model/test_job.py
 python3 -B model/test_demand.py
 python3 -B model/test_rating.py
 python3 -B model/test_sheet.py
+python3 -B model/test_choosing.py

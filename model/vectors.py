@@ -2,8 +2,9 @@
 
     python3 model/vectors.py STDIN STDOUT
 
-writes the input of the test program and the output it must give. The stored
-files are compared with fresh ones by
+writes the input of the test program and the output it must give; with the name
+of a module behind them, such as choosing_vectors, only the vectors of that one.
+The stored files are compared with fresh ones by
 
     sh model/check.sh
 
@@ -21,6 +22,7 @@ Input, in lines:
     s HEX HEX HEX   an input whose sheet is wanted: the length of the buffer
              (4 bytes, at most 8,192), a number of zero bytes (4), and the bytes
              that these zero bytes follow, in all at most 131,072
+    l and k  choosing; choosing_vectors.py tells their lines and their answers
 A room is at most 1,000. A line has at most 2,048 bytes; the program reads its
 input in chunks, so the number of lines has no limit that vectors could reach.
 Output:
@@ -48,6 +50,7 @@ stand in the model's answer one after another.
 """
 
 import collections
+import importlib
 import struct
 import sys
 
@@ -601,7 +604,7 @@ def check_room(vector):
     """The protocol's bound of the room."""
     if vector.letter in ("w", "c", "f"):
         assert len(vector.data) >= 2 and room_of(vector.data) <= 1000, vector.name
-    if vector.letter == "p":
+    if vector.letter in ("p", "l", "k"):
         assert len(vector.data[0]) == 2 and room_of(vector.data[0]) <= 1000, vector.name
     if vector.letter == "s":
         room, zeros, data = vector.data
@@ -610,14 +613,16 @@ def check_room(vector):
 
 
 def check_length(vector):
-    """The program takes lines of 2,048 bytes; those of `p` and `s` keep well under."""
-    assert len(input_lines(vector)[1]) < 2000 or vector.letter not in ("p", "s"), vector.name
+    """The program takes lines of 2,048 bytes; those of `p` and `s` keep well under, and
+    those of `l` and `k` have a bound of their own."""
+    most = {"p": 2000, "s": 2000, "l": 16_384, "k": 16_384}
+    assert len(input_lines(vector)[1]) < most.get(vector.letter, 2 ** 16), vector.name
 
 
-def check_alone(vectors):
+def check_alone(vectors, calls):
     """Every number is reached by a vector in which no other one holds."""
     held = [(each.letter, conditions_of(each)) for each in vectors]
-    for letter, call in CALLS.items():
+    for letter, call in calls.items():
         assert all((letter, {number}) in held for number in call.numbers), letter
 
 
@@ -628,7 +633,7 @@ def check_answers():
     assert all(copied[name] == [line] for name, line in COPY_ANSWERS.items())
 
 
-def check_all(vectors):
+def check_all(vectors, calls):
     for vector in vectors:
         if CALLS[vector.letter].numbers:
             check_number(vector)
@@ -636,7 +641,7 @@ def check_all(vectors):
         check_slots(vector)
         check_room(vector)
         check_length(vector)
-    check_alone(vectors)
+    check_alone(vectors, calls)
     check_answers()
 
 
@@ -650,10 +655,10 @@ def output_lines(vector):
     return [f"# {vector.name}"] + answer(vector)
 
 
-def text(lines_of):
-    """All groups in turn, each after a line with its title."""
+def text(groups, lines_of):
+    """The groups in turn, each after a line with its title."""
     lines = []
-    for title, group in GROUPS:
+    for title, group in groups:
         lines.append(f"# == {title}")
         for vector in group():
             lines += lines_of(vector)
@@ -672,12 +677,28 @@ def report(vectors):
         print(CALLS[letter].word, number, "in", count)
 
 
-def main(stdin_path, stdout_path):
-    vectors = [vector for _, group in GROUPS for vector in group()]
-    check_all(vectors)
-    store(stdin_path, text(input_lines))
-    store(stdout_path, text(output_lines))
+def make(groups, calls, stdin_path, stdout_path):
+    """The two files of these groups, which have vectors for these calls."""
+    vectors = [vector for _, group in groups for vector in group()]
+    check_all(vectors, calls)
+    store(stdin_path, text(groups, input_lines))
+    store(stdout_path, text(groups, output_lines))
     report(vectors)
+
+
+def join(more):
+    """The groups and calls of a module come behind the others."""
+    GROUPS.extend(more.GROUPS)
+    CALLS.update(more.CALLS)
+
+
+def main(stdin_path, stdout_path, alone=None):
+    if alone is None:
+        make(GROUPS, CALLS, stdin_path, stdout_path)
+        return
+    more = importlib.import_module(alone)
+    join(more)
+    make(more.GROUPS, more.CALLS, stdin_path, stdout_path)
 
 
 if __name__ == "__main__":

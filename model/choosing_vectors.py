@@ -1,0 +1,789 @@
+"""Vectors for choosing.
+
+Input, in lines, each laid out as the test program's line for rating:
+    l HEX HEX HEX HEX   a job to choose sizes for: room (2 bytes), workspace (its
+             length in 4 bytes, then the byte that fills it), the record, the
+             catalogue; the last two may be empty
+    k HEX HEX HEX HEX   the same, where several lists are equally cheap
+The buffer and the workspace are filled with that byte before the call. A room
+is at most 1,000, a workspace has at most 1,792,256 bytes, which is the most that
+any job needs, and a line at most 16,384.
+Output:
+    choose N HEX   for l, with the whole buffer of `room` bytes afterwards
+    choose N COST  for k and N 0, with the cost as a decimal number
+    choose N       for k and any other N
+From N 1 to 15 there follows the word `kept` where the whole workspace is still
+filled as it was, else `touched`; after 0 and 16 its bytes are free.
+
+A line `l` has a result only where one list alone is cheapest. Where `chosen` or
+`costing` states the cost, and the list, they are worked out by hand; where
+`found` leaves them to the model, test_choosing.py compares them with a second
+evaluation. Every vector has its number written down; which random houses have
+no list was read from the model and is confirmed by the condition of 16.
+"""
+
+import functools
+import random
+
+import catalogue as catalogues
+import choosing
+import choosing_conditions
+import job
+import rating
+import rating_vectors
+from conditions import ceiling
+from edit import OWN, head, house, people, put, section
+from flow_vectors import (chain_of_kinds, comb_of_kinds, end, flow_broken, halving_of_kinds,
+                          star_of_kinds)
+from houses import greedy, star
+from rating_vectors import GREEDY_SIZES, LEVEL, SIZE_1, SIZE_2, SIZES, catalogue, low, pair, tree
+from vector import Call, Vector, listed, room_of
+
+FILL = 0x5a
+MOST_WORK = 1_792_256
+
+
+def exact_room(record):
+    """The room of the result: 4 + S."""
+    return 4 + (record + bytes(7))[6]
+
+
+def exact_work(record):
+    """The workspace: 4 x (S + 1) x (H + 1,001)."""
+    record = record + bytes(14)
+    return 4 * (record[6] + 1) * (int.from_bytes(record[12:14], "big") + 1001)
+
+
+def choosing_of(name, expect, record=OWN, sizes=SIZES, room=None, work=None, fill=FILL,
+                holds=None, lines=None, letter="l"):
+    """A vector for choosing; room and workspace are just enough unless given."""
+    room = exact_room(record) if room is None else room
+    work = exact_work(record) if work is None else work
+    parts = (room.to_bytes(2, "big"), work.to_bytes(4, "big") + bytes([fill]), record, sizes)
+    return Vector(name, parts, expect, holds, letter, lines)
+
+
+def buffer_of(vector, result=b""):
+    """The digits of the buffer that begins with these bytes."""
+    room, work = vector.data[:2]
+    return (result + work[4:] * (room_of(room) - len(result))).hex()
+
+
+def refusal(name, number, **parts):
+    """A vector that is refused, with what is left of buffer and workspace."""
+    vector = choosing_of(name, number, **parts)
+    kept = " kept" if number < 16 else ""
+    return vector._replace(lines=[f"choose {number} {buffer_of(vector)}{kept}"])
+
+
+def refused(name, number, **parts):
+    """A vector that one condition refuses."""
+    return refusal(name, number, holds={number}, **parts)
+
+
+def chosen(name, cost, numbers, **parts):
+    """A vector with its cost and its only cheapest list."""
+    vector = choosing_of(name, 0, holds=set(), **parts)
+    result = cost.to_bytes(4, "big") + bytes(numbers)
+    return vector._replace(lines=[f"choose 0 {buffer_of(vector, result)}"])
+
+
+def costing(name, cost, **parts):
+    """A vector with its cost, which several lists have."""
+    return choosing_of(name, 0, holds=set(), letter="k", lines=[f"choose 0 {cost}"], **parts)
+
+
+def found(name, **parts):
+    """A vector whose cost and list are the model's."""
+    vector = choosing_of(name, 0, holds=set(), **parts)
+    return vector if choice_of(vector.data).count == 1 else vector._replace(letter="k")
+
+
+# The own case
+
+def own_case():
+    wide = head(OWN, limit=1642)
+    return [
+        chosen("document 01's own case", 130_000, [2]),
+        chosen("own case, H 921", 130_000, [2], record=head(OWN, H=921)),
+        refused("own case, H 920", 16, record=head(OWN, H=920)),
+        refusal("own case, result space 4 and no workspace", 14, room=4, work=0, holds={14, 15}),
+        # Size 1 has velocity 1,642 and loss 231.
+        chosen("own case, limit 1642", 90_000, [1], record=wide),
+        chosen("own case, limit 1642, H 1081", 90_000, [1], record=head(wide, H=1081)),
+        chosen("own case, limit 1642, H 1080", 130_000, [2], record=head(wide, H=1080)),
+        chosen("own case, limit 1641", 130_000, [2], record=head(OWN, limit=1641)),
+        chosen("own case, k 2, H 915", 130_000, [2], record=head(OWN, k=2, H=915)),
+        refused("own case, k 2, H 914", 16, record=head(OWN, k=2, H=914)),
+        chosen("own case, G 0: it plays no part", 130_000, [2], record=head(OWN, G=0, H=921)),
+        chosen("own case, G 6000: it plays no part", 130_000, [2], record=head(OWN, G=6000)),
+        refused("own case, G 6000, H 920", 16, record=head(OWN, G=6000, H=920)),
+        chosen("own case, T 1", 130_000, [2], record=head(OWN, T=1)),
+        chosen("own case, size 2 alone", 130_000, [1], sizes=catalogue(SIZE_2)),
+        refused("own case, size 1 alone", 16, sizes=catalogue(SIZE_1)),
+    ]
+
+
+# Rooms and workspaces
+
+def rooms():
+    many = long_star(1000)
+    return [chosen(f"own case, room {room}", 130_000, [2], room=room)
+            for room in (5, 6, 7, 67, 1000)] + [
+        refused(f"own case, room {room}", 14, room=room) for room in (4, 3, 1, 0)] + [
+        chosen("three sections, room 7", 224_400, [1, 2, 2], record=greedy(), sizes=GREEDY_SIZES),
+        chosen("three sections, room 12", 224_400, [1, 2, 2], record=greedy(), sizes=GREEDY_SIZES,
+               room=12),
+        refused("three sections, room 6", 14, record=greedy(), sizes=GREEDY_SIZES, room=6),
+        refused("three sections, room 5", 14, record=greedy(), sizes=GREEDY_SIZES, room=5),
+        chosen("63 sections, room 68", 930_000, [1] * 48 + [2] * 15, record=many, sizes=TRADE,
+               room=68),
+        refused("63 sections, room 66", 14, record=many, sizes=TRADE, room=66),
+    ]
+
+
+def workspaces():
+    """8 x 2,201 is 17,608; 8 x 1,001 is 8,008; 8 x 7,001 is 56,008; 16 x 3,387 is
+    54,192; 256 x 7,001 is 1,792,256."""
+    low_end, high, top = low(-1000, 0, 0), head(OWN, H=6000), long_star(6000)
+    return [chosen(f"own case, {work} bytes of workspace", 130_000, [2], work=work)
+            for work in (17_608, 17_609, 20_000, 65_536, 65_536 + 17_607, MOST_WORK)] + [
+        refused(f"own case, {work} bytes of workspace", 15, work=work)
+        for work in (17_607, 17_606, 17_604, 17_600, 8_804, 4, 1, 0)] + [
+        chosen("H 0, 8008 bytes of workspace", 130_000, [2], record=head(low_end, H=0),
+               work=8008),
+        refused("H 0, 8007 bytes of workspace", 15, record=head(low_end, H=0), work=8007),
+        chosen("H 6000, 56008 bytes of workspace", 130_000, [2], record=high, work=56_008),
+        refused("H 6000, 56007 bytes of workspace", 15, record=high, work=56_007),
+        chosen("three sections, 54192 bytes of workspace", 224_400, [1, 2, 2], record=greedy(),
+               sizes=GREEDY_SIZES, work=54_192),
+        refused("three sections, 54191 bytes of workspace", 15, record=greedy(),
+                sizes=GREEDY_SIZES, work=54_191),
+        refused("three sections, the workspace of two", 15, record=greedy(), sizes=GREEDY_SIZES,
+                work=40_644),
+        chosen("63 sections, H 6000, 1792256 bytes of workspace", 630_000, [1] * 63, record=top,
+               sizes=TRADE, work=MOST_WORK),
+        refused("63 sections, H 6000, 1792255 bytes of workspace", 15, record=top, sizes=TRADE,
+                work=MOST_WORK - 1),
+    ]
+
+
+# What buffer and workspace held before
+
+FILLS = (0x00, 0x5a, 0xff)
+
+
+def fills():
+    return [each for fill in FILLS for each in [
+        chosen(f"own case, filled with {fill}", 130_000, [2], room=9, fill=fill),
+        chosen(f"own case, H 921, filled with {fill}", 130_000, [2], record=head(OWN, H=921),
+               work=20_000, fill=fill),
+        refused(f"own case, H 920, filled with {fill}", 16, record=head(OWN, H=920), room=9,
+                fill=fill),
+        refused(f"15, filled with {fill}", 15, work=17_607, room=9, fill=fill),
+        refusal(f"14 and 15, filled with {fill}", 14, work=17_607, room=4, holds={14, 15},
+                fill=fill),
+        refused(f"9, filled with {fill}", 9, record=section(OWN, 1, fixtures=18), room=9,
+                fill=fill),
+        refused(f"11, filled with {fill}", 11, sizes=put(SIZES, 9, 2, 0), room=9, fill=fill),
+        chosen(f"three sections, filled with {fill}", 224_400, [1, 2, 2], record=greedy(),
+               sizes=GREEDY_SIZES, room=10, fill=fill),
+        refused(f"three sections, no list, filled with {fill}", 16, record=head(greedy(), H=1200),
+                sizes=GREEDY_SIZES, room=10, fill=fill),
+        chosen(f"section 4 under 1, 3 under 2, filled with {fill}", 100_000, [1, 1, 1, 2],
+               record=crossed(), sizes=TRADE, fill=fill),
+        costing(f"chain of 63, filled with {fill}", 1_290_000, record=long_row(1989),
+                sizes=TRADE, fill=fill),
+    ]]
+
+
+# Why no list suits
+
+def flat(*sizes):
+    """Sizes that read the same at every flow, given as (bore, price, velocity,
+    slope); with k 3 a slope of 10 loses 13 cm over 100 decimetres."""
+    return catalogue(*[(bore, price, (1, velocity, slope), (1_000_000, velocity, slope))
+                       for bore, price, velocity, slope in sizes])
+
+
+# Over 100 decimetres size 1 loses 52 cm and costs 10,000, size 2 loses 13 and
+# costs 30,000.
+TRADE = flat((20, 100, 900, 40), (30, 300, 600, 10))
+
+ENDS_AT_2051 = (50, 1300, (1000, 500, 12), (2051, 1026, 54))
+
+
+def no_list():
+    """The own case has flow 2,052 and limit 1,500; size 2 requires head 921."""
+    one = (60, 1300, (1000, 500, 12), (1500, 700, 50))
+    return [
+        refused("16 by the last row alone", 16, sizes=catalogue(ENDS_AT_2051)),
+        refused("16 by the last rows of two sizes", 16,
+                sizes=catalogue((40, 900, (1, 1, 1), (2, 1, 1)), ENDS_AT_2051)),
+        refused("16 by the limit alone", 16, record=head(OWN, limit=1025)),
+        refused("16 by the limit 1", 16, record=head(OWN, limit=1)),
+        refused("16 by the head alone", 16, record=head(OWN, H=920, limit=3000)),
+        refused("16 by the head, H 0", 16, record=head(OWN, H=0)),
+        refused("size 1 over the limit, size 2 over its last row", 16,
+                sizes=catalogue(SIZE_1, ENDS_AT_2051)),
+        refused("size 1 over its last row, size 2 over the limit", 16, record=head(OWN, limit=1025),
+                sizes=catalogue((40, 900) + ENDS_AT_2051[2:], SIZE_2)),
+        refused("size 1 over its last row, size 2 over the head", 16, record=head(OWN, H=920),
+                sizes=catalogue((40, 900) + ENDS_AT_2051[2:], SIZE_2)),
+        # 20 fixtures flow 979, 60 flow 1,739.
+        refused("no size serves the first of two sections", 16, record=pair(60, 20),
+                sizes=catalogue(one)),
+        refused("no size serves the second of two sections", 16, record=pair(20, 60),
+                sizes=catalogue(one)),
+        refused("the second end is too high", 16, record=ends(100, 950, H=1000, meter=50),
+                sizes=TRADE),
+        refused("the first end is too high", 16, record=ends(950, 100, H=1000, meter=50),
+                sizes=TRADE),
+        refused("the middle end is too high", 16, sizes=TRADE,
+                record=ends(100, 950, 100, H=1000, meter=50)),
+        refused("each of two in a row has head enough, both don't", 16, record=row(300, 100, H=51),
+                sizes=TRADE),
+        refused("the greatest loss", 16, sizes=flat((50, 1300, 1500, 65_535)),
+                record=section(head(OWN, H=6000), 1, length=5000)),
+        chosen("the greatest loss, or a dearer size", 6_500_000, [2],
+               sizes=flat((50, 1000, 1500, 65_535), (60, 1300, 1, 1)),
+               record=section(head(OWN, H=6000), 1, length=5000)),
+        choosing_of("no list, asked for its cost", 16, record=head(OWN, H=920), holds={16},
+                    letter="k", lines=["choose 16"]),
+    ]
+
+
+def just_enough():
+    last_row = catalogue((50, 1300, (2051, 700, 20), (2052, 800, 25)))
+    first_row = catalogue((50, 1300, (2053, 700, 20), (3000, 1400, 90)))
+    serve = catalogue((40, 1, (1000, 500, 12), (1500, 700, 50)), (60, 1300) + SIZE_2[2:])
+    return [
+        chosen("velocity equal to the limit", 130_000, [2], record=head(OWN, limit=1026)),
+        refused("velocity one over the limit", 16, record=head(OWN, limit=1025)),
+        chosen("flow equal to the last row", 130_000, [1], sizes=last_row,
+               record=head(OWN, H=883)),
+        refused("flow equal to the last row, H 882", 16, sizes=last_row, record=head(OWN, H=882)),
+        refused("flow one over the last row", 16, sizes=catalogue(ENDS_AT_2051)),
+        chosen("flow one under the first row", 130_000, [1], sizes=first_row,
+               record=head(OWN, H=876)),
+        refused("flow one under the first row, H 875", 16, sizes=first_row,
+                record=head(OWN, H=875)),
+        chosen("size 1 serves only the first of two ends", 130_100, [1, 2], sizes=serve,
+               record=pair(20, 60)),
+        chosen("size 1 serves only the second of two ends", 130_100, [2, 1], sizes=serve,
+               record=pair(60, 20)),
+    ]
+
+
+# Heads
+
+def row(*lengths, H, **measures):
+    """Sections one under the other, at the height of the pump."""
+    parts = [(i, 0, 0, length, 0, 0) for i, length in enumerate(lengths)]
+    parts[-1] = (len(lengths) - 1, 7, 80, lengths[-1], 0, 0)
+    return head(house(parts, {7: 71}), meter=0, H=H, **measures)
+
+
+def ends(*elevations, H, meter=0, length=100):
+    """Ends at the pump without free head."""
+    return head(house([(0, 7, 80, length, elevation, 0) for elevation in elevations], {7: 71}),
+                meter=meter, H=H)
+
+
+def low_ends():
+    """Below the pump: the own case loses 71 with size 2. With a length of 1
+    each size loses 1."""
+    short = section(low(-1000, 0, 1000), 1, length=1)
+    steep = flat((20, 100, 900, 40))
+    return [
+        chosen("required head 0, H 0", 130_000, [2], record=head(low(-321), H=0)),
+        refused("required head 1, H 0", 16, record=head(low(-320), H=0)),
+        chosen("required head 1, H 1", 130_000, [2], record=head(low(-320), H=1)),
+        chosen("required head -1, H 0", 130_000, [2], record=head(low(-322), H=0)),
+        chosen("required head -929, H 0", 130_000, [2], record=head(low(-1000, 0, 0), H=0)),
+        chosen("the least required head, H 0", 1300, [2], record=head(short, meter=0, H=0)),
+        chosen("meter 1000, H 1", 1300, [2], record=head(short, H=1)),
+        refused("meter 1000, H 0", 16, record=head(short, H=0)),
+        chosen("meter 999, H 0", 1300, [2], record=head(short, meter=999, H=0)),
+        chosen("meter 1000, H 71", 130_000, [2], record=head(low(-1000, 0, 1000), H=71)),
+        refused("meter 1000, H 70", 16, record=head(low(-1000, 0, 1000), H=70)),
+        # 40 x 1,923 x 13 / 1,000 is 999.96, of 1,924 it is 1,000.48.
+        chosen("a loss of 1000 down from -1000, H 0", 192_300, [1], sizes=steep,
+               record=ends(-1000, H=0, length=1923)),
+        refused("a loss of 1001 down from -1000, H 0", 16, sizes=steep,
+                record=ends(-1000, H=0, length=1924)),
+        chosen("ends below and above the pump", 40_000, [1, 2], sizes=TRADE,
+               record=ends(-1000, 80, H=100)),
+        chosen("all ends below the pump", 40_000, [2, 1], sizes=TRADE,
+               record=ends(-33, -72, H=0, meter=20)),
+        refused("all ends below the pump, one too high", 16, sizes=TRADE,
+                record=ends(-32, -72, H=0, meter=20)),
+    ]
+
+
+def high_ends():
+    short = section(low(5999, 0, 0), 1, length=1)
+    return [
+        chosen("elevation 5999, H 6000", 1300, [2], record=head(short, H=6000)),
+        refused("elevation 5999, H 5999", 16, record=head(short, H=5999)),
+        refused("elevation 6000, H 6000", 16, record=head(section(short, 1, elevation=6000),
+                                                          H=6000)),
+        refused("the greatest elevation, free head and meter loss", 16,
+                record=head(low(6000, 1000, 1000), H=6000)),
+        chosen("elevation 4929, free head 1000", 130_000, [2],
+               record=head(low(4929, 1000, 0), H=6000)),
+        refused("elevation 4930, free head 1000", 16, record=head(low(4930, 1000, 0), H=6000)),
+    ]
+
+
+# Trading head between sections
+
+def three_sections():
+    """Widening one pipe after another on the dictating path ends with 2 1 1 at
+    234,960. List 1 2 2 requires head 2,383."""
+    return [
+        chosen("three sections: widening ends dearer", 224_400, [1, 2, 2], record=greedy(),
+               sizes=GREEDY_SIZES),
+        chosen("three sections, H 2383", 224_400, [1, 2, 2], record=head(greedy(), H=2383),
+               sizes=GREEDY_SIZES),
+        # 161 and 33 below it to 776 + 200, 161 and 55 to 798 + 200.
+        chosen("three sections, H 1214: the widest", 446_600, [3, 3, 3],
+               record=head(greedy(), H=1214), sizes=GREEDY_SIZES),
+        refused("three sections, H 1213", 16, record=head(greedy(), H=1213), sizes=GREEDY_SIZES),
+    ] + [found(f"three sections, H {H}", record=head(greedy(), H=H), sizes=GREEDY_SIZES)
+         for H in (2382, 2300, 2000, 1800, 1500, 1400, 6000)]
+
+
+def two_in_a_row():
+    """Section 1 loses 156 for 30,000 or 39 for 90,000, section 2 loses 52 for
+    10,000 or 13 for 30,000."""
+    stated = {
+        52: (120_000, [2, 2]), 90: (120_000, [2, 2]), 91: (100_000, [2, 1]),
+        168: (100_000, [2, 1]), 169: (60_000, [1, 2]), 207: (60_000, [1, 2]),
+        208: (40_000, [1, 1]), 6000: (40_000, [1, 1]),
+    }
+    return [chosen(f"lengths 300 and 100, H {H}", *stated[H], record=row(300, 100, H=H),
+                   sizes=TRADE) for H in stated] + [
+        refused("lengths 300 and 100, H 51", 16, record=row(300, 100, H=51), sizes=TRADE)]
+
+
+def shared_section(length, H):
+    """Three ends of 100 decimetres under one section."""
+    return head(house([(0, 0, 0, length, 0, 0)] + [(1, 7, 80, 100, 0, 0)] * 3, {7: 71}), meter=0,
+                H=H)
+
+
+def three_ends():
+    """A shared section of 100 loses 52 for 10,000 or 13 for 30,000, one of 600
+    loses 312 for 60,000 or 78 for 180,000."""
+    stated = {
+        (100, 26): (120_000, [2, 2, 2, 2]), (100, 65): (60_000, [2, 1, 1, 1]),
+        (100, 103): (60_000, [2, 1, 1, 1]), (100, 104): (40_000, [1, 1, 1, 1]),
+        (600, 91): (270_000, [2, 2, 2, 2]), (600, 130): (210_000, [2, 1, 1, 1]),
+        (600, 324): (210_000, [2, 1, 1, 1]), (600, 325): (150_000, [1, 2, 2, 2]),
+        (600, 363): (150_000, [1, 2, 2, 2]), (600, 364): (90_000, [1, 1, 1, 1]),
+    }
+    high = section(shared_section(600, 364), 3, elevation=1)
+    return [chosen(f"three ends under {length}, H {H}", *result, sizes=TRADE,
+                   record=shared_section(length, H)) for (length, H), result in stated.items()] + [
+        refused("three ends under 600, H 90", 16, record=shared_section(600, 90), sizes=TRADE),
+        chosen("three ends under 600, the second of them higher", 110_000, [1, 1, 2, 1],
+               record=high, sizes=TRADE),
+    ]
+
+
+# Trees
+
+def crossed():
+    """Section 4 under 1 and section 3 under 2; the end of section 4 is 39 higher,
+    so that 169 is left to sections 1 and 4, and 208 to 2 and 3."""
+    return head(house([(0, 0, 0, 300, 0, 0), (0, 0, 0, 300, 0, 0), (2, 7, 80, 100, 0, 0),
+                       (1, 7, 80, 100, 39, 0)], {7: 71}), meter=0, H=208)
+
+
+def without_kind(elevation):
+    """A section without a kind at this height, and an end under it."""
+    return section(tree((0, 600), (1, 600)), 1, elevation=elevation)
+
+
+def small_trees():
+    # Flows 256, 300, 1,257 and 365: a child with more than its parent.
+    mixed = house([end(11, 1), end(8, 1, 1), end(8, 99), end(11, 99, 3)], {8: 27, 11: 36})
+    to_299 = catalogue((20, 100, (1, 100, 10), (299, 200, 10)),
+                       (30, 300, (1, 100, 10), (2000, 200, 10)))
+    short = house([(0, 0, 0, 1, 600, 0), (1, 0, 0, 1, 600, 0), (2, 7, 80, 1, 600, 200)], {7: 71})
+    one = flat((20, 100, 900, 10))
+    inner_kind = house([(0, 7, 40, 100, 900, 200), (1, 7, 40, 100, 600, 200)], {7: 71})
+    return [
+        chosen("section 4 under 1, section 3 under 2", 100_000, [1, 1, 1, 2], record=crossed(),
+               sizes=TRADE),
+        chosen("three ends at the pump", 50_000, [1, 2, 1], record=ends(40, 80, 48, H=100),
+               sizes=TRADE),
+        chosen("three ends around the bounds", 70_000, [2, 1, 2], record=ends(49, 48, 87, H=100),
+               sizes=TRADE),
+        chosen("a child flows more than its parent", 100_000, [1, 2, 2, 2], record=mixed,
+               sizes=to_299),
+        # Meter 50: 1,098 + 52 and 1,137 + 13 reach 1,150.
+        chosen("a section without a kind just reached by size 1", 20_000, [1, 1],
+               record=without_kind(1098), sizes=TRADE),
+        chosen("a section without a kind one higher", 40_000, [2, 1], record=without_kind(1099),
+               sizes=TRADE),
+        chosen("a section without a kind just reached by size 2", 40_000, [2, 1],
+               record=without_kind(1137), sizes=TRADE),
+        refused("a section without a kind too high", 16, record=without_kind(1138), sizes=TRADE),
+        # 900 + 200 + 52 is over 1,150.
+        chosen("an inner section with fixtures and free head dictates", 40_000, [2, 1],
+               record=inner_kind, sizes=TRADE),
+        chosen("three in a row, each loss up", 300, [1, 1, 1], record=head(short, H=853),
+               sizes=one),
+        refused("three in a row, each loss up, H 852", 16, record=head(short, H=852), sizes=one),
+    ]
+
+
+# Catalogues
+
+TWELVE = [(10 * i, 100 * i, 900, 130 - 10 * i) for i in range(1, 13)]
+
+
+def catalogue_of(*sizes):
+    """The own case with flat sizes."""
+    return {"sizes": flat(*sizes)}
+
+
+def sizes_and_prices():
+    """The own case has 1,200 - 50 - 800 = 350 left for the loss."""
+    better = catalogue_of((20, 900, 900, 40), (30, 500, 600, 10))
+    steeper = catalogue_of((20, 900, 900, 10), (30, 500, 600, 40))
+    many, fallen = flat(*TWELVE), flat(*[(b, 1300 - p, v, s) for b, p, v, s in TWELVE])
+    middle = flat(*[(b, 40 if b == 70 else p, v, s) for b, p, v, s in TWELVE])
+    return [
+        chosen("a wider size is cheaper and flatter", 50_000, [2], **better),
+        chosen("a wider size is cheaper and flatter, H 863", 50_000, [2], record=head(OWN, H=863),
+               **better),
+        chosen("a wider size is cheaper and steeper", 50_000, [2], **steeper),
+        chosen("a wider size is cheaper and steeper, H 902", 50_000, [2],
+               record=head(OWN, H=902), **steeper),
+        chosen("a wider size is cheaper and steeper, H 901", 90_000, [1],
+               record=head(OWN, H=901), **steeper),
+        chosen("a wider size is cheaper and ends earlier", 130_000, [1],
+               sizes=catalogue(SIZE_2, (60, 1) + ENDS_AT_2051[2:])),
+        chosen("a wider size is cheaper and faster than the limit", 90_000, [1],
+               **catalogue_of((20, 900, 1500, 10), (30, 500, 1501, 10))),
+        chosen("12 sizes, H 863: the last", 120_000, [12], record=head(OWN, H=863), sizes=many),
+        refused("12 sizes, H 862", 16, record=head(OWN, H=862), sizes=many),
+        chosen("12 sizes, H 876: the last but one", 110_000, [11], record=head(OWN, H=876),
+               sizes=many),
+        chosen("12 sizes, H 1005: the second", 20_000, [2], record=head(OWN, H=1005), sizes=many),
+        chosen("12 sizes, H 1006: the first", 10_000, [1], record=head(OWN, H=1006), sizes=many),
+        chosen("12 sizes, cheaper the wider", 10_000, [12], sizes=fallen),
+        chosen("12 sizes, a middle one is cheapest", 4000, [7], sizes=middle),
+        chosen("12 sizes, a middle one is cheapest, H 927", 80_000, [8], sizes=middle,
+               record=head(OWN, H=927)),
+        chosen("price and length 1", 1, [1], record=section(OWN, 1, length=1),
+               **catalogue_of((20, 1, 1, 1))),
+        chosen("price 10000, length 5000", 50_000_000, [1], record=section(OWN, 1, length=5000),
+               **catalogue_of((20, 10_000, 1, 1))),
+    ]
+
+
+# Several cheapest lists
+
+def equal_costs():
+    """The three level sizes have one price and lose 13, 26 and 52."""
+    alike = flat((20, 100, 900, 40), (30, 100, 900, 40), (40, 300, 600, 10))
+    return [
+        costing("three sizes at one price", 10_000, sizes=LEVEL),
+        costing("three sizes at one price, H 876", 10_000, record=head(OWN, H=876), sizes=LEVEL),
+        chosen("three sizes at one price, H 875", 10_000, [1], record=head(OWN, H=875),
+               sizes=LEVEL),
+        costing("three sizes at one price, three ends", 30_000, sizes=LEVEL,
+                record=ends(0, 0, 0, H=1000)),
+        costing("two in a row, either is wide", 40_000, record=row(100, 100, H=65), sizes=TRADE),
+        costing("two in a row, either is wide, H 103", 40_000, record=row(100, 100, H=103),
+                sizes=TRADE),
+        costing("three in a row, any two are wide", 70_000, record=row(100, 100, 100, H=78),
+                sizes=TRADE),
+        costing("two sizes alike but for the bore", 10_000, sizes=alike),
+        # 104 + 13 + 13 for 20,000 + 60,000, or 26 + 52 + 52 for 60,000 + 20,000.
+        costing("one section wide or two others", 80_000, sizes=TRADE,
+                record=row(200, 100, 100, H=130)),
+    ]
+
+
+# Long houses
+
+def long_row(H):
+    """63 of 100 decimetres in a row: with w of them steep they lose 819 + 39 x w
+    and cost 1,890,000 - 20,000 x w."""
+    return row(*[100] * 63, H=H)
+
+
+def long_star(H):
+    """End i is 900 + i high. At H 1,000 size 1 is enough up to end 48."""
+    return head(house([(0, 7, 30, 100, 900 + i, 0) for i in range(1, 64)], {7: 71}), meter=0, H=H)
+
+
+def long_by_hand():
+    dear = house([(0, 7, 65_535, 5000, -1000, 0)] * 63, {7: 71})
+    return [
+        refused("chain of 63, H 818", 16, record=long_row(818), sizes=TRADE),
+        chosen("chain of 63, H 819", 1_890_000, [2] * 63, record=long_row(819), sizes=TRADE),
+        chosen("chain of 63, H 857", 1_890_000, [2] * 63, record=long_row(857), sizes=TRADE),
+        costing("chain of 63, H 858", 1_870_000, record=long_row(858), sizes=TRADE),
+        costing("chain of 63, H 1988", 1_310_000, record=long_row(1988), sizes=TRADE),
+        costing("chain of 63, H 1989", 1_290_000, record=long_row(1989), sizes=TRADE),
+        chosen("chain of 63, H 3276", 630_000, [1] * 63, record=long_row(3276), sizes=TRADE),
+        chosen("chain of 63, H 6000", 630_000, [1] * 63, record=long_row(6000), sizes=TRADE),
+        refused("star of 63, H 975", 16, record=long_star(975), sizes=TRADE),
+        chosen("star of 63, H 976", 1_410_000, [1] * 24 + [2] * 39,
+               record=long_star(976), sizes=TRADE),
+        chosen("star of 63, H 1000", 930_000, [1] * 48 + [2] * 15, record=long_star(1000),
+               sizes=TRADE),
+        chosen("star of 63, H 1015", 630_000, [1] * 63, record=long_star(1015), sizes=TRADE),
+        # 63 x 5,000 x 10,000; each loses 65.
+        chosen("the greatest cost", 3_150_000_000, [1] * 63, record=dear,
+               sizes=flat((20, 10_000, 1, 1))),
+        refused("the greatest losses in a row", 16, record=row(*[5000] * 63, H=6000),
+                sizes=flat((20, 10_000, 1500, 65_535))),
+    ]
+
+
+# Twelve sizes of 64 rows, of the kind of steel pipes: velocities from the bore,
+# slopes by the square of the flow over the fifth power of the bore, flows up to
+# about 3 m/s. Prices have no common divisor.
+
+BORES = (15, 20, 25, 32, 40, 50, 65, 80, 100, 125, 150, 200)
+PRICES = (121, 153, 199, 257, 331, 419, 607, 761, 1051, 1499, 2003, 3109)
+
+
+def pipe_row(bore, flow):
+    return flow, ceiling(1273 * flow, bore ** 2), ceiling(4000 * flow ** 2, bore ** 5)
+
+
+def pipe(bore, price, count):
+    step = ceiling(3000 * bore ** 2, 1273 * count)
+    return (bore, price) + tuple(pipe_row(bore, step * i) for i in range(1, count + 1))
+
+
+PIPES = catalogue(*[pipe(bore, price, 64) for bore, price in zip(BORES, PRICES)])
+FEW_ROWS = catalogue(*[pipe(bore, price, 2) for bore, price in zip(BORES, PRICES)])
+
+
+def measured(record, H, lift=0):
+    """Lengths and heights in turn, so that few lists cost the same."""
+    for i in range(1, record[6] + 1):
+        kind = record[31 + 10 * i]
+        record = section(record, i, length=20 + 13 * i % 67, elevation=lift - 200 + 37 * i % 400,
+                         free=200 if kind else 0)
+    return head(record, H=H, limit=2500)
+
+
+TREES = {"chain": chain_of_kinds, "star": star_of_kinds, "comb": comb_of_kinds}
+
+
+@functools.lru_cache(maxsize=None)
+def least_head(record, sizes):
+    """The head that the least losses require."""
+    lost = [min(loss for loss, _ in filter(None, some))
+            for some in choosing_conditions.pairs(record, sizes)]
+    return choosing_conditions.head_figures(record, lost)[0]
+
+
+def long_houses():
+    """The lines of the most bytes, with 63 sections and 12 sizes of 64 rows."""
+    def of(shape, H, lift=0, fill=FILL, **parts):
+        return found(f"{shape} of 63, 12 sizes of 64 rows, H {H}, lifted by {lift}, filled with "
+                     f"{fill}", record=measured(TREES[shape](63), H, lift), sizes=PIPES, fill=fill,
+                     **parts)
+    least = least_head(measured(chain_of_kinds(63), 0), PIPES)
+    return [
+        of("chain", 6000, fill=0xff), of("star", 6000, fill=0x00), of("comb", 6000),
+        of("chain", 1200, room=100), of("star", 800, fill=0xff), of("comb", 1200, fill=0x00),
+        of("chain", 0, -800, fill=0xff), of("star", 0, -800), of("comb", 0, -800, fill=0x00),
+        of("chain", least, fill=0x00),
+        refused("chain of 63, 12 sizes of 64 rows, H 1 too little", 16,
+                record=measured(chain_of_kinds(63), least - 1), sizes=PIPES),
+        refused("comb of 63, 12 sizes of 64 rows, H 0", 16, record=measured(comb_of_kinds(63), 0),
+                sizes=PIPES),
+        refusal("star of 63, 12 sizes of 64 rows, room 66 and no workspace", 14,
+                record=measured(star_of_kinds(63), 6000), sizes=PIPES, room=66, work=0,
+                holds={14, 15}),
+    ]
+
+
+def long_houses_few_rows():
+    """The same sizes with two rows each."""
+    shapes = dict(TREES, halving=halving_of_kinds)
+    return [found(f"{shape} of 63, 12 sizes of 2 rows, H {H}, lifted by {lift}, filled with {fill}",
+                  record=measured(shapes[shape](63), H, lift), sizes=FEW_ROWS, fill=fill)
+            for shape, H, lift, fill in [
+                ("chain", 6000, 0, 0x00), ("chain", 3000, 0, 0xff), ("chain", 6000, 4000, 0x5a),
+                ("comb", 6000, 0, 0xff), ("comb", 2000, 0, 0x5a), ("comb", 300, -800, 0xff),
+                ("star", 700, 0, 0x00), ("star", 6000, 5300, 0xff), ("star", 0, -700, 0x5a),
+                ("halving", 6000, 0, 0xff), ("halving", 1500, 0, 0x00), ("halving", 900, 0, 0x5a),
+                ("halving", 0, -700, 0xff), ("halving", 6000, 5100, 0x00)]]
+
+
+# Order
+
+def order_parts(numbers):
+    """Parts for which exactly these numbers' conditions hold. 16 is not to be
+    had beside 1 to 11."""
+    sizes = put(SIZES, 4, 1, 2) if 10 in numbers else SIZES
+    record = flow_broken(numbers)
+    return {
+        "record": head(record, limit=1) if 16 in numbers else record,
+        "sizes": put(sizes, 29, 2, 0) if 11 in numbers else sizes,
+        "room": 5 if 14 in numbers else 6,
+        "work": 26_411 if 15 in numbers else 26_412,
+    }
+
+
+ORDER = [{number} for number in (*range(1, 12), 14, 15, 16)] + [
+    {1, 10}, {1, 14}, {1, 15}, {2, 11}, {2, 15}, {3, 10}, {3, 14}, {4, 11}, {4, 15}, {5, 10},
+    {5, 14}, {6, 11}, {6, 15}, {7, 10}, {7, 14}, {8, 10}, {8, 15}, {9, 10}, {9, 11}, {9, 14},
+    {9, 15}, {10, 11}, {10, 14}, {10, 15}, {11, 14}, {11, 15}, {14, 15}, {14, 16}, {15, 16},
+    {14, 15, 16}, {10, 11, 14, 15}, {9, 10, 11, 14, 15},
+    {1, 2, 3, 4, 5, 6, 7, 8, 9, 10, 11, 14, 15},
+]
+
+
+def order():
+    """The least number is the answer; 12 and 13 are none of choosing's."""
+    return [refusal(listed(each), min(each), holds=each, **order_parts(each))
+            for each in ORDER] + [
+        refusal("nothing lent at all", 1, record=b"", sizes=b"", room=0, work=0),
+        refusal("no job", 1, record=b"", room=5, work=17_608),
+        refusal("no catalogue", 10, sizes=b""),
+        refusal("no catalogue, no room, no workspace", 10, sizes=b"", room=0, work=0),
+        refusal("S 64 in its length", 3, record=star(64), room=1000, work=MOST_WORK),
+        refusal("H 6001", 3, record=head(OWN, H=6001)),
+        refusal("H 6001, no room, no workspace", 3, record=head(OWN, H=6001), room=0, work=0),
+        refusal("S 2 in 50 bytes", 4, record=head(OWN, S=2)),
+        refused("residents 65535, fixtures 65535", 8,
+                record=people(section(OWN, 1, fixtures=65_535), {7: 65_535})),
+        refused("kind 11 in ends of 50 and 200", 9,
+                record=house([end(11, 50), end(11, 200)], {11: 3200})),
+    ]
+
+
+def damaged_catalogues():
+    """The catalogues that rating refuses by 10 or 11."""
+    groups = rating_vectors.catalogue_shapes() + rating_vectors.catalogue_rules()
+    return [refusal(each.name, each.expect, sizes=each.data[2]) for each in groups
+            if each.expect in (10, 11)]
+
+
+# Random houses
+
+def random_rows(rng, count, steepest):
+    """One size in four ends at a flow that not every section keeps under."""
+    last = rng.choice([200_000, 200_000, 200_000, rng.randint(300, 3000)])
+    flows = sorted(rng.sample(range(100, last), count - 1)) + [last]
+    velocities = sorted(rng.randint(1, 2000) for _ in range(count))
+    slopes = sorted(rng.randint(steepest // 2, steepest) for _ in range(count))
+    return tuple(zip(flows, velocities, slopes))
+
+
+def random_sizes(rng, count):
+    """So many sizes. In one catalogue of three the wider ones are not always
+    dearer or flatter; few prices make many lists equally cheap."""
+    bores = sorted(rng.sample(range(10, 200), count))
+    prices = rng.choices(rng.choice([range(1, 10_001), range(1, 10_001), range(1, 4)]), k=count)
+    slopes = rng.sample(range(2, 120), count)
+    if rng.randrange(3):
+        prices, slopes = sorted(prices), sorted(slopes, reverse=True)
+    rows = rng.randint(2, 4)
+    return catalogue(*[(bore, price) + random_rows(rng, rows, slope)
+                       for bore, price, slope in zip(bores, prices, slopes)])
+
+
+def span(record, sizes):
+    """The least and the greatest head that lists of sizes that serve require;
+    any two where some section has no such size."""
+    decoded = job.decode(record)
+    offered = choosing.offered_to(decoded, catalogues.decode(sizes))
+    if not all(offered):
+        return 0, 6000
+    return [rating.heads(decoded, [pick(each.loss for each in some) for some in offered])[0]
+            for pick in (min, max)]
+
+
+def random_parts(rng, sections, sizes):
+    """A record of so many sections and a catalogue of so many sizes, with an H
+    that most often matters."""
+    found_sizes = random_sizes(rng, sizes)
+    record = rating_vectors.random_parts(rng, sections)["record"]
+    record = head(record, meter=rng.randint(0, 300), limit=rng.choice([1800, 2000, 3000]))
+    least, greatest = span(record, found_sizes)
+    some = rng.randint(least, least + (greatest - least) // 4)
+    H = rng.choice([least - 1, least, greatest] + 6 * [some])
+    return {"record": head(record, H=min(6000, max(0, H))), "sizes": found_sizes}
+
+
+# Those that no list suits.
+NO_LIST = {8, 12, 30}
+
+
+def random_houses():
+    rng = random.Random(6)
+    counts = [1, 2, 3, 4, 5, 6] * 3 + [rng.randint(7, 40) for _ in range(22)]
+    return [random_vector(rng, i, count) for i, count in enumerate(counts, start=1)]
+
+
+def random_vector(rng, i, count):
+    parts = random_parts(rng, count, rng.choice([2, 3, 4, 6, 8, 12]))
+    name = f"random house {i}, {count} sections, {parts['sizes'][5]} sizes"
+    fill = rng.choice(FILLS)
+    if i in NO_LIST:
+        return refused(name, 16, fill=fill, **parts)
+    return found(name, fill=fill, **parts)
+
+
+GROUPS = [
+    ("choosing, own case", own_case), ("choosing, room", rooms),
+    ("choosing, workspace", workspaces), ("choosing, what was there before", fills),
+    ("choosing, no list", no_list), ("choosing, just enough", just_enough),
+    ("choosing, low ends", low_ends), ("choosing, high ends", high_ends),
+    ("choosing, three sections", three_sections), ("choosing, two in a row", two_in_a_row),
+    ("choosing, three ends", three_ends), ("choosing, small trees", small_trees),
+    ("choosing, sizes and prices", sizes_and_prices), ("choosing, equal costs", equal_costs),
+    ("choosing, order", order), ("choosing, damaged catalogues", damaged_catalogues),
+    ("choosing, random houses", random_houses), ("choosing, long houses by hand", long_by_hand),
+    ("choosing, long houses", long_houses_few_rows),
+    ("choosing, long houses and many rows", long_houses),
+]
+
+
+# The answers
+
+def choice_of(parts):
+    room, work, record, sizes = parts
+    return choosing.choose(record, sizes, int.from_bytes(work[:4], "big"), room_of(room))
+
+
+def after(choice):
+    """What the line says of the workspace."""
+    return " kept" if 1 <= choice.number <= 15 else ""
+
+
+def list_lines(parts):
+    room, work, *_ = parts
+    choice = choice_of(parts)
+    assert choice.number != 0 or choice.count == 1, parts
+    result = choosing.result(choice) if choice.number == 0 else b""
+    buffer = result + work[4:] * (room_of(room) - len(result))
+    return [f"choose {choice.number} {buffer.hex()}{after(choice)}"]
+
+
+def cost_lines(parts):
+    choice = choice_of(parts)
+    if choice.number == 0:
+        return [f"choose 0 {choice.cost}"]
+    return [f"choose {choice.number}{after(choice)}"]
+
+
+CALLS = {
+    "l": Call("choose", list_lines, choosing_conditions.of_choose, (*range(1, 12), 14, 15, 16)),
+    "k": Call("choose", cost_lines, choosing_conditions.of_choose, (16,)),
+}
