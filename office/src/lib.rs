@@ -3,7 +3,7 @@
 //! - [`flow`], [`rate`], [`choose`] and [`copy`] call the proved library and give typed results or a [`Refusal`].
 //! - `ffi` has the same calls on lent buffers, and the only unsafe code.
 //! - `model` is document 01 once more, written independently; [`soak`] and [`replay`] compare the two.
-//! - [`bench`] times the library against the model and against `dense`, a plain search in safe Rust.
+//! - [`bench()`] times the library against the model and against `dense`, a plain search in safe Rust.
 
 #![deny(unsafe_code)]
 

@@ -2,7 +2,7 @@
 
 use super::draft::restate;
 use super::rng::Rng;
-use crate::case::Case;
+use crate::case::{Call, Case};
 
 /// Puts the fault of this number into the case, as far as its bytes allow. 14 and 15 are made with the buffers.
 pub fn spoil(rng: &Rng, case: &mut Case, number: u32) {
@@ -51,6 +51,27 @@ pub fn scratch(rng: &Rng, case: &mut Case) {
     }
     if rng.once_in(2) {
         restate(target);
+    }
+}
+
+/// Bytes that were never a record.
+pub fn junk(rng: &Rng, case: &mut Case) {
+    let length = rng.pick(&[0, 3, 6, 7, 39, 40, 50, 60, 670, 700]);
+    let bytes = rng.bytes(length);
+    if matches!(case.call, Call::Rate | Call::Choose) && rng.once_in(2) {
+        case.cat = bytes;
+        restate(&mut case.cat);
+    } else {
+        case.job = bytes;
+        if !rng.once_in(4) {
+            restate(&mut case.job);
+        }
+        if let (Some(version), false) = (case.job.get_mut(4), rng.once_in(4)) {
+            *version = 1;
+        }
+    }
+    if rng.once_in(2) {
+        case.sizes = rng.bytes(rng.pick(&[0, 1, 5, 63, 64]));
     }
 }
 
