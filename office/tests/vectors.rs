@@ -149,3 +149,12 @@ fn widening_one_by_one_ends_dearer() {
     let flows = office::flow(&case.job).expect("an accepted job").flows;
     assert_eq!(flows, [874, 631, 606]);
 }
+
+#[test]
+fn the_case_in_the_readme_can_be_replayed() {
+    let readme = include_str!("../README.md");
+    let from = readme.find("    call choose").expect("a case in the README");
+    let file = readme[from..].split("\n\n").next().expect("its lines");
+    let said = replay(file).unwrap_or_else(|what| panic!("{what}"));
+    assert_eq!(said, "choose: library and model agree: number 0, result [0, 1, 251, 208, 2]");
+}
