@@ -23,3 +23,14 @@ pub use calls::{Choice, Flow, Rated, Rating, choose, copy, flow, rate};
 pub use compare::{Mismatch, replay, soak};
 pub use refusal::Refusal;
 pub use situations::Counters;
+
+// What people touch: readable files, the places of refusals, drawings.
+pub mod at;
+pub mod catalogue;
+pub mod house;
+pub mod kinds;
+mod line;
+mod measure;
+pub mod mistake;
+pub mod record;
+pub mod table;
