@@ -32,5 +32,6 @@ pub mod kinds;
 mod line;
 mod measure;
 pub mod mistake;
+pub mod places;
 pub mod record;
 pub mod table;
