@@ -27,11 +27,13 @@ pub use situations::Counters;
 // What people touch: readable files, the places of refusals, drawings.
 pub mod at;
 pub mod catalogue;
+pub mod draw;
 pub mod house;
 pub mod kinds;
 mod line;
 mod measure;
 pub mod mistake;
+pub mod pipes;
 pub mod places;
 pub mod record;
 pub mod table;

@@ -1,0 +1,135 @@
+//! The network as a drawing: plain SVG, the pump at the left, each section a pipe from the end of the one before it.
+//!
+//! A section's first child goes straight on; the others leave downward to rows of their own, so that no two pipes share a
+//! row and a column, and no text meets another.
+
+mod layout;
+mod svg;
+
+use crate::calls::Rating;
+use crate::kinds;
+use crate::pipes::Pipe;
+use crate::record::Record;
+use layout::{COLUMN, LEFT, Place, ROW, TOP};
+use svg::Svg;
+
+/// Half of the turn that a pipe takes below its parent's end, so that text beside the end has room.
+const STUB: i64 = 14;
+/// The colour of the dictating path, which is also drawn wider and named in words, so that it shows in print.
+const DICTATING: &str = "#b3261e";
+const PIPE: &str = "#31587a";
+const SHORT: &str = "#b3261e";
+const FAINT: &str = "#5f6b76";
+const INK: &str = "#1c2329";
+
+/// The drawing of a rated house. `cost` is the cheapest list's, in tenths of the price unit, where one was chosen.
+pub fn draw(record: &Record, pipes: &[Pipe], rating: &Rating, cost: Option<u32>) -> String {
+    let places = layout::places(pipes);
+    let (columns, rows) = layout::extent(&places);
+    let width = LEFT + columns * COLUMN + 40;
+    let height = TOP + rows * ROW + 30;
+    let mut svg = Svg::new(width, height, &format!("House network of {} sections", pipes.len()));
+    heading(&mut svg, record, rating, cost);
+    pump(&mut svg, record, rating);
+    for (pipe, place) in pipes.iter().zip(&places) {
+        riser(&mut svg, pipe, place, &places);
+    }
+    for (pipe, place) in pipes.iter().zip(&places) {
+        section(&mut svg, pipe, place, pipe.number == rating.dictating);
+    }
+    svg.finish()
+}
+
+/// Two lines above the drawing.
+fn heading(svg: &mut Svg, record: &Record, rating: &Rating, cost: Option<u32>) {
+    let pump = rating.pump;
+    let head = format!(
+        "required head {} cm, pump head {pump} cm over the guaranteed {} cm",
+        rating.required, record.guaranteed
+    );
+    svg.text(20, 28, 15, INK, "bold", &head);
+    let bought = cost.map_or(String::new(), |cost| format!("; pipes cost {}.{}", cost / 10, cost % 10));
+    let dictating = rating.dictating;
+    let rest = format!(
+        "dictating path (red, wide): pump to section {dictating}; left = head left at an end when {} cm are delivered{bought}",
+        record.delivered
+    );
+    svg.text(20, 48, 12, FAINT, "normal", &rest);
+}
+
+/// The pump: a circle with its arrow, and the heads beside it.
+fn pump(svg: &mut Svg, record: &Record, rating: &Rating) {
+    let (x, y) = (LEFT - 30, TOP);
+    svg.circle(x, y, 18, "white", INK, 2);
+    svg.path(&format!("M {} {} L {} {} L {} {} Z", x - 8, y - 11, x + 15, y, x - 8, y + 11), INK, INK, 1);
+    svg.line(x + 18, y, LEFT, y, INK, 4);
+    svg.middle(x, y + 36, 12, INK, "bold", "pump");
+    svg.middle(x, y + 52, 11, FAINT, "normal", &format!("{} cm", rating.pump));
+    svg.middle(x, y - 26, 11, FAINT, "normal", &format!("meter {} cm", record.meter));
+}
+
+/// The upright line from the parent's end down to this section's row, where it is not the parent's own.
+fn riser(svg: &mut Svg, pipe: &Pipe, place: &Place, places: &[Place]) {
+    let (x, from) = start(pipe, place, places);
+    let y = TOP + place.row * ROW;
+    if from != y {
+        let (colour, width) = stroke(pipe);
+        svg.line(x, from, x, y, colour, width);
+    }
+}
+
+/// Where a section begins: the column of its parent's end and the parent's row.
+fn start(pipe: &Pipe, place: &Place, places: &[Place]) -> (i64, i64) {
+    let above = match usize::from(pipe.section.parent) {
+        0 => TOP,
+        parent => places.get(parent - 1).map_or(TOP, |above| TOP + above.row * ROW),
+    };
+    (LEFT + place.column * COLUMN, above)
+}
+
+fn stroke(pipe: &Pipe) -> (&'static str, i64) {
+    let wide = 2 + i64::from(pipe.size.min(4));
+    if pipe.dictating { (DICTATING, wide + 2) } else { (PIPE, wide) }
+}
+
+/// A pipe with its texts: above it number, size and length, below it flow, velocity and loss, at its end the head left.
+fn section(svg: &mut Svg, pipe: &Pipe, place: &Place, dictates: bool) {
+    let x = LEFT + place.column * COLUMN;
+    let (y, end) = (TOP + place.row * ROW, x + COLUMN);
+    let (colour, width) = stroke(pipe);
+    svg.open(&format!("section-{}", pipe.number), &title(pipe));
+    svg.line(x, y, end, y, colour, width);
+    svg.circle(end, y, 5, "white", colour, 2);
+    let at = x + STUB;
+    svg.text(at, y - 9, 12, INK, "bold", &pipe.number.to_string());
+    let length = format!("{}.{} m", pipe.section.length / 10, pipe.section.length % 10);
+    svg.text(at + 22, y - 9, 11, INK, "normal", &format!("{} mm (size {})  {length}", pipe.bore, pipe.size));
+    svg.text(at, y + 17, 11, INK, "normal", &format!("{} ml/s  {} mm/s  -{} cm", pipe.flow, pipe.velocity, pipe.loss));
+    let short = pipe.left < i64::from(pipe.section.free);
+    let colour = if short { SHORT } else { FAINT };
+    svg.text(at, y + 31, 11, colour, "normal", &ending(pipe, short, dictates));
+    svg.close();
+}
+
+/// The head left at the end against the free head, and whether this end dictates.
+fn ending(pipe: &Pipe, short: bool, dictates: bool) -> String {
+    let free = pipe.section.free;
+    let word = if short { "SHORT" } else { "left" };
+    let asked = if pipe.section.kind == 0 { String::new() } else { format!(" of {free}") };
+    let dictates = if dictates { ", dictates" } else { "" };
+    format!("{word} {}{asked} cm{dictates}", pipe.left)
+}
+
+/// What a viewer shows when the pointer rests on the section.
+fn title(pipe: &Pipe) -> String {
+    let section = &pipe.section;
+    let from = if section.parent == 0 { "the pump".to_string() } else { format!("section {}", section.parent) };
+    let taps = match section.kind {
+        0 => "junction".to_string(),
+        kind => format!("{} fixtures of kind {}, free head {} cm", section.fixtures, kinds::name(kind), section.free),
+    };
+    format!(
+        "Section {} from {from}: {taps}, elevation {} cm, head left {} cm",
+        pipe.number, section.elevation, pipe.left
+    )
+}
