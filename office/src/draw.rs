@@ -26,8 +26,9 @@ const INK: &str = "#1c2329";
 pub fn draw(record: &Record, pipes: &[Pipe], rating: &Rating, cost: Option<u32>) -> String {
     let places = layout::places(pipes);
     let (columns, rows) = layout::extent(&places);
-    let width = LEFT + columns * COLUMN + 40;
-    let height = TOP + rows * ROW + 30;
+    // Room for the heading over a small house.
+    let width = (LEFT + columns * COLUMN + 40).max(720);
+    let height = TOP + rows * ROW;
     let mut svg = Svg::new(width, height, &format!("House network of {} sections", pipes.len()));
     heading(&mut svg, record, rating, cost);
     pump(&mut svg, record, rating);
@@ -40,31 +41,26 @@ pub fn draw(record: &Record, pipes: &[Pipe], rating: &Rating, cost: Option<u32>)
     svg.finish()
 }
 
-/// Two lines above the drawing.
+/// Three lines above the drawing.
 fn heading(svg: &mut Svg, record: &Record, rating: &Rating, cost: Option<u32>) {
-    let pump = rating.pump;
-    let head = format!(
-        "required head {} cm, pump head {pump} cm over the guaranteed {} cm",
-        rating.required, record.guaranteed
-    );
-    svg.text(20, 28, 15, INK, "bold", &head);
-    let bought = cost.map_or(String::new(), |cost| format!("; pipes cost {}.{}", cost / 10, cost % 10));
-    let dictating = rating.dictating;
-    let rest = format!(
-        "dictating path (red, wide): pump to section {dictating}; left = head left at an end when {} cm are delivered{bought}",
-        record.delivered
-    );
-    svg.text(20, 48, 12, FAINT, "normal", &rest);
+    let (required, pump, guaranteed) = (rating.required, rating.pump, record.guaranteed);
+    let heads = format!("required head {required} cm, pump head {pump} cm over the guaranteed {guaranteed} cm");
+    svg.text(20, 28, 15, INK, "bold", &heads);
+    let bought = cost.map_or(String::new(), |cost| format!("; the pipes cost {}.{}", cost / 10, cost % 10));
+    let path = format!("dictating path, red and wide: pump to section {}{bought}", rating.dictating);
+    svg.text(20, 48, 12, FAINT, "normal", &path);
+    let left = format!("left: head left at an end when {} cm are delivered; needs: its free head", record.delivered);
+    svg.text(20, 65, 12, FAINT, "normal", &left);
 }
 
 /// The pump: a circle with its arrow, and the heads beside it.
 fn pump(svg: &mut Svg, record: &Record, rating: &Rating) {
-    let (x, y) = (LEFT - 30, TOP);
+    let (x, y) = (LEFT - 56, TOP);
     svg.circle(x, y, 18, "white", INK, 2);
     svg.path(&format!("M {} {} L {} {} L {} {} Z", x - 8, y - 11, x + 15, y, x - 8, y + 11), INK, INK, 1);
     svg.line(x + 18, y, LEFT, y, INK, 4);
     svg.middle(x, y + 36, 12, INK, "bold", "pump");
-    svg.middle(x, y + 52, 11, FAINT, "normal", &format!("{} cm", rating.pump));
+    svg.middle(x, y + 52, 11, FAINT, "normal", &format!("head {} cm", rating.pump));
     svg.middle(x, y - 26, 11, FAINT, "normal", &format!("meter {} cm", record.meter));
 }
 
@@ -92,7 +88,7 @@ fn stroke(pipe: &Pipe) -> (&'static str, i64) {
     if pipe.dictating { (DICTATING, wide + 2) } else { (PIPE, wide) }
 }
 
-/// A pipe with its texts: above it number, size and length, below it flow, velocity and loss, at its end the head left.
+/// A pipe with its texts: above it number, size and length; below it flow and velocity, loss, and the head left at its end.
 fn section(svg: &mut Svg, pipe: &Pipe, place: &Place, dictates: bool) {
     let x = LEFT + place.column * COLUMN;
     let (y, end) = (TOP + place.row * ROW, x + COLUMN);
@@ -103,21 +99,25 @@ fn section(svg: &mut Svg, pipe: &Pipe, place: &Place, dictates: bool) {
     let at = x + STUB;
     svg.text(at, y - 9, 12, INK, "bold", &pipe.number.to_string());
     let length = format!("{}.{} m", pipe.section.length / 10, pipe.section.length % 10);
-    svg.text(at + 22, y - 9, 11, INK, "normal", &format!("{} mm (size {})  {length}", pipe.bore, pipe.size));
-    svg.text(at, y + 17, 11, INK, "normal", &format!("{} ml/s  {} mm/s  -{} cm", pipe.flow, pipe.velocity, pipe.loss));
-    let short = pipe.left < i64::from(pipe.section.free);
-    let colour = if short { SHORT } else { FAINT };
-    svg.text(at, y + 31, 11, colour, "normal", &ending(pipe, short, dictates));
+    svg.text(at + 24, y - 9, 11, INK, "normal", &format!("{} mm (size {})  {length}", pipe.bore, pipe.size));
+    svg.text(at, y + 18, 11, INK, "normal", &format!("{} ml/s  {} mm/s", pipe.flow, pipe.velocity));
+    svg.text(at, y + 32, 11, INK, "normal", &format!("loss {} cm", pipe.loss));
+    let (colour, left) = ending(pipe);
+    svg.text(at, y + 46, 11, colour, "normal", &left);
+    if dictates {
+        svg.text(at, y + 60, 11, DICTATING, "bold", "dictating end");
+    }
     svg.close();
 }
 
-/// The head left at the end against the free head, and whether this end dictates.
-fn ending(pipe: &Pipe, short: bool, dictates: bool) -> String {
-    let free = pipe.section.free;
-    let word = if short { "SHORT" } else { "left" };
-    let asked = if pipe.section.kind == 0 { String::new() } else { format!(" of {free}") };
-    let dictates = if dictates { ", dictates" } else { "" };
-    format!("{word} {}{asked} cm{dictates}", pipe.left)
+/// The head left at the end against the free head, and its colour.
+fn ending(pipe: &Pipe) -> (&'static str, String) {
+    let (left, free) = (pipe.left, pipe.section.free);
+    match (left < i64::from(free), pipe.section.kind) {
+        (true, _) => (SHORT, format!("SHORT: left {left} cm, needs {free}")),
+        (false, 0) => (FAINT, format!("left {left} cm")),
+        (false, _) => (FAINT, format!("left {left} cm, needs {free}")),
+    }
 }
 
 /// What a viewer shows when the pointer rests on the section.

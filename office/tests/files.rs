@@ -253,7 +253,7 @@ fn mistakes_in_a_table_name_their_line() {
         ("1,40,900,1000", "1,,900,1000", Some(3), "`bore mm` is empty", "0 to 65535"),
         ("1,40,900,3000", "1,40,900,", Some(4), "`flow ml/s` is empty", "0 to 4294967295"),
         ("1,40,900,3000", "1,41,900,3000", Some(4), "another bore mm here than on line 3", "40"),
-        ("1,40,900,3000", "3,60,900,3000", Some(5), "size 2 has 2 rows, but size 1 has 1", "equally many"),
+        ("1,40,900,3000", "3,60,900,3000", Some(5), "size 2 has 2 rows, but size 1 has 1 row", "equally many"),
         ("2,50,1300,1000", "0,50,1300,1000", Some(5), "sizes number from 1", "1 to 255"),
         ("2,50,1300,1000", "2,50,65536,1000", Some(5), "`price` 65536", "0 to 65535"),
         ("800,40", "800,40,7", Some(3), "`7` stands under no column", "header"),

@@ -2,11 +2,11 @@
 
 use crate::pipes::Pipe;
 
-/// Sizes of the drawing's grid, in its own units. A column holds the longest text of a section, a row its four lines.
-pub const COLUMN: i64 = 190;
-pub const ROW: i64 = 72;
-pub const LEFT: i64 = 110;
-pub const TOP: i64 = 110;
+/// Sizes of the drawing's grid, in its own units. A column holds the longest text of a section, a row its lines.
+pub const COLUMN: i64 = 216;
+pub const ROW: i64 = 90;
+pub const LEFT: i64 = 126;
+pub const TOP: i64 = 130;
 
 /// Where a section is drawn.
 #[derive(Clone, Copy, Debug, Default, PartialEq, Eq)]

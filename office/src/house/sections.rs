@@ -34,7 +34,7 @@ impl Given {
         for (wanted, (number, (section, line, text))) in (1..=255).zip(self.0) {
             if number != wanted {
                 let wrong = format!("section {wanted} is missing: this line is section {number}");
-                let expected = format!("a line `section {wanted} …`; sections number from 1 to {last} without a gap");
+                let expected = format!("a line for section {wanted}; sections number from 1 to {last} without a gap");
                 return Err(Mistake::on(line, &text, wrong, expected));
             }
             sections.push(section);

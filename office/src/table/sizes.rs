@@ -88,7 +88,8 @@ impl Given {
                 return Err(mistake(wrong, format!("sizes number from 1 to {last} without a gap")));
             }
             if part.size.rows.len() != rows {
-                let wrong = format!("size {number} has {} rows, but size 1 has {rows}", part.size.rows.len());
+                let wrong =
+                    format!("size {number} has {}, but size 1 has {}", counted(part.size.rows.len()), counted(rows));
                 return Err(mistake(wrong, "equally many rows for each size".to_string()));
             }
             for (row, line) in (1..=255).zip(&part.lines) {
@@ -98,6 +99,10 @@ impl Given {
         }
         Ok((sizes, rows as u8, places))
     }
+}
+
+fn counted(rows: usize) -> String {
+    if rows == 1 { "1 row".to_string() } else { format!("{rows} rows") }
 }
 
 /// The lines of a size. A size without rows has one line with its last cells empty.
