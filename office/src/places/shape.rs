@@ -7,7 +7,7 @@ use crate::record::{HEAD, Record, SECTION};
 
 /// 1: too short, or the stated length is another.
 pub fn length(job: &[u8]) -> Vec<Place> {
-    let mut found = Vec::new();
+    let mut found: Vec<Place> = swapped(job).into_iter().collect();
     let given = job.len();
     if given < HEAD {
         found.push(Place::new(At::Job, format!("it has {given} bytes; the least is {HEAD}")));
@@ -21,17 +21,15 @@ pub fn length(job: &[u8]) -> Vec<Place> {
             ));
         }
     }
-    found.extend(swapped(job));
     found
 }
 
 /// 2: the version's byte.
 pub fn version(job: &[u8]) -> Vec<Place> {
-    let mut found = Vec::new();
+    let mut found: Vec<Place> = swapped(job).into_iter().collect();
     if let Some(version) = job.get(4).filter(|version| **version != 1) {
         found.push(Place::new(At::Field(Field::Version), format!("it is {version}, not 1")));
     }
-    found.extend(swapped(job));
     found
 }
 
@@ -50,20 +48,16 @@ pub fn ranges(job: &[u8]) -> Vec<Place> {
         (Field::Delivered, two(12), 0, 6_000, "cm"),
         (Field::Limit, two(14), 1, 3_000, "mm/s"),
     ];
-    let mut found: Vec<Place> = rows
-        .iter()
-        .filter(|(_, value, least, most, _)| value < least || value > most)
-        .map(|(field, value, least, most, unit)| {
-            Place::new(At::Field(*field), format!("{value} is outside {least} to {most} {unit}"))
-        })
-        .collect();
-    found.extend(swapped(job));
-    found
+    let wrong = rows.iter().filter(|(_, value, least, most, _)| value < least || value > most);
+    let found = wrong.map(|(field, value, least, most, unit)| {
+        Place::new(At::Field(*field), format!("{value} is outside {least} to {most} {unit}"))
+    });
+    swapped(job).into_iter().chain(found).collect()
 }
 
 /// 4: the length against the count.
 pub fn count(job: &[u8]) -> Vec<Place> {
-    let mut found = Vec::new();
+    let mut found: Vec<Place> = swapped(job).into_iter().collect();
     if let Some(count) = job.get(6) {
         let asked = HEAD + SECTION * usize::from(*count);
         if asked != job.len() {
@@ -71,11 +65,10 @@ pub fn count(job: &[u8]) -> Vec<Place> {
             found.push(Place::new(At::Field(Field::Sections), why));
         }
     }
-    found.extend(swapped(job));
     found
 }
 
-/// A catalogue lent as a job. The two layouts never have the same length for the same counts, so this is no guess.
+/// A catalogue lent as a job, which is said first. The two layouts never have the same length for the same counts, so this is no guess.
 fn swapped(job: &[u8]) -> Option<Place> {
     let table = Catalogue::read(job).is_ok_and(|table| table.stated as usize == job.len());
     let swapped = table && Record::read(job).is_err();
