@@ -114,9 +114,9 @@ fn section(svg: &mut Svg, pipe: &Pipe, place: &Place, dictates: bool) {
 fn ending(pipe: &Pipe) -> (&'static str, String) {
     let (left, free) = (pipe.left, pipe.section.free);
     match (left < i64::from(free), pipe.section.kind) {
-        (true, _) => (SHORT, format!("SHORT: left {left} cm, needs {free}")),
+        (true, _) => (SHORT, format!("SHORT {left}, needs {free} cm")),
         (false, 0) => (FAINT, format!("left {left} cm")),
-        (false, _) => (FAINT, format!("left {left} cm, needs {free}")),
+        (false, _) => (FAINT, format!("left {left}, needs {free} cm")),
     }
 }
 
