@@ -32,8 +32,11 @@ pub fn draw(record: &Record, pipes: &[Pipe], rating: &Rating, cost: Option<u32>)
     let mut svg = Svg::new(width, height, &format!("House network of {} sections", pipes.len()));
     heading(&mut svg, record, rating, cost);
     pump(&mut svg, record, rating);
-    for (pipe, place) in pipes.iter().zip(&places) {
-        riser(&mut svg, pipe, place, &places);
+    // Branches of one pipe leave along the same upright; the dictating one is drawn last, over the others.
+    for dictating in [false, true] {
+        for (pipe, place) in pipes.iter().zip(&places).filter(|(pipe, _)| pipe.dictating == dictating) {
+            riser(&mut svg, pipe, place, &places);
+        }
     }
     for (pipe, place) in pipes.iter().zip(&places) {
         section(&mut svg, pipe, place, pipe.number == rating.dictating);
@@ -114,7 +117,7 @@ fn section(svg: &mut Svg, pipe: &Pipe, place: &Place, dictates: bool) {
 fn ending(pipe: &Pipe) -> (&'static str, String) {
     let (left, free) = (pipe.left, pipe.section.free);
     match (left < i64::from(free), pipe.section.kind) {
-        (true, _) => (SHORT, format!("SHORT {left}, needs {free} cm")),
+        (true, _) => (SHORT, format!("SHORT: left {left}, needs {free} cm")),
         (false, 0) => (FAINT, format!("left {left} cm")),
         (false, _) => (FAINT, format!("left {left}, needs {free} cm")),
     }

@@ -91,6 +91,9 @@ fn readable_files_and_records_are_alike() {
     assert_eq!(office_with(&["choose", "-", TABLE], &job).text(), readable);
     assert_eq!(office_with(&["choose", HOUSE, "-"], &cat).text(), readable);
     assert_eq!(office_with(&["choose", HOUSE, "-"], read(TABLE).as_bytes()).text(), readable);
+    let older = [b"# \xea\xf3\xf5\xed\xff\n", read(HOUSE).as_bytes()].concat();
+    assert_eq!(office_with(&["choose", "-", TABLE], &older).text(), readable, "comments in an older code page");
+    assert!(office_with(&["flow", "-"], &[0xee; 50]).text().starts_with("refused 1: "), "bytes that are no text");
     let sizes = calls::choose(&job, &cat).expect("some list suits").sizes;
     let (bytes, words) = (scratch("alike.sizes"), scratch("alike.numbers"));
     std::fs::write(&bytes, &sizes).expect("written");
@@ -203,6 +206,8 @@ fn misuse_has_status_2_and_says_why() {
     assert_eq!(neither.status, 2);
     assert!(neither.error.contains("45 bytes, but a job record with section count 0 has 40"), "{}", neither.error);
     assert!(neither.error.contains("45 bytes, but a catalogue with 0 sizes of 0 rows has 7"), "{}", neither.error);
+    let wide = office_with(&["flow", "-"], b"\xff\xfeh\0o\0");
+    assert!(wide.status == 2 && wide.error.contains("save it as UTF-8"), "{}", wide.error);
     let binary = office_with(&["pack", "-"], &[0; 40]);
     assert!(binary.status == 2 && binary.error.contains("is no readable file"), "{}", binary.error);
 }

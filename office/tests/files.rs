@@ -156,49 +156,56 @@ fn mistake(from: &str, to: &str) -> Mistake {
     house::pack(&OWN.replacen(from, to, 1)).expect_err(to)
 }
 
+/// What is put for what, the line of the mistake, what is wrong and what is expected.
+type Slip = (&'static str, &'static str, usize, &'static str, &'static str);
+
+const SLIPS_OF_THE_HOUSE: &[Slip] = &[
+    ("hours 24", "hors 24", 3, "`hors` begins no line", "hours"),
+    ("hours 24", "hours", 3, "`hours` has no number", "`hours 24`"),
+    ("hours 24", "hours many", 3, "`many` is no number", "`hours 24`"),
+    ("hours 24", "hours 256", 3, "`hours 256` is not what", "0 to 255"),
+    ("hours 24", "hours 24 h", 3, "`h` is one word too many", "comments begin with #"),
+    ("hours 24", "hours 24h", 3, "`hours` has no unit", "`hours 24`"),
+    ("hours 24", "hours 2.5", 3, "finer than", "whole number"),
+    ("hours 24", "hours 24\nhours 24", 4, "`hours` is given twice", "the first is line 3"),
+    ("local losses 0.3", "local losses 0.35", 2, "finer than", "whole number of tenths"),
+    ("meter loss 50 cm", "meter loss 50", 4, "the unit of `meter loss 50` is missing", "`meter loss 50 cm`"),
+    ("meter loss 50 cm", "meter loss 50 bar", 4, "`bar` is no unit", "cm or m"),
+    ("1200 cm", "1,200 cm", 6, "has a comma", "1200"),
+    ("residents hotel-75 71", "residents hotel 71", 8, "`hotel` is no kind", "hotel-75"),
+    ("residents hotel-75 71", "residents none 71", 8, "`none` is no kind that has residents", "dwelling"),
+    ("residents hotel-75 71", "residents hotel-75 70000", 8, "`residents hotel-75 70000`", "0 to 65535"),
+];
+
+const SLIPS_OF_A_SECTION: &[Slip] = &[
+    ("section 1 from", "section one from", 9, "`one` is no section's number", "1 to 255"),
+    ("section 1 from", "section 256 from", 9, "`256` is no section's number", "1 to 255"),
+    ("section 1 from", "section 3 from", 9, "section 1 is missing", "from 1 to 3 without a gap"),
+    ("section 1", "section 1 from pump kind none length 1 m elevation 0 cm\nsection 1", 10, "twice", "line 9"),
+    ("from pump", "from cellar", 9, "`from cellar`", "`from pump`"),
+    ("from pump", "", 9, "the section has no `from`", "section 2 from 1"),
+    ("kind hotel-75 f", "kind motel f", 9, "`motel` is no kind of consumer", "hospital"),
+    ("length 10 m", "length 10", 9, "the unit of `length 10` is missing", "`length 10 m`"),
+    ("length 10 m", "length 10.25 m", 9, "finer than", "whole number of dm"),
+    ("length 10 m", "length 6553.6 m", 9, "`length 6553.6 m`", "0.0 to 6553.5 m"),
+    ("length 10 m", "length -1 m", 9, "`length -1.0 m`", "0.0 to 6553.5 m"),
+    ("length 10 m", "length 10 m length 10 m", 9, "`length` is given twice", "one `length`"),
+    ("elevation 600 cm", "elevation 65286 cm", 9, "`elevation 65286 cm`", "write `elevation -250 cm`"),
+    ("elevation 600 cm", "elevation 70000 cm", 9, "`elevation 70000 cm`", "-32768 to 32767 cm"),
+    ("free 200 cm", "", 9, "the section has no `free`", "needs no fixtures and free"),
+    ("free 200 cm", "free 200 cm pipe steel", 9, "`pipe` is no field of a section", "fixtures"),
+];
+
 #[test]
 fn mistakes_name_their_line_and_what_is_wrong() {
-    let section = OWN.lines().last().expect("a section");
-    let cases = [
-        ("hours 24", "hors 24", 3, "`hors` begins no line", "hours"),
-        ("hours 24", "hours", 3, "`hours` has no number", "`hours 24`"),
-        ("hours 24", "hours many", 3, "`many` is no number", "`hours 24`"),
-        ("hours 24", "hours 256", 3, "`hours 256` is not what", "0 to 255"),
-        ("hours 24", "hours 24 h", 3, "`h` is one word too many", "comments begin with #"),
-        ("hours 24", "hours 24h", 3, "`hours` has no unit", "`hours 24`"),
-        ("hours 24", "hours 2.5", 3, "finer than", "whole number"),
-        ("hours 24", "hours 24\nhours 24", 4, "`hours` is given twice", "the first is line 3"),
-        ("local losses 0.3", "local losses 0.35", 2, "finer than", "whole number of tenths"),
-        ("meter loss 50 cm", "meter loss 50", 4, "the unit of `meter loss 50` is missing", "`meter loss 50 cm`"),
-        ("meter loss 50 cm", "meter loss 50 bar", 4, "`bar` is no unit", "cm or m"),
-        ("1200 cm", "1,200 cm", 6, "has a comma", "1200"),
-        ("residents hotel-75 71", "residents hotel 71", 8, "`hotel` is no kind", "hotel-75"),
-        ("residents hotel-75 71", "residents none 71", 8, "`none` is no kind that has residents", "dwelling"),
-        ("residents hotel-75 71", "residents hotel-75 70000", 8, "`residents hotel-75 70000`", "0 to 65535"),
-        ("section 1 from", "section one from", 9, "`one` is no section's number", "1 to 255"),
-        ("section 1 from", "section 256 from", 9, "`256` is no section's number", "1 to 255"),
-        ("section 1 from", "section 3 from", 9, "section 1 is missing", "from 1 to 3 without a gap"),
-        ("section 1", "section 1 from pump kind none length 1 m elevation 0 cm\nsection 1", 10, "twice", "line 9"),
-        ("from pump", "from cellar", 9, "`from cellar`", "`from pump`"),
-        ("from pump", "", 9, "the section has no `from`", "section 2 from 1"),
-        ("kind hotel-75 f", "kind motel f", 9, "`motel` is no kind of consumer", "hospital"),
-        ("length 10 m", "length 10", 9, "the unit of `length 10` is missing", "`length 10 m`"),
-        ("length 10 m", "length 10.25 m", 9, "finer than", "whole number of dm"),
-        ("length 10 m", "length 6553.6 m", 9, "`length 6553.6 m`", "0.0 to 6553.5 m"),
-        ("length 10 m", "length -1 m", 9, "`length -1.0 m`", "0.0 to 6553.5 m"),
-        ("length 10 m", "length 10 m length 10 m", 9, "`length` is given twice", "one `length`"),
-        ("elevation 600 cm", "elevation 65286 cm", 9, "`elevation 65286 cm`", "write `elevation -250 cm`"),
-        ("elevation 600 cm", "elevation 70000 cm", 9, "`elevation 70000 cm`", "-32768 to 32767 cm"),
-        ("free 200 cm", "", 9, "the section has no `free`", "needs no fixtures and free"),
-        ("free 200 cm", "free 200 cm pipe steel", 9, "`pipe` is no field of a section", "fixtures"),
-        (section, "section", 9, "`section` has no number", "section 2"),
-    ];
-    for (from, to, line, wrong, expected) in cases {
+    for (from, to, line, wrong, expected) in SLIPS_OF_THE_HOUSE.iter().chain(SLIPS_OF_A_SECTION) {
         let mistake = mistake(from, to);
-        assert_eq!(mistake.line.as_ref().map(|(number, _)| *number), Some(line), "{to}: {mistake}");
+        assert_eq!(mistake.line.as_ref().map(|(number, _)| *number), Some(*line), "{to}: {mistake}");
         assert!(mistake.wrong.contains(wrong), "{to}: {mistake}");
         assert!(mistake.expected.contains(expected), "{to}: {mistake}");
     }
+    let bare = mistake(OWN.lines().last().expect("a section"), "section");
+    assert_eq!((bare.line.expect("a line").0, bare.wrong.as_str()), (9, "`section` has no number"));
 }
 
 #[test]

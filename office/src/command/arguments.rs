@@ -64,7 +64,7 @@ impl Arguments {
                 return misuse(format!("`{}` has no option {option}", self.command));
             }
         }
-        if self.words.iter().filter(|word| *word == "-").count() > 1 {
+        if self.words.iter().filter(|word| matches!(word.as_str(), "-" | "@-")).count() > 1 {
             return misuse("standard input can be read only once".to_string());
         }
         Ok(())

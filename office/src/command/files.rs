@@ -17,8 +17,8 @@ pub fn pack(arguments: &Arguments) -> Result<Outcome, Misuse> {
     let Some(text) = input::text(&bytes) else {
         return Err(Misuse(format!("{} is no readable file; `office show` shows a record", input::name(file))));
     };
-    let is_table = input::is_table(text);
-    let source = if is_table { input::table(file, text)? } else { input::house(file, text)? };
+    let is_table = input::is_table(&text);
+    let source = if is_table { input::table(file, &text)? } else { input::house(file, &text)? };
     let refusal = if is_table { catalogue_refusal(&source.bytes) } else { calls::flow(&source.bytes).err() };
     let given = given(&source, is_table);
     if arguments.json {

@@ -23,6 +23,10 @@ pub fn bytes(file: &str) -> Result<Vec<u8>, Misuse> {
         _ => std::fs::read(file).map(|content| bytes = content),
     };
     read.map_err(|why| Misuse(format!("{} can't be read: {why}", name(file))))?;
+    // Some editors call this "Unicode". As a record it would state a length of four thousand million bytes.
+    if bytes.starts_with(&[0xff, 0xfe]) || bytes.starts_with(&[0xfe, 0xff]) {
+        return Err(Misuse(format!("{} is text in UTF-16; save it as UTF-8", name(file))));
+    }
     Ok(bytes)
 }
 
@@ -31,11 +35,13 @@ pub fn name(file: &str) -> String {
 }
 
 /// The text of a readable file. A record has bytes that no text has: its length's first byte is 0. No bytes at all are no
-/// text either, so that the library gives its number for them.
-pub fn text(bytes: &[u8]) -> Option<&str> {
-    let text = std::str::from_utf8(bytes).ok()?;
-    let plain = text.chars().all(|c| !c.is_control() || matches!(c, '\t' | '\n' | '\r' | '\u{c}'));
-    (plain && !text.is_empty()).then_some(text)
+/// text either, so that the library gives its number for them. Comments in an older code page than UTF-8 do no harm, so a
+/// file that is mostly plain letters is text whatever its other bytes.
+pub fn text(bytes: &[u8]) -> Option<String> {
+    let control = |byte: &u8| (*byte < 0x20 && !b"\t\n\r\x0c".contains(byte)) || *byte == 0x7f;
+    let letters = bytes.iter().filter(|byte| byte.is_ascii()).count();
+    let plain = std::str::from_utf8(bytes).is_ok() || letters > bytes.len() / 2;
+    (plain && !bytes.is_empty() && !bytes.iter().any(control)).then(|| String::from_utf8_lossy(bytes).into_owned())
 }
 
 /// Whether a readable file is a table: its first line that says something has cells.
@@ -50,8 +56,10 @@ pub fn job(file: &str) -> Result<Source, Misuse> {
     let bytes = bytes(file)?;
     match text(&bytes) {
         None => Ok(Source { name: name(file), bytes, lines: Lines::default() }),
-        Some(text) if is_table(text) => Err(Misuse(format!("{} is a table of sizes; a house is expected", name(file)))),
-        Some(text) => house(file, text),
+        Some(text) if is_table(&text) => {
+            Err(Misuse(format!("{} is a table of sizes; a house is expected", name(file))))
+        }
+        Some(text) => house(file, &text),
     }
 }
 
@@ -66,7 +74,7 @@ pub fn catalogue(file: &str) -> Result<Source, Misuse> {
     let bytes = bytes(file)?;
     match text(&bytes) {
         None => Ok(Source { name: name(file), bytes, lines: Lines::default() }),
-        Some(text) if is_table(text) => table(file, text),
+        Some(text) if is_table(&text) => table(file, &text),
         Some(_) => Err(Misuse(format!("{} is no table of sizes: its first line has no cells", name(file)))),
     }
 }
@@ -98,7 +106,7 @@ pub fn sizes(word: &str) -> Result<Vec<u8>, Misuse> {
     let Some(file) = word.strip_prefix('@') else { return numbers(word) };
     let bytes = bytes(file)?;
     match text(&bytes) {
-        Some(text) if text.bytes().any(|byte| byte.is_ascii_digit()) => numbers(text),
+        Some(text) if text.bytes().any(|byte| byte.is_ascii_digit()) => numbers(&text),
         _ => Ok(bytes),
     }
 }

@@ -1,6 +1,7 @@
 //! A rated house for tables, JSON and drawings: the library's flow, rating and choice put together.
 
 use super::charts::{chart, figures, number, words};
+use super::input::Source;
 use super::json::Json;
 use super::network::from;
 use super::refused::Given;
@@ -76,7 +77,7 @@ impl Rated {
     }
 }
 
-fn bytes<'a>(source: Option<&'a super::input::Source>) -> &'a [u8] {
+fn bytes(source: Option<&Source>) -> &[u8] {
     source.map_or(&[], |source| &source.bytes)
 }
 

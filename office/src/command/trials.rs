@@ -31,8 +31,8 @@ pub fn replay(arguments: &Arguments) -> Result<Outcome, Misuse> {
     let bytes = input::bytes(file)?;
     let name = input::name(file);
     let text = input::text(&bytes).ok_or_else(|| Misuse(format!("{name} is no text")))?;
-    Case::parse(text).map_err(|why| Misuse(format!("{name} is no order to replay: {why}")))?;
-    Ok(match office::replay(text) {
+    Case::parse(&text).map_err(|why| Misuse(format!("{name} is no order to replay: {why}")))?;
+    Ok(match office::replay(&text) {
         Ok(said) => Outcome::answer(format!("{}\n", said.trim_end())),
         Err(said) => Outcome::refusal(format!("{}\n", said.trim_end())),
     })

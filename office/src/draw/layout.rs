@@ -3,7 +3,7 @@
 use crate::pipes::Pipe;
 
 /// Sizes of the drawing's grid, in its own units. A column holds the longest text of a section, a row its lines.
-pub const COLUMN: i64 = 232;
+pub const COLUMN: i64 = 240;
 pub const ROW: i64 = 90;
 pub const LEFT: i64 = 126;
 pub const TOP: i64 = 130;
