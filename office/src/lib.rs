@@ -4,6 +4,8 @@
 //! - `ffi` has the same calls on lent buffers, and the only unsafe code.
 //! - `model` is document 01 once more, written independently; [`soak`] and [`replay`] compare the two.
 //! - [`bench()`] times the library against the model and against `dense`, a plain search in safe Rust.
+//! - [`house`] and [`table`] are the readable files, [`places`] says where a refusal lies, [`draw`] draws a house; the command
+//!   `office` puts them before people.
 
 #![deny(unsafe_code)]
 

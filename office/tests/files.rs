@@ -219,6 +219,37 @@ fn a_missing_line_is_named() {
     }
 }
 
+/// Whatever is typed, packing gives bytes or a mistake whose line is in the file; and what it packs it shows again.
+#[test]
+fn any_text_is_taken() {
+    let mut dice = Dice(99);
+    let pieces =
+        ["section", " ", "\n", "#", "-", "9", ".", ",", "cm", "m", "pump", "kind", "hotel-75", "é", "\u{2212}", "1e9"];
+    for turn in 0..20_000 {
+        let start = if turn % 2 == 0 { OWN } else { SIZES };
+        let mut text = start.to_string();
+        for _ in 0..1 + dice.below(4) {
+            let at = (0..=dice.below(text.len() as u64 + 1)).rev().find(|at| text.is_char_boundary(*at)).unwrap_or(0);
+            let end = (at + dice.below(6)).min(text.len());
+            let end = if text.is_char_boundary(end) { end } else { at };
+            text.replace_range(at..end, pieces[dice.below(pieces.len() as u64)]);
+        }
+        let line_in_file = |mistake: Mistake| {
+            if let Some((number, said)) = mistake.line {
+                assert_eq!(text.lines().nth(number - 1).map(str::trim), Some(said.as_str()), "{text}");
+            }
+        };
+        match house::pack(&text) {
+            Ok(bytes) => assert_eq!(house::pack(&house::show(&bytes).expect("a record")), Ok(bytes)),
+            Err(mistake) => line_in_file(mistake),
+        }
+        match table::pack(&text) {
+            Ok(bytes) => assert_eq!(table::pack(&table::show(&bytes).expect("a catalogue")), Ok(bytes)),
+            Err(mistake) => line_in_file(mistake),
+        }
+    }
+}
+
 const SIZES: &str = "\
 # document 01's own catalogue
 size,bore mm,price,flow ml/s,velocity mm/s,slope mm/m

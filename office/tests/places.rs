@@ -171,3 +171,18 @@ fn the_least_head_is_true(job: &[u8], cat: &[u8], found: &[Place]) {
     assert!(calls::choose(&at(least), cat).is_ok(), "{place}");
     assert_eq!(calls::choose(&at(least - 1), cat), Err(Refusal::NoSuitableList), "{place}");
 }
+
+/// A refusal that does not belong to the bytes finds no place or some place, and never stops the program.
+#[test]
+fn any_bytes_are_taken() {
+    for index in 0..20_000 {
+        let case = generate::case(12, index);
+        for number in 1..=17 {
+            let refusal = Refusal::from_number(number).expect("a refusal");
+            let found = places(&refusal, &Asked { job: &case.job, cat: &case.cat, sizes: &case.sizes });
+            assert!(found.iter().all(|place| !place.why.is_empty()));
+            let crossed = places(&refusal, &Asked { job: &case.cat, cat: &case.job, sizes: &case.job });
+            assert!(crossed.iter().all(|place| !place.why.is_empty()));
+        }
+    }
+}

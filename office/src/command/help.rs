@@ -97,7 +97,9 @@ dictating path is red and wide.",
         least: 1,
         most: 1,
         brief: "the library against the independent model on N made-up orders",
-        text: "S starts the orders: the same seed gives the same orders. Status 1 if the two differ.",
+        text: "\
+The same seed S (1 if none is given) gives the same orders. The answer counts the numbers given back and the situations
+reached. Where the two differ, the order is given in the form that `replay` takes, and the status is 1.",
     },
     Command {
         name: "replay",
@@ -105,7 +107,8 @@ dictating path is red and wide.",
         least: 1,
         most: 1,
         brief: "the library against the independent model on a kept order",
-        text: "FILE is an order that `soak` or a test has kept. Status 1 if the two differ.",
+        text: "\
+FILE is an order as `soak` gives it: the call, its bytes in hex, and the buffers lent. Status 1 if the two differ.",
     },
     Command {
         name: "bench",
@@ -113,7 +116,9 @@ dictating path is red and wide.",
         least: 0,
         most: 0,
         brief: "how long the library's calls take here",
-        text: "Times of the calls, beside an independent search on the same orders.",
+        text: "\
+Times of the calls in microseconds, and as ratios over the independent model and over a plain search in safe Rust, on the
+same orders and in one run. It takes a while.",
     },
     Command {
         name: "help",

@@ -38,6 +38,7 @@ pub fn replay(arguments: &Arguments) -> Result<Outcome, Misuse> {
     })
 }
 
+/// Times of the calls, beside those of their rivals.
 pub fn bench(_: &Arguments) -> Result<Outcome, Misuse> {
-    Err(Misuse("not there yet".to_string()))
+    Ok(Outcome::answer(office::bench()))
 }
