@@ -52,7 +52,7 @@ impl fmt::Display for NoCatalogue {
             None => write!(f, "{given} bytes, but a catalogue has at least {HEAD}"),
             Some((sizes, rows)) => {
                 let asked = length(sizes, rows);
-                write!(f, "{given} bytes, but a catalogue with {sizes} sizes of {rows} rows has {asked}")
+                write!(f, "{given} bytes, but a catalogue with size count {sizes} and row count {rows} has {asked}")
             }
         }
     }

@@ -115,7 +115,7 @@ fn answers_go_to_the_file_and_refusals_leave_it_alone() {
     let refused = office(&["rate", HOUSE, TABLE, "1,1", "-o", &kept]);
     assert_eq!(refused.status, 1);
     assert!(refused.text().starts_with("refused 12: ") && refused.error.is_empty());
-    assert!(refused.text().contains("  list of sizes: it has 2 size numbers for 12 sections\n"));
+    assert!(refused.text().contains("  list of sizes: size numbers given: 2; sections of the house: 12\n"));
     assert_eq!(std::fs::read(&kept).expect("as it was"), answer.output);
 }
 
@@ -205,7 +205,11 @@ fn misuse_has_status_2_and_says_why() {
     let neither = office_with(&["show", "-"], &[0; 45]);
     assert_eq!(neither.status, 2);
     assert!(neither.error.contains("45 bytes, but a job record with section count 0 has 40"), "{}", neither.error);
-    assert!(neither.error.contains("45 bytes, but a catalogue with 0 sizes of 0 rows has 7"), "{}", neither.error);
+    assert!(
+        neither.error.contains("45 bytes, but a catalogue with size count 0 and row count 0 has 7"),
+        "{}",
+        neither.error
+    );
     let wide = office_with(&["flow", "-"], b"\xff\xfeh\0o\0");
     assert!(wide.status == 2 && wide.error.contains("save it as UTF-8"), "{}", wide.error);
     let binary = office_with(&["pack", "-"], &[0; 40]);

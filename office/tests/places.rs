@@ -51,7 +51,7 @@ fn jobs() {
     check(of_job(&with(&own, &[(6, 64)])), 3, At::Field(Field::Sections), "64 is outside 1 to 63");
     check(of_job(&with(&own, &[(7, 25)])), 3, At::Field(Field::Hours), "25 is outside 1 to 24");
     check(of_job(&with(&own, &[(14, 0), (15, 0)])), 3, At::Field(Field::Limit), "0 is outside 1 to 3000 mm/s");
-    check(of_job(&with(&own, &[(6, 2)])), 4, At::Field(Field::Sections), "2 sections ask for 60");
+    check(of_job(&with(&own, &[(6, 2)])), 4, At::Field(Field::Sections), "section count 2 asks for 60");
     check(of_job(&with(&own, &[(40, 1)])), 5, section, "hangs from itself");
     check(of_job(&with(&own, &[(40, 9)])), 5, section, "the last section is 1");
     check(of_job(&with(&own, &[(41, 13)])), 5, section, "kind 13 is none of 0 to 12");
@@ -62,15 +62,20 @@ fn jobs() {
     check(of_job(&with(&own, &[(46, 0xfc), (47, 0x17)])), 5, section, "elevation -1001 cm");
     check(of_job(&with(&own, &[(48, 0xff)])), 5, section, "free head 65480 cm is outside");
     check(of_job(&with(&own, &[(41, 0), (43, 0), (49, 0)])), 6, section, "no section hangs from it");
-    check(of_job(&with(&own, &[(29, 0)])), 7, At::Residents(7), "no residents, but 80 fixtures (section 1)");
-    check(of_job(&with(&own, &[(17, 1)])), 7, At::Residents(1), "1 residents, but no section");
+    check(
+        of_job(&with(&own, &[(29, 0)])),
+        7,
+        At::Residents(7),
+        "none given, but the house has 80 of its fixtures (section 1)",
+    );
+    check(of_job(&with(&own, &[(17, 1)])), 7, At::Residents(1), "1 given, but no section");
     let crowd = [(28, 255), (29, 255), (42, 255), (43, 255)];
     check(of_job(&with(&own, &crowd)), 8, At::House, "over 400000000");
     check(
         of_job(&with(&own, &[(43, 18)])),
         9,
         section,
-        "m is 1840741 millionths; its 18 fixtures carry at most 1800000",
+        "m is 1840741 millionths; the fixtures it serves, 18, carry at most 1800000",
     );
     check(of_job(&with(&own, &[(43, 70)])), 9, At::House, "the hour's sum is 7100000 millionths");
 }
@@ -83,7 +88,7 @@ fn nine_from_a_section_alone() {
         section 2 from pump length 1 m elevation 0 cm kind offices fixtures 200 free 0 cm\n";
     let found = of_job(&house::pack(text).expect("a house"));
     assert!(found.1.iter().all(|place| place.at != At::House), "the house itself passes");
-    check(found, 9, At::Section(2), "200 fixtures carry at most 20000000");
+    check(found, 9, At::Section(2), "200, carry at most 20000000");
 }
 
 fn rated(job: &[u8], cat: &[u8], sizes: &[u8]) -> (u32, Vec<Place>) {
@@ -95,7 +100,7 @@ fn rated(job: &[u8], cat: &[u8], sizes: &[u8]) -> (u32, Vec<Place>) {
 fn catalogues_and_lists() {
     let (own, cat) = (job(), cat());
     let longer = [cat.clone(), vec![0]].concat();
-    check(rated(&own, &longer, &[2]), 10, At::Catalogue, "it has 48 bytes; 2 sizes of 2 rows ask for 47");
+    check(rated(&own, &longer, &[2]), 10, At::Catalogue, "it has 48 bytes; size count 2 and row count 2 ask for 47");
     check(rated(&own, &with(&cat, &[(4, 2)]), &[2]), 10, At::Catalogue, "version 2 is not 1");
     check(rated(&own, &own, &[2]), 10, At::Catalogue, "are the two files swapped?");
     check(rated(&cat, &own, &[2]), 3, At::Job, "are the two files swapped?");
@@ -108,7 +113,7 @@ fn catalogues_and_lists() {
     );
     check(rated(&own, &with(&cat, &[(21, 3), (22, 0xe8)]), &[2]), 11, At::Row(1, 2), "flow 1000 ml/s is not over");
     check(rated(&own, &with(&cat, &[(25, 0), (26, 1)]), &[2]), 11, At::Row(1, 2), "slope 1 mm/m is below the row");
-    check(rated(&own, &cat, &[2, 2]), 12, At::List, "2 size numbers for 1 sections");
+    check(rated(&own, &cat, &[2, 2]), 12, At::List, "given: 2; sections of the house: 1");
     check(rated(&own, &cat, &[3]), 12, At::Entry(1), "3 is none of sizes 1 to 2");
     check(
         rated(&own, &cat, &[1]),

@@ -54,7 +54,9 @@ fn over(at: At, what: &str, sum: u64, served: &Counts) -> Option<Place> {
     let fixtures: u64 = served.iter().sum();
     let most = EACH * fixtures;
     (fixtures <= FEW && sum > most).then(|| {
-        let why = format!("{what} is {sum} millionths; its {fixtures} fixtures carry at most {most} ({EACH} each)");
+        let why = format!(
+            "{what} is {sum} millionths; the fixtures it serves, {fixtures}, carry at most {most} ({EACH} each)"
+        );
         Place::new(at, why)
     })
 }

@@ -13,7 +13,7 @@ pub fn names(asked: &Asked) -> Vec<Place> {
     let mut found = Vec::new();
     if asked.sizes.len() != sections {
         let given = asked.sizes.len();
-        found.push(Place::new(At::List, format!("it has {given} size numbers for {sections} sections")));
+        found.push(Place::new(At::List, format!("size numbers given: {given}; sections of the house: {sections}")));
     }
     for (place, number) in asked.sizes.iter().enumerate() {
         if *number == 0 || usize::from(*number) > sizes {

@@ -92,15 +92,14 @@ pub fn residents(job: &[u8]) -> Vec<Place> {
     let mut found = Vec::new();
     for (kind, residents) in (1..).zip(record.residents) {
         let fixtures = record.fixtures(kind);
-        let name = kinds::name(kind);
         if residents != 0 && fixtures == 0 {
-            let why = format!("{residents} residents, but no section has fixtures of kind {name}");
+            let why = format!("{residents} given, but no section has fixtures of this kind");
             found.push(Place::new(At::Residents(kind), why));
         }
         if residents == 0 && fixtures != 0 {
             let ends: Vec<String> =
                 record.numbered().filter(|(_, s)| s.kind == kind).map(|(number, _)| number.to_string()).collect();
-            let why = format!("no residents, but {fixtures} fixtures (section {})", ends.join(", "));
+            let why = format!("none given, but the house has {fixtures} of its fixtures (section {})", ends.join(", "));
             found.push(Place::new(At::Residents(kind), why));
         }
     }

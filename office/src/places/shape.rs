@@ -61,7 +61,7 @@ pub fn count(job: &[u8]) -> Vec<Place> {
     if let Some(count) = job.get(6) {
         let asked = HEAD + SECTION * usize::from(*count);
         if asked != job.len() {
-            let why = format!("the record has {} bytes; {count} sections ask for {asked}", job.len());
+            let why = format!("the record has {} bytes; section count {count} asks for {asked}", job.len());
             found.push(Place::new(At::Field(Field::Sections), why));
         }
     }

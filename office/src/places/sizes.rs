@@ -16,10 +16,10 @@ pub fn shape(cat: &[u8]) -> Vec<Place> {
     let asked = length(sizes, rows);
     let faults = [
         (version != 1, format!("version {version} is not 1")),
-        (!(1..=12).contains(&sizes), format!("{sizes} sizes are outside 1 to 12")),
-        (!(2..=64).contains(&rows), format!("{rows} rows of each size are outside 2 to 64")),
+        (!(1..=12).contains(&sizes), format!("size count {sizes} is outside 1 to 12")),
+        (!(2..=64).contains(&rows), format!("row count {rows} is outside 2 to 64")),
         (u64::from(stated) != given as u64, format!("it states {stated} bytes and has {given}")),
-        (asked != given, format!("it has {given} bytes; {sizes} sizes of {rows} rows ask for {asked}")),
+        (asked != given, format!("it has {given} bytes; size count {sizes} and row count {rows} ask for {asked}")),
         (
             asked != given && Record::read(cat).is_ok(),
             "these bytes have the length of a job record; are the two files swapped?".to_string(),
