@@ -1,0 +1,85 @@
+/* The proved pipe sizing library: design flows, rating and choosing of a branched house network.
+ *
+ * Build: `rt staticlib order` makes target/staticlib/liborder.a; link it with the C library (it uses memcpy and memset).
+ *
+ * Every slice is a pointer and then its length in bytes. For every call:
+ *   - pointers are not null, also those of empty slices (length 0); lengths are below 2^63;
+ *   - out and work overlap neither each other nor anything that is read;
+ *   - nothing is kept after the call, no memory is allocated, and two threads may call at once with buffers of their own.
+ * Any bytes at all may be lent: each input gets its result or the number of its refusal.
+ *
+ * The call gives back 0 for a result, or the number of the refusal:
+ *    1  job under 40 bytes, or its length isn't the bytes lent
+ *    2  version not 1
+ *    3  k, S, T, meter loss, G, H or limit out of range
+ *    4  length isn't 40 + 10 * S
+ *    5  a section breaks its own fields' rules
+ *    6  a childless section has kind 0
+ *    7  residents without fixtures, or the reverse
+ *    8  house m or house hour sum over 400,000,000
+ *    9  m over 100,000 * fixtures with at most 200 fixtures: house, any section, or house hour
+ *   10  catalogue under 7 bytes, wrong length, version or counts
+ *   11  a size or row breaks its rules
+ *   12  size list isn't S long or names no size
+ *   13  a section over its last row or the limit
+ *   14  result buffer too short
+ *   15  workspace too short
+ *   16  no suitable list
+ * Of several faults the first in the order 1 to 9, 10, 11, 12, 14, 15, then 13 or 16 is given back.
+ *
+ * A refusal leaves every byte of out as it was. A result is written from the start of out and leaves the bytes after it
+ * as they were, so a longer buffer is fine. Numbers are big-endian. S is the section count, byte 6 of the job; H is the
+ * delivered head, bytes 12 and 13 of the job.
+ */
+
+#ifndef ORDER_H
+#define ORDER_H
+
+#include <stddef.h>
+#include <stdint.h>
+
+#ifdef __cplusplus
+extern "C" {
+#endif
+
+/* The greatest sizes that any accepted job needs (S = 63, H = 6,000). */
+#define ORDER_FLOW_BYTES 264u      /* 12 + 4 * 63 */
+#define ORDER_RATE_BYTES 387u      /* 9 + 6 * 63 */
+#define ORDER_CHOOSE_BYTES 67u     /* 4 + 63 */
+#define ORDER_COPY_BYTES 670u      /* 40 + 10 * 63 */
+#define ORDER_WORK_BYTES 1792256u  /* 4 * 64 * 7,001 */
+
+/* Design flows of a job.
+ * job: a job record. out: at least 12 + 4 * S bytes.
+ * Result: hour in l/h (4 bytes), day in litres (4), mean hour in l/h (4), then each section's flow in ml/s (4 each).
+ * Refusals: 1 to 9, 14. */
+uint32_t order_flow(const uint8_t *job, size_t job_length, uint8_t *out, size_t out_length);
+
+/* Rating of a job with given sizes.
+ * job: a job record. cat: a catalogue. sizes: S size numbers of 1 byte, from 1. out: at least 9 + 6 * S bytes.
+ * Result: required head in cm (4 bytes, signed two's complement), pump head in cm (4), dictating section (1), then for
+ * each section its velocity in mm/s (2) and its loss in cm (4).
+ * Refusals: 1 to 14 (14 is tested before 13). */
+uint32_t order_rate(const uint8_t *job, size_t job_length, const uint8_t *cat, size_t cat_length,
+                    const uint8_t *sizes, size_t sizes_length, uint8_t *out, size_t out_length);
+
+/* The cheapest suitable sizes.
+ * job: a job record. cat: a catalogue. work: at least 4 * (S + 1) * (H + 1,001) bytes with any content.
+ * out: at least 4 + S bytes.
+ * Result: cost in tenths of the price unit (4 bytes), then S size numbers of 1 byte, from 1. No suitable list costs
+ * less; which of equally cheap lists is given is left free.
+ * Refusals: 1 to 11, 14, 15, 16. All bytes of work, surplus bytes too, are free after 16 or a result, and as they were
+ * after any other refusal. */
+uint32_t order_choose(const uint8_t *job, size_t job_length, const uint8_t *cat, size_t cat_length,
+                      uint8_t *work, size_t work_length, uint8_t *out, size_t out_length);
+
+/* Reads a job record and writes it again.
+ * job: a job record. out: at least 40 + 10 * S bytes.
+ * Result: the record's own bytes. Refusals: 1 to 7, 14 (8 and 9 are no matter of reading). */
+uint32_t order_copy(const uint8_t *job, size_t job_length, uint8_t *out, size_t out_length);
+
+#ifdef __cplusplus
+}
+#endif
+
+#endif

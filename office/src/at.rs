@@ -1,0 +1,92 @@
+//! Where something lies: in a field, a section, a size. Refusals have such places, and the lines of a readable file too, so
+//! that a refusal can be led back to its line.
+
+use crate::kinds;
+use std::fmt;
+
+/// A field of the house, by the words that the readable file has for it.
+#[derive(Clone, Copy, Debug, PartialEq, Eq)]
+pub enum Field {
+    Stated,
+    Version,
+    Losses,
+    Sections,
+    Hours,
+    Meter,
+    Guaranteed,
+    Delivered,
+    Limit,
+}
+
+impl Field {
+    pub fn name(self) -> &'static str {
+        match self {
+            Field::Stated => "stated length",
+            Field::Version => "version",
+            Field::Losses => "local losses",
+            Field::Sections => "section count",
+            Field::Hours => "hours",
+            Field::Meter => "meter loss",
+            Field::Guaranteed => "guaranteed head",
+            Field::Delivered => "delivered head",
+            Field::Limit => "velocity limit",
+        }
+    }
+}
+
+/// A place in a job, a catalogue or a list of sizes. Sections, sizes and rows count from 1.
+#[derive(Clone, Copy, Debug, PartialEq, Eq)]
+pub enum At {
+    /// The job record as a whole.
+    Job,
+    /// The house as a whole.
+    House,
+    Field(Field),
+    /// The residents of a kind.
+    Residents(u8),
+    Section(u8),
+    /// The catalogue as a whole.
+    Catalogue,
+    Size(u8),
+    Row(u8, u8),
+    /// The list of sizes as a whole.
+    List,
+    /// The size number given for a section.
+    Entry(usize),
+}
+
+impl fmt::Display for At {
+    fn fmt(&self, f: &mut fmt::Formatter) -> fmt::Result {
+        match self {
+            At::Job => write!(f, "job record"),
+            At::House => write!(f, "house"),
+            At::Field(field) => write!(f, "{}", field.name()),
+            At::Residents(kind) => write!(f, "residents {}", kinds::name(*kind)),
+            At::Section(section) => write!(f, "section {section}"),
+            At::Catalogue => write!(f, "catalogue"),
+            At::Size(size) => write!(f, "size {size}"),
+            At::Row(size, row) => write!(f, "size {size} row {row}"),
+            At::List => write!(f, "list of sizes"),
+            At::Entry(place) => write!(f, "size number {place} of the list"),
+        }
+    }
+}
+
+/// The lines on which a readable file has its fields.
+#[derive(Clone, Debug, Default, PartialEq, Eq)]
+pub struct Lines(Vec<(At, usize)>);
+
+impl Lines {
+    pub fn note(&mut self, at: At, line: usize) {
+        self.0.push((at, line));
+    }
+
+    /// The first line that has this place. A size's first row stands for the size.
+    pub fn of(&self, at: At) -> Option<usize> {
+        let wanted = match at {
+            At::Size(size) => At::Row(size, 1),
+            other => other,
+        };
+        self.0.iter().find(|(noted, _)| *noted == wanted).map(|(_, line)| *line)
+    }
+}

@@ -1,0 +1,181 @@
+//! One call with all that is lent to it, and the text file that holds it.
+//!
+//! The file has one line for each part, in any order; blank lines and lines that start with `#` are skipped:
+//!
+//! ```text
+//! call choose
+//! job 0000003201030118 003201f404b005dc
+//! job 000000000000000000000000004700000000000000000000000700500064025800c8
+//! cat 0000002f010202...
+//! sizes 02
+//! work 17608 a50f
+//! out 5 ff
+//! ```
+//!
+//! `call` is `flow`, `rate`, `choose` or `copy`. `job`, `cat` and `sizes` are bytes in hex, where spaces do not count and
+//! several lines of one name are joined; a name without a line is empty. `work` and `out` are the buffers as they are before
+//! the call: a length, and bytes in hex that are repeated to fill it (none: zeros).
+
+use std::fmt::Write;
+
+#[derive(Clone, Copy, Debug, PartialEq, Eq)]
+pub enum Call {
+    Copy,
+    Flow,
+    Rate,
+    Choose,
+}
+
+impl Call {
+    pub const ALL: [Call; 4] = [Call::Copy, Call::Flow, Call::Rate, Call::Choose];
+
+    pub fn name(self) -> &'static str {
+        match self {
+            Call::Copy => "copy",
+            Call::Flow => "flow",
+            Call::Rate => "rate",
+            Call::Choose => "choose",
+        }
+    }
+}
+
+/// A buffer before the call.
+#[derive(Clone, Debug, Default, PartialEq, Eq)]
+pub struct Buffer {
+    pub length: usize,
+    /// Repeated to fill the buffer; empty for zeros.
+    pub pattern: Vec<u8>,
+}
+
+#[derive(Clone, Debug, PartialEq, Eq)]
+pub struct Case {
+    pub call: Call,
+    pub job: Vec<u8>,
+    pub cat: Vec<u8>,
+    pub sizes: Vec<u8>,
+    pub work: Buffer,
+    pub out: Buffer,
+}
+
+/// No buffer of a call needs more; a file that asks for more is refused before it is filled.
+const LONGEST: usize = 1 << 26;
+
+impl Buffer {
+    /// Appends the buffer's bytes.
+    pub fn fill(&self, bytes: &mut Vec<u8>) {
+        let start = bytes.len();
+        bytes.extend(self.pattern.iter().take(self.length));
+        if bytes.len() == start {
+            bytes.resize(start + self.length, 0);
+        }
+        // Doubling keeps the pattern, as long as only whole turns are copied.
+        while bytes.len() - start < self.length {
+            let have = bytes.len() - start;
+            bytes.extend_from_within(start..start + have.min(self.length - have));
+        }
+    }
+}
+
+impl Case {
+    pub fn text(&self) -> String {
+        let mut text = format!("call {}\n", self.call.name());
+        for (name, bytes) in [("job", &self.job), ("cat", &self.cat), ("sizes", &self.sizes)] {
+            for line in bytes.chunks(48) {
+                let _ = writeln!(text, "{name} {}", hex(line));
+            }
+        }
+        for (name, buffer) in [("work", &self.work), ("out", &self.out)] {
+            let _ = writeln!(text, "{name} {} {}", buffer.length, hex(&buffer.pattern));
+        }
+        text
+    }
+
+    pub fn parse(text: &str) -> Result<Case, String> {
+        let mut call = None;
+        let (mut job, mut cat, mut sizes) = (Vec::new(), Vec::new(), Vec::new());
+        let (mut work, mut out) = (Buffer::default(), Buffer::default());
+        for (line, at) in text.lines().zip(1..) {
+            let line = line.trim();
+            if line.is_empty() || line.starts_with('#') {
+                continue;
+            }
+            let (name, rest) = line.split_once(char::is_whitespace).unwrap_or((line, ""));
+            let wrong = |what: &str| format!("line {at}: {what}");
+            match name {
+                "call" => {
+                    let named = Call::ALL.into_iter().find(|call| call.name() == rest.trim());
+                    call = Some(named.ok_or_else(|| wrong("the calls are flow, rate, choose and copy"))?);
+                }
+                "job" => job.extend(unhex(rest).map_err(|what| wrong(&what))?),
+                "cat" => cat.extend(unhex(rest).map_err(|what| wrong(&what))?),
+                "sizes" => sizes.extend(unhex(rest).map_err(|what| wrong(&what))?),
+                "work" => work = buffer(rest).map_err(|what| wrong(&what))?,
+                "out" => out = buffer(rest).map_err(|what| wrong(&what))?,
+                _ => return Err(wrong("a line starts with call, job, cat, sizes, work or out")),
+            }
+        }
+        let call = call.ok_or("the file names no call")?;
+        Ok(Case { call, job, cat, sizes, work, out })
+    }
+}
+
+fn buffer(rest: &str) -> Result<Buffer, String> {
+    let rest = rest.trim();
+    let (length, pattern) = rest.split_once(char::is_whitespace).unwrap_or((rest, ""));
+    let length = length.parse().ok().filter(|length| *length <= LONGEST);
+    Ok(Buffer { length: length.ok_or(format!("a buffer's length is 0 to {LONGEST}"))?, pattern: unhex(pattern)? })
+}
+
+fn hex(bytes: &[u8]) -> String {
+    bytes.iter().fold(String::new(), |mut text, byte| {
+        let _ = write!(text, "{byte:02x}");
+        text
+    })
+}
+
+fn unhex(text: &str) -> Result<Vec<u8>, String> {
+    let digits: Option<Vec<u8>> =
+        text.chars().filter(|c| !c.is_whitespace()).map(|c| c.to_digit(16).map(|digit| digit as u8)).collect();
+    let digits = digits.ok_or("hex has the digits 0 to 9 and a to f")?;
+    if digits.len() % 2 == 1 {
+        return Err("hex has two digits for each byte".to_string());
+    }
+    Ok(digits.chunks(2).map(|two| two[0] * 16 + two[1]).collect())
+}
+
+#[cfg(test)]
+mod tests {
+    use super::*;
+
+    #[test]
+    fn text_and_back() {
+        let case = Case {
+            call: Call::Choose,
+            job: (0..=255).collect(),
+            cat: vec![7],
+            sizes: Vec::new(),
+            work: Buffer { length: 17, pattern: vec![1, 2, 3] },
+            out: Buffer { length: 0, pattern: Vec::new() },
+        };
+        assert_eq!(Case::parse(&case.text()), Ok(case));
+        assert_eq!(Case::parse("# nothing\n"), Err("the file names no call".to_string()));
+        assert_eq!(Case::parse("call flow\njob 0g"), Err("line 2: hex has the digits 0 to 9 and a to f".to_string()));
+        assert_eq!(Case::parse("call flow\njob 012"), Err("line 2: hex has two digits for each byte".to_string()));
+        assert!(Case::parse("call flaw").is_err());
+        assert!(Case::parse("call flow\nout 99999999999").is_err());
+    }
+
+    #[test]
+    fn a_pattern_fills_its_buffer() {
+        for length in 0..40 {
+            for turn in 0..9 {
+                let pattern: Vec<u8> = (1..=turn).collect();
+                let expected: Vec<u8> =
+                    (0..length).map(|at| if turn == 0 { 0 } else { pattern[at % pattern.len()] }).collect();
+                let mut bytes = vec![99];
+                Buffer { length, pattern }.fill(&mut bytes);
+                assert_eq!(bytes[1..], expected);
+            }
+        }
+    }
+}

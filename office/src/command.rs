@@ -1,0 +1,63 @@
+//! What `office` does with its words: parsing, running, writing.
+
+mod arguments;
+mod charts;
+mod fields;
+mod files;
+mod help;
+mod input;
+mod json;
+mod network;
+mod outcome;
+mod rating;
+mod refused;
+mod trials;
+
+use arguments::Arguments;
+use outcome::{Misuse, Outcome};
+use std::io::Write;
+use std::process::ExitCode;
+
+/// Runs one command and gives its status.
+pub fn run(words: &[String]) -> ExitCode {
+    let outcome = match arguments::parse(words).and_then(|arguments| perform(&arguments)) {
+        Ok(outcome) => outcome,
+        Err(Misuse(text)) => Outcome::misuse(&text),
+    };
+    // Who closes the pipe early has read enough.
+    let _ = std::io::stdout().write_all(&outcome.output);
+    let _ = std::io::stdout().flush();
+    let _ = std::io::stderr().write_all(outcome.warning.as_bytes());
+    ExitCode::from(outcome.status)
+}
+
+fn perform(arguments: &Arguments) -> Result<Outcome, Misuse> {
+    let outcome = answer(arguments)?;
+    match &arguments.out {
+        // A refusal is no answer to keep: it is said, and the file is left alone.
+        Some(file) if outcome.answered => {
+            std::fs::write(file, &outcome.output).map_err(|why| Misuse(format!("{file} can't be written: {why}")))?;
+            Ok(Outcome { output: Vec::new(), ..outcome })
+        }
+        _ => Ok(outcome),
+    }
+}
+
+fn answer(arguments: &Arguments) -> Result<Outcome, Misuse> {
+    if arguments.help {
+        return help::of(&arguments.command);
+    }
+    match arguments.command.as_str() {
+        "pack" => files::pack(arguments),
+        "show" => files::show(arguments),
+        "flow" => network::flow(arguments),
+        "rate" => network::rate(arguments),
+        "choose" => network::choose(arguments),
+        "draw" => network::draw(arguments),
+        "soak" => trials::soak(arguments),
+        "replay" => trials::replay(arguments),
+        "bench" => trials::bench(arguments),
+        "help" => help::of(arguments.words.first().map_or("help", String::as_str)),
+        other => Err(Misuse(format!("there is no command `{other}`; the commands are {}", help::names()))),
+    }
+}

@@ -1,0 +1,81 @@
+//! The command's words: its name, its files, its options.
+
+use super::help;
+use super::outcome::Misuse;
+
+#[derive(Debug, Default)]
+pub struct Arguments {
+    pub command: String,
+    /// Files, size lists and numbers, in their order.
+    pub words: Vec<String>,
+    pub out: Option<String>,
+    pub json: bool,
+    pub seed: Option<u64>,
+    pub help: bool,
+}
+
+/// Options may stand anywhere; behind `--` everything is a plain word.
+pub fn parse(words: &[String]) -> Result<Arguments, Misuse> {
+    let mut found = Arguments::default();
+    let mut plain = Vec::new();
+    let mut rest = words.iter();
+    while let Some(word) = rest.next() {
+        match word.as_str() {
+            "--" => plain.extend(rest.by_ref().cloned()),
+            "--json" => found.json = true,
+            "-h" | "--help" => found.help = true,
+            "-o" => found.out = Some(value(rest.next(), "-o", "a file")?),
+            "--seed" => found.seed = Some(number(&value(rest.next(), "--seed", "a number")?, "--seed")?),
+            option if option.starts_with('-') && option != "-" => {
+                return Err(Misuse(format!("there is no option `{option}`; `office help` lists them")));
+            }
+            _ => plain.push(word.clone()),
+        }
+    }
+    let mut plain = plain.into_iter();
+    found.command = plain.next().unwrap_or_else(|| "help".to_string());
+    found.words = plain.collect();
+    found.check()?;
+    Ok(found)
+}
+
+fn value(word: Option<&String>, option: &str, what: &str) -> Result<String, Misuse> {
+    word.cloned().ok_or_else(|| Misuse(format!("`{option}` wants {what}")))
+}
+
+/// A whole number given as a word.
+pub fn number(word: &str, what: &str) -> Result<u64, Misuse> {
+    word.parse().map_err(|_| Misuse(format!("`{word}` is no whole number for {what}")))
+}
+
+impl Arguments {
+    /// The right count of words, and no option that the command would not heed.
+    fn check(&self) -> Result<(), Misuse> {
+        let Some(known) = help::COMMANDS.iter().find(|known| known.name == self.command) else { return Ok(()) };
+        if self.help {
+            return Ok(());
+        }
+        let misuse = |why: String| Err(Misuse(format!("{why}\nusage: {}", known.usage)));
+        if self.words.len() < known.least || self.words.len() > known.most {
+            return misuse(format!("`{}` takes {}, not {}", self.command, count(known), self.words.len()));
+        }
+        for (given, option) in [(self.json, "--json"), (self.out.is_some(), "-o"), (self.seed.is_some(), "--seed")] {
+            if given && !known.usage.contains(option) {
+                return misuse(format!("`{}` has no option {option}", self.command));
+            }
+        }
+        if self.words.iter().filter(|word| matches!(word.as_str(), "-" | "@-")).count() > 1 {
+            return misuse("standard input can be read only once".to_string());
+        }
+        Ok(())
+    }
+}
+
+fn count(known: &help::Command) -> String {
+    match (known.least, known.most) {
+        (0, 0) => "no words".to_string(),
+        (1, 1) => "1 word".to_string(),
+        (least, most) if least == most => format!("{least} words"),
+        (least, most) => format!("{least} to {most} words"),
+    }
+}

@@ -1,0 +1,44 @@
+//! Aligned tables for people.
+
+/// A column: its name, its unit, and whether it holds words (aligned left) or numbers (aligned right).
+pub struct Column {
+    pub name: &'static str,
+    pub unit: &'static str,
+    pub words: bool,
+}
+
+pub const fn number(name: &'static str, unit: &'static str) -> Column {
+    Column { name, unit, words: false }
+}
+
+pub const fn words(name: &'static str) -> Column {
+    Column { name, unit: "", words: true }
+}
+
+/// Names, units and rows under one another, two blanks between columns.
+pub fn chart(columns: &[Column], rows: &[Vec<String>]) -> String {
+    let names: Vec<String> = columns.iter().map(|column| column.name.to_string()).collect();
+    let units: Vec<String> = columns.iter().map(|column| column.unit.to_string()).collect();
+    let lines: Vec<&Vec<String>> = [&names, &units].into_iter().chain(rows).collect();
+    let widths: Vec<usize> = (0..columns.len())
+        .map(|place| lines.iter().map(|line| line[place].chars().count()).max().unwrap_or(0))
+        .collect();
+    let mut text = String::new();
+    for line in lines {
+        let cells = line.iter().zip(columns).zip(&widths).map(|((cell, column), width)| {
+            if column.words { format!("{cell:<width$}") } else { format!("{cell:>width$}") }
+        });
+        text.push_str(cells.collect::<Vec<_>>().join("  ").trim_end());
+        text.push('\n');
+    }
+    text
+}
+
+/// Single figures under one another: name, number, unit, and a remark.
+pub fn figures(rows: &[(&str, String, String)]) -> String {
+    let name = rows.iter().map(|row| row.0.chars().count()).max().unwrap_or(0);
+    let value = rows.iter().map(|row| row.1.chars().count()).max().unwrap_or(0);
+    rows.iter()
+        .map(|row| format!("{:<name$}  {:>value$} {}", row.0, row.1, row.2).trim_end().to_string() + "\n")
+        .collect()
+}

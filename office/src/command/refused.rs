@@ -1,0 +1,78 @@
+//! A refusal in words: the library's number and sentence, and the places found beside it.
+
+use super::input::Source;
+use super::json::Json;
+use office::Refusal;
+use office::at::At;
+use office::places::{Asked, Place, places};
+
+/// What the refused call was given.
+#[derive(Clone, Copy, Default)]
+pub struct Given<'a> {
+    pub job: Option<&'a Source>,
+    pub cat: Option<&'a Source>,
+    pub sizes: &'a [u8],
+}
+
+impl Given<'_> {
+    fn places(&self, refusal: &Refusal) -> Vec<Place> {
+        let bytes = |source: Option<&Source>| source.map_or(Vec::new(), |source| source.bytes.clone());
+        let (job, cat) = (bytes(self.job), bytes(self.cat));
+        places(refusal, &Asked { job: &job, cat: &cat, sizes: self.sizes })
+    }
+
+    /// The file that a place lies in, and its line where the file is readable.
+    fn file(&self, at: At) -> Option<(&str, Option<usize>)> {
+        let source = match at {
+            At::Catalogue | At::Size(_) | At::Row(..) => self.cat,
+            At::List | At::Entry(_) => None,
+            _ => self.job,
+        }?;
+        Some((source.name.as_str(), source.lines.of(at)))
+    }
+}
+
+/// More places than this are counted and not listed.
+const LISTED: usize = 20;
+
+/// The refusal for people.
+pub fn words(refusal: &Refusal, given: &Given) -> String {
+    let found = given.places(refusal);
+    let mut text = format!("{refusal}\n");
+    if found.is_empty() {
+        text.push_str("  no place was found for it; the number is the library's and stands\n");
+    }
+    for place in found.iter().take(LISTED) {
+        let file = match given.file(place.at) {
+            Some((name, Some(line))) => format!("{name} line {line}, "),
+            Some((name, None)) => format!("{name}, "),
+            None => String::new(),
+        };
+        text.push_str(&format!("  {file}{place}\n"));
+    }
+    if found.len() > LISTED {
+        text.push_str(&format!("  and {} more places\n", found.len() - LISTED));
+    }
+    text
+}
+
+/// The refusal for machines.
+pub fn json(refusal: &Refusal, given: &Given) -> Json {
+    let places = given.places(refusal).into_iter().map(|place| {
+        let (file, line) = match given.file(place.at) {
+            Some((name, line)) => (Json::text(name), line.map_or(Json::Null, |line| Json::Number(line as i64))),
+            None => (Json::Null, Json::Null),
+        };
+        Json::Object(vec![
+            ("at", Json::text(place.at.to_string())),
+            ("why", Json::text(place.why)),
+            ("file", file),
+            ("line", line),
+        ])
+    });
+    Json::Object(vec![
+        ("number", refusal.number().into()),
+        ("text", Json::text(refusal.text())),
+        ("places", Json::List(places.collect())),
+    ])
+}

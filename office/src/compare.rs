@@ -1,0 +1,180 @@
+//! The library against the model, case by case.
+
+use crate::case::{Buffer, Call, Case};
+use crate::ffi;
+use crate::generate;
+use crate::model::{self, Expected, Judged, brute, judge};
+pub use crate::situations::{Counters, Situation};
+use std::fmt;
+
+/// A case on which library and model disagree.
+#[derive(Clone, Debug)]
+pub struct Mismatch {
+    pub case: Box<Case>,
+    pub what: String,
+}
+
+impl Mismatch {
+    /// The case as a file that `replay` takes.
+    pub fn file(&self) -> String {
+        format!("# {}\n{}", self.what, self.case.text())
+    }
+}
+
+impl fmt::Display for Mismatch {
+    fn fmt(&self, f: &mut fmt::Formatter) -> fmt::Result {
+        write!(f, "library and model disagree; the case, to be replayed:\n{}", self.file())
+    }
+}
+
+impl std::error::Error for Mismatch {}
+
+/// Brute force is tried where there are at most so many lists.
+const MOST_LISTS: u64 = 1_500;
+
+/// Runs this many generated cases. `progress` is told how many are done, now and then and at the end.
+pub fn soak(cases: u64, seed: u64, progress: &mut dyn FnMut(u64)) -> Result<Counters, Mismatch> {
+    let mut counters = Counters::default();
+    for index in 0..cases {
+        let case = generate::case(seed, index);
+        let judged = judge(&case);
+        let checked = agree(&case, &judged).and_then(|_| try_all(&case, &judged, &mut counters));
+        if let Err(what) = checked {
+            return Err(Mismatch { case: Box::new(case), what: format!("seed {seed}, index {index}: {what}") });
+        }
+        counters.note(&case, &judged);
+        if (index + 1) % 10_000 == 0 || index + 1 == cases {
+            progress(index + 1);
+        }
+    }
+    Ok(counters)
+}
+
+/// Runs the case of a file again and says what both give; an error where the file is no case or they disagree.
+pub fn replay(text: &str) -> Result<String, String> {
+    let case = Case::parse(text)?;
+    let judged = judge(&case);
+    let given = agree(&case, &judged).and_then(|given| {
+        try_all(&case, &judged, &mut Counters::default())?;
+        Ok(given)
+    });
+    match given {
+        Ok(given) => Ok(format!("{}: library and model agree: {given}", case.call.name())),
+        Err(what) => Err(format!("{}: {what}", case.call.name())),
+    }
+}
+
+/// A buffer with bytes before and after it that nobody may touch.
+struct Fenced {
+    bytes: Vec<u8>,
+    fence: usize,
+    length: usize,
+}
+
+const FENCE_BYTE: u8 = 0xc3;
+
+impl Fenced {
+    fn of(buffer: &Buffer) -> Fenced {
+        // Fences of several lengths, so that buffers start at odd addresses too.
+        let fence = 60 + buffer.pattern.len() % 4;
+        let mut bytes = Vec::with_capacity(buffer.length + 2 * fence);
+        bytes.resize(fence, FENCE_BYTE);
+        buffer.fill(&mut bytes);
+        bytes.resize(fence + buffer.length + fence, FENCE_BYTE);
+        Fenced { bytes, fence, length: buffer.length }
+    }
+
+    fn lent(&mut self) -> &mut [u8] {
+        &mut self.bytes[self.fence..self.fence + self.length]
+    }
+
+    fn fences_stand(&self) -> bool {
+        let (before, rest) = self.bytes.split_at(self.fence);
+        before.iter().chain(&rest[self.length..]).all(|byte| *byte == FENCE_BYTE)
+    }
+}
+
+/// Calls the library and holds everything it did against the model. Gives what the library gave, in words.
+fn agree(case: &Case, judged: &Judged) -> Result<String, String> {
+    let before = case.clone();
+    let (mut out, mut work) = (Fenced::of(&case.out), Fenced::of(&case.work));
+    let number = match case.call {
+        Call::Copy => ffi::copy(&case.job, out.lent()),
+        Call::Flow => ffi::flow(&case.job, out.lent()),
+        Call::Rate => ffi::rate(&case.job, &case.cat, &case.sizes, out.lent()),
+        Call::Choose => ffi::choose(&case.job, &case.cat, work.lent(), out.lent()),
+    };
+    if number != judged.number {
+        return Err(format!("the library gives {number}, the model {}", judged.number));
+    }
+    if *case != before {
+        return Err("the library changed what it was lent to read".to_string());
+    }
+    if !out.fences_stand() || !work.fences_stand() {
+        return Err("the library wrote outside of a buffer".to_string());
+    }
+    let mut expected = Vec::new();
+    case.out.fill(&mut expected);
+    let given = out.lent();
+    match &judged.result {
+        Expected::Nothing => {}
+        Expected::Bytes(bytes) => expected[..bytes.len()].copy_from_slice(bytes),
+        Expected::Rated(rating) => expected[..9 + 6 * judged.flows.len()].copy_from_slice(&rating.bytes()),
+        Expected::Chosen { cost, .. } => {
+            let result = &given[..4 + judged.flows.len()];
+            chosen_well(judged, *cost, result)?;
+            expected[..result.len()].copy_from_slice(result);
+        }
+    }
+    if given != expected {
+        let place = given.iter().zip(&expected).position(|(given, expected)| given != expected).unwrap_or(0);
+        let (given, expected) = (given[place], expected[place]);
+        return Err(format!("number {number}: result byte {place} is {given:02x}, the model has {expected:02x}"));
+    }
+    if (1..=15).contains(&number) {
+        let mut expected = Vec::new();
+        case.work.fill(&mut expected);
+        if work.lent() != expected {
+            return Err(format!("the workspace was changed before {number}"));
+        }
+    }
+    let result = if number == 0 { &given[..model::result_bytes(case.call, judged.house.sections.len())] } else { &[] };
+    Ok(format!("number {number}, result {result:?}"))
+}
+
+/// The cost is the least, and the list, which may be any of the cheapest, suits at that cost.
+fn chosen_well(judged: &Judged, least: i128, result: &[u8]) -> Result<(), String> {
+    let order = judged.order();
+    let (cost, list) = (model::bytes::number(result, 0, 4), &result[4..]);
+    if cost != least {
+        return Err(format!("the library's cost is {cost}, the least is {least}"));
+    }
+    if !order.suits(list) {
+        return Err(format!("the library's list {list:?} does not suit"));
+    }
+    if order.cost(list) != cost {
+        return Err(format!("the library's list {list:?} costs {}, not {cost}", order.cost(list)));
+    }
+    Ok(())
+}
+
+/// The model's own search held against brute force, where there are few lists.
+fn try_all(case: &Case, judged: &Judged, counters: &mut Counters) -> Result<(), String> {
+    if case.call != Call::Choose || ![0, 16].contains(&judged.number) {
+        return Ok(());
+    }
+    let order = judged.order();
+    let found = match &judged.result {
+        Expected::Chosen { cost, list } if order.suits(list) && order.cost(list) == *cost => Some(*cost),
+        Expected::Chosen { list, .. } => return Err(format!("the model's own list {list:?} is wrong")),
+        _ => None,
+    };
+    if brute::lists(&order, MOST_LISTS).is_some() {
+        let tried = brute::least(&order);
+        if tried.map(|(cost, _)| cost) != found {
+            return Err(format!("in the model brute force gives {tried:?}, fronts {found:?}"));
+        }
+        counters.note_tried(tried.map(|(_, ways)| ways));
+    }
+    Ok(())
+}

@@ -1,0 +1,138 @@
+//! The network as a drawing: plain SVG, the pump at the left, each section a pipe from the end of the one before it.
+//!
+//! A section's first child goes straight on; the others leave downward to rows of their own, so that no two pipes share a
+//! row and a column, and no text meets another.
+
+mod layout;
+mod svg;
+
+use crate::calls::Rating;
+use crate::kinds;
+use crate::pipes::Pipe;
+use crate::record::Record;
+use layout::{COLUMN, LEFT, Place, ROW, TOP};
+use svg::Svg;
+
+/// Half of the turn that a pipe takes below its parent's end, so that text beside the end has room.
+const STUB: i64 = 14;
+/// The colour of the dictating path, which is also drawn wider and named in words, so that it shows in print.
+const DICTATING: &str = "#b3261e";
+const PIPE: &str = "#31587a";
+const SHORT: &str = "#b3261e";
+const FAINT: &str = "#5f6b76";
+const INK: &str = "#1c2329";
+
+/// The drawing of a rated house. `cost` is the cheapest list's, in tenths of the price unit, where one was chosen.
+pub fn draw(record: &Record, pipes: &[Pipe], rating: &Rating, cost: Option<u32>) -> String {
+    let places = layout::places(pipes);
+    let (columns, rows) = layout::extent(&places);
+    // Room for the heading over a small house.
+    let width = (LEFT + columns * COLUMN + 40).max(720);
+    let height = TOP + rows * ROW;
+    let mut svg = Svg::new(width, height, &format!("House network of {} sections", pipes.len()));
+    heading(&mut svg, record, rating, cost);
+    pump(&mut svg, record, rating);
+    // Branches of one pipe leave along the same upright; the dictating one is drawn last, over the others.
+    for dictating in [false, true] {
+        for (pipe, place) in pipes.iter().zip(&places).filter(|(pipe, _)| pipe.dictating == dictating) {
+            riser(&mut svg, pipe, place, &places);
+        }
+    }
+    for (pipe, place) in pipes.iter().zip(&places) {
+        section(&mut svg, pipe, place, pipe.number == rating.dictating);
+    }
+    svg.finish()
+}
+
+/// Three lines above the drawing.
+fn heading(svg: &mut Svg, record: &Record, rating: &Rating, cost: Option<u32>) {
+    let (required, pump, guaranteed) = (rating.required, rating.pump, record.guaranteed);
+    let heads = format!("required head {required} cm, pump head {pump} cm over the guaranteed {guaranteed} cm");
+    svg.text(20, 28, 15, INK, "bold", &heads);
+    let bought = cost.map_or(String::new(), |cost| format!("; the pipes cost {}.{}", cost / 10, cost % 10));
+    let path = format!("dictating path, red and wide: pump to section {}{bought}", rating.dictating);
+    svg.text(20, 48, 12, FAINT, "normal", &path);
+    let left = format!("left: head left at an end when {} cm are delivered; needs: its free head", record.delivered);
+    svg.text(20, 65, 12, FAINT, "normal", &left);
+}
+
+/// The pump: a circle with its arrow, and the heads beside it.
+fn pump(svg: &mut Svg, record: &Record, rating: &Rating) {
+    let (x, y) = (LEFT - 56, TOP);
+    svg.circle(x, y, 18, "white", INK, 2);
+    svg.path(&format!("M {} {} L {} {} L {} {} Z", x - 8, y - 11, x + 15, y, x - 8, y + 11), INK, INK, 1);
+    svg.line(x + 18, y, LEFT, y, INK, 4);
+    svg.middle(x, y + 36, 12, INK, "bold", "pump");
+    svg.middle(x, y + 52, 11, FAINT, "normal", &format!("head {} cm", rating.pump));
+    svg.middle(x, y - 26, 11, FAINT, "normal", &format!("meter {} cm", record.meter));
+}
+
+/// The upright line from the parent's end down to this section's row, where it is not the parent's own.
+fn riser(svg: &mut Svg, pipe: &Pipe, place: &Place, places: &[Place]) {
+    let (x, from) = start(pipe, place, places);
+    let y = TOP + place.row * ROW;
+    if from != y {
+        let (colour, width) = stroke(pipe);
+        svg.line(x, from, x, y, colour, width);
+    }
+}
+
+/// Where a section begins: the column of its parent's end and the parent's row.
+fn start(pipe: &Pipe, place: &Place, places: &[Place]) -> (i64, i64) {
+    let above = match usize::from(pipe.section.parent) {
+        0 => TOP,
+        parent => places.get(parent - 1).map_or(TOP, |above| TOP + above.row * ROW),
+    };
+    (LEFT + place.column * COLUMN, above)
+}
+
+fn stroke(pipe: &Pipe) -> (&'static str, i64) {
+    let wide = 2 + i64::from(pipe.size.min(4));
+    if pipe.dictating { (DICTATING, wide + 2) } else { (PIPE, wide) }
+}
+
+/// A pipe with its texts: above it number, size and length; below it flow and velocity, loss, and the head left at its end.
+fn section(svg: &mut Svg, pipe: &Pipe, place: &Place, dictates: bool) {
+    let x = LEFT + place.column * COLUMN;
+    let (y, end) = (TOP + place.row * ROW, x + COLUMN);
+    let (colour, width) = stroke(pipe);
+    svg.open(&format!("section-{}", pipe.number), &title(pipe));
+    svg.line(x, y, end, y, colour, width);
+    svg.circle(end, y, 5, "white", colour, 2);
+    let at = x + STUB;
+    svg.text(at, y - 9, 12, INK, "bold", &pipe.number.to_string());
+    let length = format!("{}.{} m", pipe.section.length / 10, pipe.section.length % 10);
+    svg.text(at + 24, y - 9, 11, INK, "normal", &format!("{} mm (size {})  {length}", pipe.bore, pipe.size));
+    svg.text(at, y + 18, 11, INK, "normal", &format!("{} ml/s  {} mm/s", pipe.flow, pipe.velocity));
+    svg.text(at, y + 32, 11, INK, "normal", &format!("loss {} cm", pipe.loss));
+    let (colour, left) = ending(pipe);
+    svg.text(at, y + 46, 11, colour, "normal", &left);
+    if dictates {
+        svg.text(at, y + 60, 11, DICTATING, "bold", "dictating end");
+    }
+    svg.close();
+}
+
+/// The head left at the end against the free head, and its colour.
+fn ending(pipe: &Pipe) -> (&'static str, String) {
+    let (left, free) = (pipe.left, pipe.section.free);
+    match (left < i64::from(free), pipe.section.kind) {
+        (true, _) => (SHORT, format!("SHORT: left {left}, needs {free} cm")),
+        (false, 0) => (FAINT, format!("left {left} cm")),
+        (false, _) => (FAINT, format!("left {left}, needs {free} cm")),
+    }
+}
+
+/// What a viewer shows when the pointer rests on the section.
+fn title(pipe: &Pipe) -> String {
+    let section = &pipe.section;
+    let from = if section.parent == 0 { "the pump".to_string() } else { format!("section {}", section.parent) };
+    let taps = match section.kind {
+        0 => "junction".to_string(),
+        kind => format!("{} fixtures of kind {}, free head {} cm", section.fixtures, kinds::name(kind), section.free),
+    };
+    format!(
+        "Section {} from {from}: {taps}, elevation {} cm, head left {} cm",
+        pipe.number, section.elevation, pipe.left
+    )
+}

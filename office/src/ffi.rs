@@ -1,0 +1,78 @@
+//! The exported calls of the proved library, on lent buffers. `include/order.h` says what each takes and leaves.
+//!
+//! This is the only unsafe code of the package. It is sound because a Rust slice is what the library asks for: its pointer
+//! is not null even when it is empty, its length is below 2⁶³, and a `&mut` overlaps nothing else that is lent.
+#![allow(unsafe_code)]
+
+mod linked {
+    unsafe extern "C" {
+        pub fn order_flow(job: *const u8, job_length: usize, out: *mut u8, out_length: usize) -> u32;
+        pub fn order_rate(
+            job: *const u8,
+            job_length: usize,
+            cat: *const u8,
+            cat_length: usize,
+            sizes: *const u8,
+            sizes_length: usize,
+            out: *mut u8,
+            out_length: usize,
+        ) -> u32;
+        pub fn order_choose(
+            job: *const u8,
+            job_length: usize,
+            cat: *const u8,
+            cat_length: usize,
+            work: *mut u8,
+            work_length: usize,
+            out: *mut u8,
+            out_length: usize,
+        ) -> u32;
+        pub fn order_copy(job: *const u8, job_length: usize, out: *mut u8, out_length: usize) -> u32;
+    }
+}
+
+/// Design flows into `out`; 0, or the number of the refusal.
+pub fn flow(job: &[u8], out: &mut [u8]) -> u32 {
+    // SAFETY: see the top of the file; the library reads `job` and writes inside `out`.
+    unsafe { linked::order_flow(job.as_ptr(), job.len(), out.as_mut_ptr(), out.len()) }
+}
+
+/// Rating into `out`; 0, or the number of the refusal.
+pub fn rate(job: &[u8], cat: &[u8], sizes: &[u8], out: &mut [u8]) -> u32 {
+    // SAFETY: see the top of the file; the library reads the first three and writes inside `out`.
+    unsafe {
+        linked::order_rate(
+            job.as_ptr(),
+            job.len(),
+            cat.as_ptr(),
+            cat.len(),
+            sizes.as_ptr(),
+            sizes.len(),
+            out.as_mut_ptr(),
+            out.len(),
+        )
+    }
+}
+
+/// The cheapest suitable sizes into `out`, with the workspace `work`; 0, or the number of the refusal.
+pub fn choose(job: &[u8], cat: &[u8], work: &mut [u8], out: &mut [u8]) -> u32 {
+    // SAFETY: see the top of the file; the library reads the first two and writes inside `work` and `out`.
+    unsafe {
+        linked::order_choose(
+            job.as_ptr(),
+            job.len(),
+            cat.as_ptr(),
+            cat.len(),
+            work.as_mut_ptr(),
+            work.len(),
+            out.as_mut_ptr(),
+            out.len(),
+        )
+    }
+}
+
+/// The record read and written again into `out`; 0, or the number of the refusal.
+pub fn copy(job: &[u8], out: &mut [u8]) -> u32 {
+    // SAFETY: see the top of the file; the library reads `job` and writes inside `out`.
+    unsafe { linked::order_copy(job.as_ptr(), job.len(), out.as_mut_ptr(), out.len()) }
+}

@@ -1,0 +1,74 @@
+//! Cases for the comparison of library and model. A seed and an index give one case, always the same.
+//!
+//! Most cases are made to reach something named in `situations`: the counters there show whether they do.
+
+mod buffers;
+mod catalogues;
+mod damage;
+mod demands;
+mod draft;
+mod extremes;
+mod fitting;
+mod houses;
+mod rng;
+
+use crate::case::{Buffer, Call, Case};
+use crate::model::{self, house::House};
+use catalogues::catalogue;
+use draft::catalogue_bytes;
+use rng::Rng;
+
+/// The case of this index in the row of this seed.
+pub fn case(seed: u64, index: u64) -> Case {
+    let rng = &Rng::new(seed, index);
+    let call = rng.pick(&[Call::Copy, Call::Flow, Call::Flow, Call::Rate, Call::Rate, Call::Choose, Call::Choose]);
+    let mut case = sound(rng, call);
+    let order = model::order_of(call);
+    let mut spoilt = [0, 0];
+    match rng.below(20) {
+        0..9 => {}
+        9..12 => spoilt[0] = rng.pick(order),
+        12..15 => {
+            let place = rng.below(order.len() as u64 - 1) as usize;
+            spoilt = [order[place], order[place + 1]];
+        }
+        15 | 16 => damage::scratch(rng, &mut case),
+        17 => (0..rng.between(1, 2)).for_each(|_| damage::edge(rng, &mut case.job)),
+        18 => spoilt = [rng.pick(order), rng.pick(order)],
+        _ => damage::junk(rng, &mut case),
+    }
+    // The later fault first, so that the earlier one does not take away the bytes that it needs.
+    spoilt.iter().rev().for_each(|number| damage::spoil(rng, &mut case, *number));
+    buffers::lend(rng, &mut case, spoilt);
+    case
+}
+
+/// A case that is accepted, most of the time.
+fn sound(rng: &Rng, call: Call) -> Case {
+    // Choosing for many sections takes milliseconds, so it is rarer.
+    let large_once_in = if call == Call::Choose { 100 } else { 12 };
+    let extreme = rng.once_in(if call == Call::Choose { 100 } else { 30 });
+    let mut draft = match rng.below(8) {
+        _ if extreme => extremes::longest(rng),
+        0 => demands::marked(rng),
+        _ => houses::house(rng, large_once_in),
+    };
+    let mut case = Case {
+        call,
+        job: draft.bytes(),
+        cat: Vec::new(),
+        sizes: Vec::new(),
+        work: Buffer::default(),
+        out: Buffer::default(),
+    };
+    if matches!(call, Call::Rate | Call::Choose) {
+        let house = House::of(&case.job);
+        let flows = fitting::flows(&house);
+        let measure = fitting::measure(rng, &draft, &house, &flows);
+        let sizes = if extreme { extremes::greatest(rng) } else { catalogue(rng, &measure) };
+        case.cat = catalogue_bytes(&sizes);
+        fitting::fit(rng, &mut draft, &mut case, &house, &flows);
+        case.job = draft.bytes();
+    }
+    case
+}

@@ -1,0 +1,71 @@
+//! Catalogues that document 01 accepts, made to measure for a house's flows.
+
+use super::draft::DraftSize;
+use super::rng::Rng;
+
+/// What a catalogue is made for.
+pub struct Measure {
+    /// Flows of the house's sections; empty where the job is refused.
+    pub flows: Vec<i64>,
+    /// A slope at which a path of the house loses some metres.
+    pub slope: i64,
+    pub limit: i64,
+}
+
+pub fn catalogue(rng: &Rng, measure: &Measure) -> Vec<DraftSize> {
+    let count = rng.pick(&[1, 2, 2, 3, 3, 4, 6, 12]);
+    let rows = rng.pick(&[2, 2, 3, 4, 8, 16, 64]);
+    let most = measure.flows.iter().copied().max().unwrap_or(1_000).clamp(100, 900_000);
+    // In a row of real pipes a wider one is dearer, slower and flatter; nothing in document 01 asks for that.
+    let real = !rng.once_in(4);
+    let price = rng.scaled(20, 1_500);
+    let mut bore = rng.between(1, 60);
+    let mut sizes = Vec::new();
+    for place in 0..count {
+        let last = if real && !rng.once_in(8) { most + rng.between(0, most) } else { rng.between(rows, 2 * most) };
+        let share = if real { count - place } else { rng.between(1, count) };
+        let velocity = (measure.limit * share * 3 / (2 * count)).clamp(1, 65_535);
+        let slope = (measure.slope * share * share / count).clamp(1, 65_535);
+        let flows = flows(rng, rows, last, measure);
+        let velocities = rising(rng, rows, velocity);
+        let slopes = rising(rng, rows, slope);
+        let rows = flows.into_iter().zip(velocities).zip(slopes);
+        let price = if real { price + price * place / 2 } else { rng.between(1, 10_000) };
+        sizes.push(DraftSize {
+            bore: bore as u16,
+            price: price.clamp(1, 10_000) as u16,
+            rows: rows.map(|((flow, velocity), slope)| (flow, velocity, slope)).collect(),
+        });
+        bore += rng.scaled(1, 1_000);
+    }
+    sizes
+}
+
+/// Strictly rising flows; some are flows of sections or one beside them.
+fn flows(rng: &Rng, count: i64, last: i64, measure: &Measure) -> Vec<u32> {
+    let mut flows: Vec<i64> =
+        (1..=count).map(|place| place * (last / count).max(1) - rng.between(0, last / count / 2)).collect();
+    if !measure.flows.is_empty() {
+        for _ in 0..rng.below(4) {
+            let beside = rng.pick(&[-1, 0, 0, 0, 1]);
+            let place = rng.pick(&[0, count - 1, rng.between(0, count - 1)]);
+            flows[place as usize] = rng.pick(&measure.flows) + beside;
+        }
+    }
+    flows.sort_unstable();
+    // Equal ones move up, and those that the end of the range stops move down.
+    for place in 1..flows.len() {
+        flows[place] = flows[place].max(flows[place - 1] + 1);
+    }
+    for (place, flow) in flows.iter_mut().enumerate() {
+        *flow = (*flow).clamp(1 + place as i64, 1_000_000 - count + 1 + place as i64);
+    }
+    flows.into_iter().map(|flow| flow as u32).collect()
+}
+
+/// Numbers from 1 that don't fall, up to about this one.
+fn rising(rng: &Rng, count: i64, most: i64) -> Vec<u16> {
+    let mut numbers: Vec<u16> = (0..count).map(|_| rng.between(1, most) as u16).collect();
+    numbers.sort_unstable();
+    numbers
+}

@@ -1,0 +1,62 @@
+//! A readable job file and the job record, both ways.
+//!
+//! Packing refuses only what is no line of the format and what can't be written as bytes. Whether a house is acceptable is
+//! the library's judgement and nobody else's, so [`show`] shows a refused record as readily as an accepted one, and
+//! [`pack`] packs what it showed into the same bytes. `docs/FILES.md` describes the format.
+
+mod head;
+mod sections;
+
+use crate::at::{At, Field, Lines};
+use crate::line::lines;
+use crate::mistake::Mistake;
+use crate::record::{NoRecord, Record};
+
+/// A readable house as bytes, with the lines that its fields came from.
+#[derive(Clone, Debug, PartialEq, Eq)]
+pub struct Packed {
+    pub bytes: Vec<u8>,
+    pub lines: Lines,
+}
+
+/// The record of a readable house.
+pub fn pack(text: &str) -> Result<Vec<u8>, Mistake> {
+    read(text).map(|packed| packed.bytes)
+}
+
+/// The record of a readable house, and where each field stands in the text.
+pub fn read(text: &str) -> Result<Packed, Mistake> {
+    let mut head = head::Head::default();
+    let mut given = sections::Given::default();
+    let mut places = Lines::default();
+    for mut line in lines(text) {
+        if line.begins("section") {
+            given.take(&mut line, &mut places)?;
+        } else {
+            head.take(&mut line, &mut places)?;
+        }
+    }
+    let mut record = head.record()?;
+    record.sections = given.sections()?;
+    if let Some((last, _)) = record.numbered().last()
+        && let Some(line) = places.of(At::Section(last))
+    {
+        places.note(At::Field(Field::Sections), line);
+    }
+    if head.stated().is_none() {
+        record.stated = record.len() as u32;
+    }
+    Ok(Packed { bytes: record.bytes(), lines: places })
+}
+
+/// The canonical text of a record of 40 + 10 × S bytes, whatever its fields hold. Bytes of another length have no sections
+/// to show: they are given back as [`NoRecord`], which says how many bytes there are and how many the count asks for.
+pub fn show(bytes: &[u8]) -> Result<String, NoRecord> {
+    let record = Record::read(bytes)?;
+    let mut text = head::show(&record);
+    if !record.sections.is_empty() {
+        text.push('\n');
+        text.push_str(&sections::show(&record));
+    }
+    Ok(text)
+}

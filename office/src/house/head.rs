@@ -1,0 +1,141 @@
+//! The lines of the house itself: losses, hours, heads, limit and residents.
+
+use crate::at::{At, Field, Lines};
+use crate::kinds;
+use crate::line::Line;
+use crate::measure::{self, Measure};
+use crate::mistake::Mistake;
+use crate::record::Record;
+
+/// The fields that have a line of their own, in the order in which they are shown.
+const FIELDS: [(Field, &Measure); 8] = [
+    (Field::Stated, &measure::BYTES),
+    (Field::Version, &measure::BYTE),
+    (Field::Losses, &measure::TENTHS),
+    (Field::Hours, &measure::BYTE),
+    (Field::Meter, &measure::HEAD),
+    (Field::Guaranteed, &measure::HEAD),
+    (Field::Delivered, &measure::HEAD),
+    (Field::Limit, &measure::VELOCITY),
+];
+
+/// What has been read so far.
+#[derive(Default)]
+pub struct Head {
+    values: [Option<i64>; FIELDS.len()],
+    residents: [Option<u16>; 12],
+}
+
+impl Head {
+    /// Takes a line that is no section's.
+    pub fn take(&mut self, line: &mut Line, places: &mut Lines) -> Result<(), Mistake> {
+        if line.begins("residents") {
+            return self.take_residents(line, places);
+        }
+        for (place, (field, measure)) in FIELDS.iter().enumerate() {
+            if line.begins(field.name()) {
+                once(line, places, At::Field(*field))?;
+                self.values[place] = Some(line.quantity(field.name(), measure, &[])?);
+                return line.end(&format!("one `{}` on its line; comments begin with #", field.name()));
+            }
+        }
+        let known = FIELDS.iter().skip(2).map(|(field, _)| field.name()).collect::<Vec<_>>().join(", ");
+        Err(line.mistake(
+            format!("`{}` begins no line of a house", line.first()),
+            format!("one of: {known}, residents, section; comments begin with #"),
+        ))
+    }
+
+    fn take_residents(&mut self, line: &mut Line, places: &mut Lines) -> Result<(), Mistake> {
+        let Some(word) = line.word() else {
+            return Err(line.mistake("`residents` names no kind", "for example `residents hotel-100 71`"));
+        };
+        let Some(kind) = kinds::kind(&word).filter(|kind| (1..=kinds::KINDS).contains(kind)) else {
+            let wrong = format!("`{word}` is no kind that has residents");
+            return Err(line.mistake(wrong, format!("one of: {}", kinds::names_from(1))));
+        };
+        once(line, places, At::Residents(kind))?;
+        let count = line.quantity(&format!("residents {}", kinds::name(kind)), &measure::COUNT, &[])?;
+        self.residents[usize::from(kind) - 1] = Some(count as u16);
+        line.end("one kind and its residents on a line; comments begin with #")
+    }
+
+    /// The stated length, where a line gives it.
+    pub fn stated(&self) -> Option<i64> {
+        self.values[0]
+    }
+
+    /// The record without its sections. The version is 1 unless a line says otherwise; residents that no line gives are 0.
+    pub fn record(&self) -> Result<Record, Mistake> {
+        for (value, (field, measure)) in self.values.iter().zip(FIELDS).skip(2) {
+            if value.is_none() {
+                let example = measure.show(example(field));
+                return Err(Mistake::lacking(
+                    format!("the file has no line `{}`", field.name()),
+                    format!("for example `{} {example}`", field.name()),
+                ));
+            }
+        }
+        let value = |place: usize| self.values[place].unwrap_or(0);
+        Ok(Record {
+            stated: value(0) as u32,
+            version: self.values[1].unwrap_or(1) as u8,
+            tenths: value(2) as u8,
+            hours: value(3) as u8,
+            meter: value(4) as u16,
+            guaranteed: value(5) as u16,
+            delivered: value(6) as u16,
+            limit: value(7) as u16,
+            residents: self.residents.map(|count| count.unwrap_or(0)),
+            sections: Vec::new(),
+        })
+    }
+}
+
+/// Notes the line of a place, which may be given once only.
+pub fn once(line: &Line, places: &mut Lines, at: At) -> Result<(), Mistake> {
+    if let Some(first) = places.of(at) {
+        let wrong = format!("`{at}` is given twice");
+        return Err(line.mistake(wrong, format!("one line; the first is line {first}")));
+    }
+    places.note(at, line.number);
+    Ok(())
+}
+
+fn example(field: Field) -> i64 {
+    match field {
+        Field::Losses => 3,
+        Field::Hours => 24,
+        Field::Meter => 50,
+        Field::Guaranteed => 500,
+        Field::Delivered => 1_200,
+        _ => 1_500,
+    }
+}
+
+/// The house's lines. The stated length and the version have a line only where they are not what packing would write.
+pub fn show(record: &Record) -> String {
+    let values = [
+        i64::from(record.stated),
+        i64::from(record.version),
+        i64::from(record.tenths),
+        i64::from(record.hours),
+        i64::from(record.meter),
+        i64::from(record.guaranteed),
+        i64::from(record.delivered),
+        i64::from(record.limit),
+    ];
+    let usual = [record.len() as i64, 1];
+    let mut text = String::new();
+    for (place, (field, measure)) in FIELDS.iter().enumerate() {
+        if usual.get(place) != Some(&values[place]) {
+            text.push_str(&format!("{} {}\n", field.name(), measure.show(values[place])));
+        }
+    }
+    for (kind, count) in (1..).zip(record.residents) {
+        if count != 0 {
+            text.push_str(&format!("residents {} {count}\n", kinds::name(kind)));
+        }
+    }
+    text
+}

@@ -1,0 +1,160 @@
+//! The lines of the sections, in any order, each with its number.
+
+use super::head::once;
+use crate::at::{At, Lines};
+use crate::kinds;
+use crate::line::Line;
+use crate::measure;
+use crate::mistake::Mistake;
+use crate::record::{Record, Section};
+use std::collections::BTreeMap;
+
+/// The words that begin a field of a section.
+const WORDS: [&str; 6] = ["from", "length", "elevation", "kind", "fixtures", "free"];
+const EXAMPLE: &str = "section 2 from 1 length 12.5 m elevation 600 cm kind hotel-75 fixtures 8 free 200 cm";
+
+/// The sections read so far, with the line and text of each for messages.
+#[derive(Default)]
+pub struct Given(BTreeMap<u8, (Section, usize, String)>);
+
+impl Given {
+    /// Takes a line that begins with `section`.
+    pub fn take(&mut self, line: &mut Line, places: &mut Lines) -> Result<(), Mistake> {
+        let number = number(line)?;
+        once(line, places, At::Section(number))?;
+        let section = fields(line)?;
+        self.0.insert(number, (section, line.number, line.text.to_string()));
+        Ok(())
+    }
+
+    /// The sections from 1 on, without a gap.
+    pub fn sections(self) -> Result<Vec<Section>, Mistake> {
+        let last = self.0.keys().last().copied().unwrap_or(0);
+        let mut sections = Vec::new();
+        for (wanted, (number, (section, line, text))) in (1..=255).zip(self.0) {
+            if number != wanted {
+                let wrong = format!("section {wanted} is missing: this line is section {number}");
+                let expected = format!("a line for section {wanted}; sections number from 1 to {last} without a gap");
+                return Err(Mistake::on(line, &text, wrong, expected));
+            }
+            sections.push(section);
+        }
+        Ok(sections)
+    }
+}
+
+/// The section's own number.
+fn number(line: &mut Line) -> Result<u8, Mistake> {
+    let Some(word) = line.word() else {
+        return Err(line.mistake("`section` has no number", format!("for example `{EXAMPLE}`")));
+    };
+    match word.parse::<u8>() {
+        Ok(number) if number > 0 && word.bytes().all(|b| b.is_ascii_digit()) => Ok(number),
+        _ => Err(line.mistake(format!("`{word}` is no section's number"), "a number from 1 to 255")),
+    }
+}
+
+/// The fields in any order, each once.
+fn fields(line: &mut Line) -> Result<Section, Mistake> {
+    let mut section = Section::default();
+    let mut seen = [false; WORDS.len()];
+    while let Some(word) = line.word() {
+        let Some(place) = WORDS.iter().position(|known| *known == word) else {
+            let wrong = format!("`{word}` is no field of a section");
+            return Err(line.mistake(wrong, format!("one of: {}", WORDS.join(", "))));
+        };
+        if seen[place] {
+            return Err(line.mistake(format!("`{word}` is given twice"), format!("one `{word}` for each section")));
+        }
+        seen[place] = true;
+        field(line, place, &mut section)?;
+    }
+    complete(line, &section, &seen)?;
+    Ok(section)
+}
+
+/// The field at a place of `WORDS`.
+fn field(line: &mut Line, place: usize, section: &mut Section) -> Result<(), Mistake> {
+    let what = WORDS[place];
+    match place {
+        0 => section.parent = parent(line)?,
+        1 => section.length = line.quantity(what, &measure::LENGTH, &WORDS)? as u16,
+        2 => section.elevation = line.quantity(what, &measure::ELEVATION, &WORDS)? as i16,
+        3 => section.kind = kind(line)?,
+        4 => section.fixtures = line.quantity(what, &measure::COUNT, &WORDS)? as u16,
+        _ => section.free = line.quantity(what, &measure::HEAD, &WORDS)? as u16,
+    }
+    Ok(())
+}
+
+/// A junction may leave out fixtures and free head, which are 0 there. Elsewhere nothing has a value that nobody wrote.
+fn complete(line: &Line, section: &Section, seen: &[bool; WORDS.len()]) -> Result<(), Mistake> {
+    let junction = seen[3] && section.kind == 0;
+    for (word, seen) in WORDS.iter().zip(seen) {
+        let spared = junction && matches!(*word, "fixtures" | "free");
+        if !seen && !spared {
+            let expected =
+                format!("for example `{EXAMPLE}`; a junction has `kind none` and needs no fixtures and free");
+            return Err(line.mistake(format!("the section has no `{word}`"), expected));
+        }
+    }
+    Ok(())
+}
+
+fn parent(line: &mut Line) -> Result<u8, Mistake> {
+    let expected = "`from pump`, or `from` and the number of the section before, 1 to 255";
+    match line.word() {
+        None => Err(line.mistake("`from` names nothing", expected)),
+        Some(word) if word == "pump" => Ok(0),
+        Some(word) => match word.parse::<u8>() {
+            Ok(parent) if word.bytes().all(|b| b.is_ascii_digit()) => Ok(parent),
+            _ => Err(line.mistake(format!("`from {word}` names no section"), expected)),
+        },
+    }
+}
+
+fn kind(line: &mut Line) -> Result<u8, Mistake> {
+    let expected = format!("one of: {}", kinds::names_from(0));
+    match line.word() {
+        None => Err(line.mistake("`kind` names nothing", expected)),
+        Some(word) => {
+            kinds::kind(&word).ok_or_else(|| line.mistake(format!("`{word}` is no kind of consumer"), expected))
+        }
+    }
+}
+
+/// The section lines with their columns in line.
+pub fn show(record: &Record) -> String {
+    let rows: Vec<[String; 7]> = record.numbered().map(|(number, section)| cells(number, section)).collect();
+    let width = |column: usize| rows.iter().map(|row| row[column].chars().count()).max().unwrap_or(0);
+    let [number, from, length, elevation, kind, fixtures, free] = [0, 1, 2, 3, 4, 5, 6].map(width);
+    let mut text = String::new();
+    for row in &rows {
+        let line = format!(
+            "section {:>number$}  from {:<from$}  length {:>length$}  elevation {:>elevation$}  kind {:<kind$}",
+            row[0], row[1], row[2], row[3], row[4]
+        );
+        let taps = match row[5].is_empty() {
+            true => String::new(),
+            false => format!("  fixtures {:>fixtures$}  free {:>free$}", row[5], row[6]),
+        };
+        text.push_str(format!("{line}{taps}").trim_end());
+        text.push('\n');
+    }
+    text
+}
+
+/// Number, parent, length, elevation, kind, and fixtures and free head, which a plain junction doesn't show.
+fn cells(number: u8, section: &Section) -> [String; 7] {
+    let junction = section.kind == 0 && section.fixtures == 0 && section.free == 0;
+    let taps = |text: String| if junction { String::new() } else { text };
+    [
+        number.to_string(),
+        if section.parent == 0 { "pump".to_string() } else { section.parent.to_string() },
+        measure::LENGTH.show(section.length.into()),
+        measure::ELEVATION.show(section.elevation.into()),
+        kinds::name(section.kind),
+        taps(section.fixtures.to_string()),
+        taps(measure::HEAD.show(section.free.into())),
+    ]
+}

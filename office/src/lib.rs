@@ -1,0 +1,41 @@
+//! The order office's side of the pipe sizing library.
+//!
+//! - [`flow`], [`rate`], [`choose`] and [`copy`] call the proved library and give typed results or a [`Refusal`].
+//! - `ffi` has the same calls on lent buffers, and the only unsafe code.
+//! - `model` is document 01 once more, written independently; [`soak`] and [`replay`] compare the two.
+//! - [`bench()`] times the library against the model and against `dense`, a plain search in safe Rust.
+//! - [`house`] and [`table`] are the readable files, [`places`] says where a refusal lies, [`draw`] draws a house; the command
+//!   `office` puts them before people.
+
+#![deny(unsafe_code)]
+
+mod bench;
+pub mod calls;
+pub mod case;
+pub mod compare;
+pub mod dense;
+pub mod ffi;
+pub mod generate;
+pub mod model;
+pub mod refusal;
+pub mod situations;
+
+pub use bench::bench;
+pub use calls::{Choice, Flow, Rated, Rating, choose, copy, flow, rate};
+pub use compare::{Mismatch, replay, soak};
+pub use refusal::Refusal;
+pub use situations::Counters;
+
+// What people touch: readable files, the places of refusals, drawings.
+pub mod at;
+pub mod catalogue;
+pub mod draw;
+pub mod house;
+pub mod kinds;
+mod line;
+mod measure;
+pub mod mistake;
+pub mod pipes;
+pub mod places;
+pub mod record;
+pub mod table;

@@ -1,0 +1,135 @@
+//! An independent model of document 01, written from the paper alone and by other means than the proved library: whole
+//! numbers of 128 bits, sets of sections, every rule asked of every input, brute force and fronts in place of rows of heads.
+//! The tests compare the two.
+
+pub mod alpha;
+pub mod brute;
+pub mod bytes;
+pub mod catalogue;
+pub mod demand;
+pub mod faults;
+pub mod fronts;
+pub mod house;
+pub mod norms;
+pub mod rating;
+pub mod set;
+
+use crate::case::{Call, Case};
+use bytes::put;
+use catalogue::Catalogue;
+use demand::Demand;
+use faults::Faults;
+use house::House;
+use rating::{Order, Rating};
+
+/// What document 01 says of one call.
+pub struct Judged {
+    pub house: House,
+    pub demand: Demand,
+    pub cat: Catalogue,
+    /// Each section's flow; empty where the job is refused.
+    pub flows: Vec<i128>,
+    /// All refusals that apply. 13 and 16 can be asked only of an accepted job and catalogue.
+    pub faults: Faults,
+    /// What the call gives back.
+    pub number: u32,
+    pub result: Expected,
+}
+
+/// What the model says of the result's bytes.
+pub enum Expected {
+    /// The call is refused and writes nothing.
+    Nothing,
+    /// A copy, a flow result.
+    Bytes(Vec<u8>),
+    Rated(Rating),
+    /// A suitable list of this cost, the least; the list here is one of them.
+    Chosen {
+        cost: i128,
+        list: Vec<u8>,
+    },
+}
+
+/// The order in which each call's refusals are given back.
+pub fn order_of(call: Call) -> &'static [u32] {
+    match call {
+        Call::Copy => &[1, 2, 3, 4, 5, 6, 7, 14],
+        Call::Flow => &[1, 2, 3, 4, 5, 6, 7, 8, 9, 14],
+        Call::Rate => &[1, 2, 3, 4, 5, 6, 7, 8, 9, 10, 11, 12, 14, 13],
+        Call::Choose => &[1, 2, 3, 4, 5, 6, 7, 8, 9, 10, 11, 14, 15, 16],
+    }
+}
+
+/// The bytes of a call's result for this many sections.
+pub fn result_bytes(call: Call, sections: usize) -> usize {
+    match call {
+        Call::Copy => 40 + 10 * sections,
+        Call::Flow => 12 + 4 * sections,
+        Call::Rate => 9 + 6 * sections,
+        Call::Choose => 4 + sections,
+    }
+}
+
+/// The bytes of workspace for this many sections at this delivered head.
+pub fn work_bytes(sections: usize, delivered: usize) -> usize {
+    4 * (sections + 1) * (delivered + 1_001)
+}
+
+/// What document 01 says of a case.
+pub fn judge(case: &Case) -> Judged {
+    let house = House::of(&case.job);
+    let demand = Demand::of(&house);
+    let cat = Catalogue::of(&case.cat);
+    let mut faults = house.faults();
+    if case.call != Call::Copy {
+        faults.join(demand.faults());
+    }
+    let flows = if faults.any() || case.call == Call::Copy { Vec::new() } else { demand.flows() };
+    if matches!(case.call, Call::Rate | Call::Choose) {
+        faults.join(cat.faults());
+    }
+    let order = Order { house: &house, cat: &cat, flows: &flows };
+    let mut result = Expected::Nothing;
+    match case.call {
+        Call::Copy if !faults.any() => result = Expected::Bytes(case.job.clone()),
+        Call::Flow if !faults.any() => result = Expected::Bytes(flow_bytes(&demand, &flows)),
+        Call::Rate => {
+            faults.note(12, order.list_wrong(&case.sizes));
+            if !faults.any() {
+                match order.rate(&case.sizes) {
+                    Some(rating) => result = Expected::Rated(rating),
+                    None => faults.note(13, true),
+                }
+            }
+        }
+        Call::Choose if !faults.any() => match fronts::least(&order) {
+            Some((cost, list)) => result = Expected::Chosen { cost, list },
+            None => faults.note(16, true),
+        },
+        _ => {}
+    }
+    let sections = house.sections.len();
+    faults.note(14, case.out.length < result_bytes(case.call, sections));
+    if case.call == Call::Choose {
+        faults.note(15, case.work.length < work_bytes(sections, house.delivered as usize));
+    }
+    let number = faults.first(order_of(case.call));
+    if number != 0 {
+        result = Expected::Nothing;
+    }
+    Judged { house, demand, cat, flows, faults, number, result }
+}
+
+impl Judged {
+    /// The accepted job and catalogue.
+    pub fn order(&self) -> Order<'_> {
+        Order { house: &self.house, cat: &self.cat, flows: &self.flows }
+    }
+}
+
+fn flow_bytes(demand: &Demand, flows: &[i128]) -> Vec<u8> {
+    let mut bytes = Vec::new();
+    let house = [demand.hour(), demand.day, demand.mean_hour()];
+    house.iter().chain(flows).for_each(|value| put(&mut bytes, *value, 4));
+    bytes
+}

@@ -1,0 +1,71 @@
+//! A rated house, section by section: what the library's answers say of each pipe, put together for tables and drawings.
+
+use crate::calls::{Flow, Rating};
+use crate::catalogue::Catalogue;
+use crate::record::{Record, Section};
+
+/// One section with its size.
+#[derive(Clone, Debug, PartialEq, Eq)]
+pub struct Pipe {
+    pub number: u8,
+    pub section: Section,
+    pub size: u8,
+    /// mm
+    pub bore: u16,
+    /// ml/s
+    pub flow: u32,
+    /// mm/s
+    pub velocity: u16,
+    /// cm
+    pub loss: u32,
+    /// Head left at the end, in cm, when the pump delivers the delivered head: it less the meter loss, the losses of all
+    /// pipes up to this end, and the elevation. It is to be at least the free head.
+    pub left: i64,
+    /// Whether the section lies between the pump and the dictating end.
+    pub dictating: bool,
+}
+
+/// The pipes of a house, section 1 first. The job, the catalogue and the sizes are ones that the library has rated; if the
+/// answers are not of this house there are no pipes.
+pub fn pipes(job: &[u8], cat: &[u8], sizes: &[u8], flow: &Flow, rating: &Rating) -> Option<Vec<Pipe>> {
+    let record = Record::read(job).ok()?;
+    let catalogue = Catalogue::read(cat).ok()?;
+    let way = way(&record, rating.dictating);
+    let mut paths: Vec<i64> = Vec::new();
+    let mut pipes = Vec::new();
+    for (place, (number, section)) in record.numbered().enumerate() {
+        let rated = rating.sections.get(place)?;
+        let above = match usize::from(section.parent) {
+            0 => 0,
+            parent => *paths.get(parent - 1)?,
+        };
+        paths.push(above + i64::from(rated.loss));
+        let size = *sizes.get(place)?;
+        pipes.push(Pipe {
+            number,
+            section: *section,
+            size,
+            bore: catalogue.size(size)?.bore,
+            flow: *flow.flows.get(place)?,
+            velocity: rated.velocity,
+            loss: rated.loss,
+            left: i64::from(record.delivered) - i64::from(record.meter) - paths[place] - i64::from(section.elevation),
+            dictating: way.contains(&number),
+        });
+    }
+    Some(pipes)
+}
+
+/// The sections from an end back to the pump.
+fn way(record: &Record, end: u8) -> Vec<u8> {
+    let mut way = Vec::new();
+    let mut at = end;
+    while let Some(section) = usize::from(at).checked_sub(1).and_then(|place| record.sections.get(place)) {
+        way.push(at);
+        if section.parent >= at {
+            break;
+        }
+        at = section.parent;
+    }
+    way
+}

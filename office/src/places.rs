@@ -1,0 +1,64 @@
+//! Where a refusal lies, and why, in words.
+//!
+//! The library gives a number and no place. What is worked out here stands beside that number and never in place of it: the
+//! number comes in, only its own rule is looked at, and where no place is found the list is empty and the number stands.
+
+mod choice;
+mod demand;
+mod list;
+mod pipe;
+mod sections;
+mod shape;
+mod sizes;
+
+use crate::at::At;
+use crate::refusal::Refusal;
+use std::fmt;
+
+/// One place that a refusal lies at.
+#[derive(Clone, Debug, PartialEq, Eq)]
+pub struct Place {
+    pub at: At,
+    pub why: String,
+}
+
+impl Place {
+    pub(crate) fn new(at: At, why: impl Into<String>) -> Place {
+        Place { at, why: why.into() }
+    }
+}
+
+impl fmt::Display for Place {
+    fn fmt(&self, f: &mut fmt::Formatter) -> fmt::Result {
+        write!(f, "{}: {}", self.at, self.why)
+    }
+}
+
+/// What the refused call was given. A call that takes no catalogue or no sizes has none here.
+#[derive(Clone, Copy, Debug, Default)]
+pub struct Asked<'a> {
+    pub job: &'a [u8],
+    pub cat: &'a [u8],
+    pub sizes: &'a [u8],
+}
+
+/// All places at which this refusal lies, in the order of the file.
+pub fn places(refusal: &Refusal, asked: &Asked) -> Vec<Place> {
+    match refusal {
+        Refusal::JobLength => shape::length(asked.job),
+        Refusal::JobVersion => shape::version(asked.job),
+        Refusal::HeadRange => shape::ranges(asked.job),
+        Refusal::SectionBytes => shape::count(asked.job),
+        Refusal::SectionRules => sections::rules(asked.job),
+        Refusal::ChildlessKind => sections::childless(asked.job),
+        Refusal::Residents => sections::residents(asked.job),
+        Refusal::DemandOverTable => demand::over_table(asked.job),
+        Refusal::DemandOverFixtures => demand::over_fixtures(asked.job),
+        Refusal::CatalogueShape => sizes::shape(asked.cat),
+        Refusal::CatalogueRules => sizes::rules(asked.cat),
+        Refusal::SizeList => list::names(asked),
+        Refusal::SizeTooSmall => list::too_small(asked),
+        Refusal::NoSuitableList => choice::none_suits(asked),
+        Refusal::ResultShort | Refusal::WorkShort | Refusal::Unknown(_) => Vec::new(),
+    }
+}

@@ -1,0 +1,76 @@
+//! Refusals 1 to 4: the record's length, its version and the house's own fields.
+
+use super::Place;
+use crate::at::{At, Field};
+use crate::catalogue::Catalogue;
+use crate::record::{HEAD, Record, SECTION};
+
+/// 1: too short, or the stated length is another.
+pub fn length(job: &[u8]) -> Vec<Place> {
+    let mut found: Vec<Place> = swapped(job).into_iter().collect();
+    let given = job.len();
+    if given < HEAD {
+        found.push(Place::new(At::Job, format!("it has {given} bytes; the least is {HEAD}")));
+    }
+    if let Some(four) = job.first_chunk::<4>() {
+        let stated = u32::from_be_bytes(*four);
+        if u64::from(stated) != given as u64 {
+            found.push(Place::new(
+                At::Field(Field::Stated),
+                format!("the record states {stated} bytes and has {given}"),
+            ));
+        }
+    }
+    found
+}
+
+/// 2: the version's byte.
+pub fn version(job: &[u8]) -> Vec<Place> {
+    let mut found: Vec<Place> = swapped(job).into_iter().collect();
+    if let Some(version) = job.get(4).filter(|version| **version != 1) {
+        found.push(Place::new(At::Field(Field::Version), format!("it is {version}, not 1")));
+    }
+    found
+}
+
+/// 3: each field of the house that is out of range.
+pub fn ranges(job: &[u8]) -> Vec<Place> {
+    if job.len() < HEAD {
+        return Vec::new();
+    }
+    let two = |at: usize| u16::from_be_bytes([job[at], job[at + 1]]);
+    let rows = [
+        (Field::Losses, u16::from(job[5]), 2, 3, "tenths (0.2 or 0.3)"),
+        (Field::Sections, u16::from(job[6]), 1, 63, "sections"),
+        (Field::Hours, u16::from(job[7]), 1, 24, "hours a day"),
+        (Field::Meter, two(8), 0, 1_000, "cm"),
+        (Field::Guaranteed, two(10), 0, 6_000, "cm"),
+        (Field::Delivered, two(12), 0, 6_000, "cm"),
+        (Field::Limit, two(14), 1, 3_000, "mm/s"),
+    ];
+    let wrong = rows.iter().filter(|(_, value, least, most, _)| value < least || value > most);
+    let found = wrong.map(|(field, value, least, most, unit)| {
+        Place::new(At::Field(*field), format!("{value} is outside {least} to {most} {unit}"))
+    });
+    swapped(job).into_iter().chain(found).collect()
+}
+
+/// 4: the length against the count.
+pub fn count(job: &[u8]) -> Vec<Place> {
+    let mut found: Vec<Place> = swapped(job).into_iter().collect();
+    if let Some(count) = job.get(6) {
+        let asked = HEAD + SECTION * usize::from(*count);
+        if asked != job.len() {
+            let why = format!("the record has {} bytes; section count {count} asks for {asked}", job.len());
+            found.push(Place::new(At::Field(Field::Sections), why));
+        }
+    }
+    found
+}
+
+/// A catalogue lent as a job, which is said first. The two layouts never have the same length for the same counts, so this is no guess.
+fn swapped(job: &[u8]) -> Option<Place> {
+    let table = Catalogue::read(job).is_ok_and(|table| table.stated as usize == job.len());
+    let swapped = table && Record::read(job).is_err();
+    swapped.then(|| Place::new(At::Job, "these bytes have the length of a catalogue; are the two files swapped?"))
+}

@@ -1,0 +1,157 @@
+//! What the generated cases reached, counted, so that a generator that goes dull is noticed.
+
+mod notes;
+
+use crate::case::Call;
+use crate::model;
+use std::fmt;
+
+macro_rules! situations {
+    ($($name:ident: $text:expr,)*) => {
+        /// Something that the cases must reach.
+        #[derive(Clone, Copy, Debug, PartialEq, Eq)]
+        pub enum Situation { $($name,)* }
+
+        const TEXTS: &[(Situation, &str)] = &[$((Situation::$name, $text),)*];
+    };
+}
+
+situations! {
+    Sections63: "a result for 63 sections",
+    Chosen63: "a list chosen for 63 sections",
+    NoList63: "no suitable list for 63 sections",
+    PumpForks: "several sections at the pump",
+    InnerKind: "fixtures at the end of a section that is a parent",
+    AllKinds: "all twelve kinds in one house",
+    ChildDrawsMore: "a section with more flow than its parent",
+    MUnder15000: "m under 15,000",
+    M15000: "m exactly 15,000",
+    MAtKey: "m at a key over 15,000",
+    HourAtKey: "hour sum at a key",
+    Hour400: "hour sum exactly 400,000,000",
+    HourOver400: "hour sum over 400,000,000",
+    Fixtures200: "9 at exactly 200 fixtures in the house",
+    Fixtures201: "201 fixtures in the house pass where 200 would not",
+    Section200: "9 from a section of exactly 200 fixtures alone",
+    Section201: "a section of 201 fixtures passes where 200 would not",
+    ExactlyCrowded: "at most 200 fixtures and a sum of exactly 100,000 for each",
+    FirstRowHit: "a flow at the first row",
+    InnerRowHit: "a flow at a row between",
+    LastRowHit: "a flow at the last row",
+    UnderFirstRow: "a flow under the first row",
+    BetweenRows: "a flow between two rows",
+    OneOverLastRow: "13 or 16 with a flow one over a last row",
+    AtLimit: "a velocity at the limit",
+    OneOverLimit: "a velocity one over the limit",
+    NegativeHead: "a negative required head rated",
+    NegativeChosen: "a list chosen with H under the meter loss",
+    ChosenNegative: "a list chosen whose required head is negative",
+    GreatHead: "a required head over 100,000,000 cm",
+    PumpZero: "pump head 0",
+    PumpAbove: "pump head above 0",
+    DictatingTie: "several sections reach the greatest",
+    DictatingLater: "the dictating section is not the first",
+    DictatingKind0: "a section of kind 0 dictates",
+    HeadExact: "a list chosen whose required head is exactly H",
+    HeadOneShort: "no suitable list at H, but one at H + 1",
+    GreatCost: "a least cost over 2,147,483,647",
+    TiesInCost: "several cheapest lists",
+    Tried: "a least cost found by brute force too",
+    TriedNone: "no suitable list by brute force too",
+    OutExact: "a result in a buffer of exactly its length",
+    OutLonger: "a result in a longer buffer",
+    OutOneShort: "14 with a buffer one byte short",
+    OutEmpty: "14 with an empty buffer",
+    WorkExact: "a list chosen in a workspace of exactly its length",
+    WorkLonger: "a list chosen in a longer workspace",
+    WorkOneShort: "15 with a workspace one byte short",
+    WorkEmpty: "15 with an empty workspace",
+    WorkKept: "a refusal under 16 that had a workspace to leave alone",
+    NoJob: "a job of no bytes",
+    NoCatalogue: "a catalogue of no bytes",
+    NoSizes: "a list of no sizes",
+}
+
+/// How often each thing was reached. Situations of a size read at a flow are counted reading by reading, the others case by
+/// case.
+#[derive(Clone, Debug)]
+pub struct Counters {
+    pub cases: u64,
+    /// By call, in the order of `Call::ALL`, and by the number given back.
+    answers: [[u64; 17]; 4],
+    /// By call, and by two refusals that both applied where the first was given back.
+    pairs: [[[u64; 17]; 17]; 4],
+    reached: Vec<u64>,
+}
+
+impl Default for Counters {
+    fn default() -> Counters {
+        let answers = [[0; 17]; 4];
+        Counters { cases: 0, answers, pairs: [[[0; 17]; 17]; 4], reached: vec![0; TEXTS.len()] }
+    }
+}
+
+impl Counters {
+    /// How often a call gave a number back.
+    pub fn answers(&self, call: Call, number: u32) -> u64 {
+        self.answers[call as usize][number as usize]
+    }
+
+    /// How often both refusals applied and the earlier was given back.
+    pub fn pair(&self, call: Call, earlier: u32, later: u32) -> u64 {
+        self.pairs[call as usize][earlier as usize][later as usize]
+    }
+
+    pub fn reached(&self, situation: Situation) -> u64 {
+        self.reached[situation as usize]
+    }
+
+    /// What was reached less often than this: numbers, neighbours in the order of refusals, and situations.
+    pub fn rarer_than(&self, times: u64) -> Vec<String> {
+        let mut rare = Vec::new();
+        let mut ask = |count: u64, what: String| {
+            if count < times {
+                rare.push(format!("{count} times: {what}"));
+            }
+        };
+        for call in Call::ALL {
+            let order = model::order_of(call);
+            for number in order.iter().chain(&[0]) {
+                ask(self.answers(call, *number), format!("{} gives back {number}", call.name()));
+            }
+            for two in order.windows(2) {
+                ask(self.pair(call, two[0], two[1]), format!("{} meets {} with {}", call.name(), two[0], two[1]));
+            }
+        }
+        for (situation, text) in TEXTS {
+            ask(self.reached(*situation), text.to_string());
+        }
+        rare
+    }
+
+    fn saw(&mut self, situation: Situation, met: bool) {
+        self.reached[situation as usize] += u64::from(met);
+    }
+}
+
+impl fmt::Display for Counters {
+    fn fmt(&self, f: &mut fmt::Formatter) -> fmt::Result {
+        writeln!(f, "{} cases", self.cases)?;
+        for call in Call::ALL {
+            write!(f, "{:6}", call.name())?;
+            for number in std::iter::once(&0).chain(model::order_of(call)) {
+                write!(f, "  {number}: {}", self.answers(call, *number))?;
+            }
+            writeln!(f)?;
+            write!(f, "  with the next fault too")?;
+            for two in model::order_of(call).windows(2) {
+                write!(f, "  {}+{}: {}", two[0], two[1], self.pair(call, two[0], two[1]))?;
+            }
+            writeln!(f)?;
+        }
+        for (situation, text) in TEXTS {
+            writeln!(f, "{:9} {text}", self.reached(*situation))?;
+        }
+        Ok(())
+    }
+}

@@ -1,0 +1,61 @@
+//! The safe calls on document 01's own case.
+
+use office::{Choice, Flow, Rated, Rating, Refusal, choose, copy, flow, rate};
+
+const JOB: [u8; 50] = [
+    0, 0, 0, 50, 1, 3, 1, 24, 0, 50, 1, 0xf4, 4, 0xb0, 5, 0xdc, // length to limit
+    0, 0, 0, 0, 0, 0, 0, 0, 0, 0, 0, 0, 0, 71, 0, 0, 0, 0, 0, 0, 0, 0, 0, 0, // 71 residents of kind 7
+    0, 7, 0, 80, 0, 100, 2, 0x58, 0, 200,
+];
+
+const CATALOGUE: [u8; 47] = [
+    0, 0, 0, 47, 1, 2, 2, // two sizes of two rows
+    0, 40, 3, 0x84, 0, 0, 3, 0xe8, 3, 0x20, 0, 40, 0, 0, 0xb, 0xb8, 9, 0x60, 1, 0x2c, // bore 40
+    0, 50, 5, 0x14, 0, 0, 3, 0xe8, 1, 0xf4, 0, 12, 0, 0, 0xb, 0xb8, 5, 0xdc, 0, 90, // bore 50
+];
+
+fn with_head(head: u16) -> [u8; 50] {
+    let mut job = JOB;
+    job[12..14].copy_from_slice(&head.to_be_bytes());
+    job
+}
+
+#[test]
+fn flows_of_the_own_case() {
+    assert_eq!(flow(&JOB), Ok(Flow { hour: 4542, day: 17750, mean_hour: 740, flows: vec![2052] }));
+}
+
+#[test]
+fn rating_of_the_own_case() {
+    let sections = vec![Rated { velocity: 1026, loss: 71 }];
+    assert_eq!(rate(&JOB, &CATALOGUE, &[2]), Ok(Rating { required: 921, pump: 421, dictating: 1, sections }));
+    assert_eq!(rate(&JOB, &CATALOGUE, &[1]), Err(Refusal::SizeTooSmall));
+    assert_eq!(rate(&JOB, &CATALOGUE, &[3]), Err(Refusal::SizeList));
+    assert_eq!(rate(&JOB, &[], &[2]), Err(Refusal::CatalogueShape));
+}
+
+#[test]
+fn choosing_for_the_own_case() {
+    let choice = Choice { cost: 130_000, sizes: vec![2] };
+    assert_eq!(choose(&JOB, &CATALOGUE).as_ref(), Ok(&choice));
+    assert_eq!(choose(&with_head(921), &CATALOGUE), Ok(choice));
+    assert_eq!(choose(&with_head(920), &CATALOGUE), Err(Refusal::NoSuitableList));
+}
+
+#[test]
+fn copying_the_own_case() {
+    assert_eq!(copy(&JOB), Ok(JOB.to_vec()));
+    assert_eq!(copy(&JOB[..49]), Err(Refusal::JobLength));
+}
+
+#[test]
+fn any_bytes_are_taken() {
+    for length in 0..60 {
+        let job = vec![0xff; length];
+        assert_eq!(flow(&job), Err(Refusal::JobLength));
+        assert_eq!(choose(&job, &CATALOGUE), Err(Refusal::JobLength));
+    }
+    let mut stated = vec![0xff; 50];
+    stated[..5].copy_from_slice(&[0, 0, 0, 50, 1]);
+    assert_eq!(choose(&stated, &CATALOGUE), Err(Refusal::HeadRange));
+}

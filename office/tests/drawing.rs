@@ -1,0 +1,109 @@
+//! Drawings: well formed, every section named, nothing that runs, no text over another.
+
+#[path = "tools/xml.rs"]
+mod xml;
+
+use office::draw::draw;
+use office::pipes::pipes;
+use office::record::{Record, Section};
+use office::{calls, house, table};
+use xml::{Element, elements};
+
+const CAT: &str = "size,bore mm,price,flow ml/s,velocity mm/s,slope mm/m\n1,40,900,1,1,1\n1,40,900,3000,1000,40\n\
+    2,100,5000,1,1,1\n2,100,5000,1000000,3000,90\n";
+
+/// The drawing of a house with wide pipes, and how many sections it has.
+fn drawn(job: &[u8]) -> (String, usize) {
+    let cat = table::pack(CAT).expect("a table");
+    let record = Record::read(job).expect("a record");
+    let sizes = vec![2; record.sections.len()];
+    let flow = calls::flow(job).unwrap_or_else(|refusal| panic!("{refusal}"));
+    let rating = calls::rate(job, &cat, &sizes).unwrap_or_else(|refusal| panic!("{refusal}"));
+    let pipes = pipes(job, &cat, &sizes, &flow, &rating).expect("the answers are this house's");
+    (draw(&record, &pipes, &rating, Some(u32::MAX)), pipes.len())
+}
+
+/// A house of 63 sections, each with fixtures, hung as `parent` says.
+fn great(parent: impl Fn(u8) -> u8) -> Vec<u8> {
+    let section = |number: u8| Section {
+        parent: parent(number),
+        kind: 8,
+        fixtures: 40,
+        length: 5_000,
+        elevation: -999,
+        free: 1_000,
+    };
+    let mut record = Record { version: 1, tenths: 3, hours: 24, delivered: 6_000, limit: 3_000, ..Record::default() };
+    record.residents[7] = 30;
+    record.sections = (1..=63).map(section).collect();
+    record.stated = record.len() as u32;
+    record.bytes()
+}
+
+fn houses() -> Vec<Vec<u8>> {
+    let example = concat!(env!("CARGO_MANIFEST_DIR"), "/../examples/house.txt");
+    let hotel = house::pack(&std::fs::read_to_string(example).expect("the example is there")).expect("a house");
+    let mut one = great(|_| 0);
+    one.truncate(50);
+    (one[2], one[3], one[6]) = (0, 50, 1);
+    let halves = great(|number| number / 2);
+    vec![hotel, one, great(|_| 0), great(|number| number - 1), halves, great(|number| number.saturating_sub(3))]
+}
+
+#[test]
+fn well_formed_and_every_section_is_named() {
+    for job in houses() {
+        let (svg, sections) = drawn(&job);
+        let all = elements(&svg);
+        assert_eq!(all[0].name, "svg");
+        let allowed = ["svg", "title", "rect", "g", "line", "circle", "path", "text"];
+        assert!(all.iter().all(|element| allowed.contains(&element.name.as_str())));
+        for number in 1..=sections {
+            let id = format!("section-{number}");
+            assert_eq!(all.iter().filter(|element| element.attributes.get("id") == Some(&id)).count(), 1, "{id}");
+            assert!(all.iter().any(|element| element.name == "text" && element.text == number.to_string()), "{id}");
+        }
+        assert_eq!(svg.matches(">dictating end<").count(), 1);
+    }
+}
+
+/// The box around a text. Letters of the usual sans serif fonts are at most 0.62 of their size wide on average.
+fn around(text: &Element) -> (i64, i64, i64, i64) {
+    let size = text.number("font-size");
+    let weight = if text.attributes["font-weight"] == "bold" { 68 } else { 62 };
+    let width = text.text.chars().count() as i64 * size * weight / 100;
+    let (x, y) = (text.number("x"), text.number("y"));
+    let left = if text.attributes["text-anchor"] == "middle" { x - width / 2 } else { x };
+    (left, y - size, left + width, y + size / 4)
+}
+
+fn meet(a: (i64, i64, i64, i64), b: (i64, i64, i64, i64)) -> bool {
+    a.0 < b.2 && b.0 < a.2 && a.1 < b.3 && b.1 < a.3
+}
+
+#[test]
+fn no_text_meets_another_or_a_pipe() {
+    for job in houses() {
+        let (svg, _) = drawn(&job);
+        let all = elements(&svg);
+        let texts: Vec<&Element> = all.iter().filter(|element| element.name == "text").collect();
+        let (width, height) = (all[0].number("width"), all[0].number("height"));
+        for (place, text) in texts.iter().enumerate() {
+            let own = around(text);
+            assert!(own.0 >= 0 && own.1 >= 0 && own.2 <= width && own.3 <= height, "{text:?} leaves the sheet");
+            for other in &texts[place + 1..] {
+                assert!(!meet(own, around(other)), "{text:?} meets {other:?}");
+            }
+            for line in all.iter().filter(|element| element.name == "line") {
+                let half = line.number("stroke-width") / 2;
+                let pipe = (
+                    line.number("x1") - half,
+                    line.number("y1").min(line.number("y2")) - half,
+                    line.number("x2") + half,
+                    line.number("y1").max(line.number("y2")) + half,
+                );
+                assert!(!meet(own, pipe), "{text:?} meets {line:?}");
+            }
+        }
+    }
+}

@@ -1,0 +1,311 @@
+//! Readable files: packing and showing are inverse, and each mistake is named with its line.
+
+use office::catalogue::{self, Catalogue};
+use office::mistake::Mistake;
+use office::record::{HEAD, Record, SECTION};
+use office::{calls, house, table};
+
+/// A small generator of numbers: the tests need many values, the same in each run.
+struct Dice(u64);
+
+impl Dice {
+    fn next(&mut self) -> u64 {
+        self.0 ^= self.0 << 13;
+        self.0 ^= self.0 >> 7;
+        self.0 ^= self.0 << 17;
+        self.0
+    }
+
+    fn below(&mut self, bound: u64) -> usize {
+        (self.next() % bound) as usize
+    }
+
+    fn bytes(&mut self, count: usize) -> Vec<u8> {
+        (0..count).map(|_| self.next() as u8).collect()
+    }
+}
+
+/// Any bytes of a job record's length; now and then with the length, version and zeros that accepted records have.
+fn record(dice: &mut Dice) -> Vec<u8> {
+    let sections = if dice.below(4) == 0 { dice.below(256) } else { dice.below(8) };
+    let mut bytes = dice.bytes(HEAD + SECTION * sections);
+    bytes[6] = sections as u8;
+    if dice.below(2) == 0 {
+        let length = bytes.len() as u32;
+        bytes[..4].copy_from_slice(&length.to_be_bytes());
+        bytes[4] = 1;
+    }
+    if dice.below(2) == 0 {
+        for _ in 0..bytes.len() / 2 {
+            let at = 7 + dice.below(bytes.len() as u64 - 7);
+            bytes[at] = 0;
+        }
+    }
+    bytes
+}
+
+#[test]
+fn every_record_of_its_length_comes_back() {
+    let mut dice = Dice(0x2545_f491_4f6c_dd1d);
+    for _ in 0..5_000 {
+        let bytes = record(&mut dice);
+        let text = house::show(&bytes).expect("the length is right");
+        assert_eq!(house::pack(&text).as_ref(), Ok(&bytes), "{text}");
+        let again = house::show(&house::pack(&text).expect("packed before")).expect("shown before");
+        assert_eq!(again, text, "the shown text is canonical");
+    }
+}
+
+#[test]
+fn section_counts_from_none_to_all_that_the_byte_holds() {
+    let mut dice = Dice(77);
+    for sections in 0..=255 {
+        let mut bytes = dice.bytes(HEAD + SECTION * sections);
+        bytes[6] = sections as u8;
+        let text = house::show(&bytes).expect("the length is right");
+        assert_eq!(house::pack(&text), Ok(bytes));
+    }
+}
+
+#[test]
+fn every_catalogue_of_its_length_comes_back() {
+    let mut dice = Dice(0x9e37_79b9_7f4a_7c15);
+    for _ in 0..2_000 {
+        let (sizes, rows) = (dice.below(14) as u8, dice.below(12) as u8);
+        let mut bytes = dice.bytes(catalogue::length(sizes, rows));
+        (bytes[5], bytes[6]) = (sizes, rows);
+        if dice.below(2) == 0 {
+            let length = bytes.len() as u32;
+            bytes[..4].copy_from_slice(&length.to_be_bytes());
+            bytes[4] = 1;
+        }
+        let text = table::show(&bytes).expect("the length is right");
+        assert_eq!(table::pack(&text).as_ref(), Ok(&bytes), "{text}");
+    }
+}
+
+#[test]
+fn a_job_and_a_catalogue_never_have_the_same_length() {
+    for (second, third) in (0..=255_u8).flat_map(|second| (0..=255_u8).map(move |third| (second, third))) {
+        assert_ne!(HEAD + SECTION * usize::from(third), catalogue::length(second, third));
+    }
+}
+
+#[test]
+fn other_bytes_are_no_record() {
+    let mut dice = Dice(5);
+    for length in [0, 6, 7, 39, 40, 41, 49, 60] {
+        let mut bytes = dice.bytes(length);
+        if let Some(count) = bytes.get_mut(6) {
+            *count = 1;
+        }
+        let shown = house::show(&bytes).expect_err("no record of one section has this length").to_string();
+        assert!(shown.starts_with(&format!("{length} bytes, but ")), "{shown}");
+    }
+    assert!(table::show(&[0; 6]).is_err());
+    assert!(table::show(&[0, 0, 0, 8, 1, 0, 0, 9]).is_err());
+    assert!(Record::read(&[]).is_err() && Catalogue::read(&[]).is_err());
+}
+
+const OWN: &str = "\
+# document 01's own case
+local losses 0.3
+hours 24
+meter loss 50 cm
+guaranteed head 500 cm
+delivered head 1200 cm
+velocity limit 1500 mm/s
+residents hotel-75 71
+section 1 from pump kind hotel-75 fixtures 80 length 10 m elevation 600 cm free 200 cm
+";
+
+#[test]
+fn the_own_case_is_document_01s() {
+    let hex = "0000003201030118003201f404b005dc000000000000000000000000004700000000000000000000000700500064025800c8";
+    let bytes = house::pack(OWN).expect("a house");
+    assert_eq!(bytes.iter().map(|byte| format!("{byte:02x}")).collect::<String>(), hex);
+    assert_eq!(calls::flow(&bytes).expect("accepted").flows, [2_052]);
+}
+
+#[test]
+fn what_is_forgiven() {
+    let plain = house::pack(OWN).expect("a house");
+    let mut lines: Vec<&str> = OWN.lines().collect();
+    lines.reverse();
+    assert_eq!(house::pack(&lines.join("\r\n")).as_ref(), Ok(&plain), "any order, other line ends");
+    for (from, to) in [
+        ("10 m", "10.0m"),
+        ("10 m", "100 dm"),
+        ("600 cm", "6 m"),
+        ("600 cm", "+6.00 m"),
+        ("1500 mm/s", "1.5 m/s"),
+        ("from pump", "from 0"),
+        ("kind hotel-75", "kind 7"),
+        ("residents hotel-75", "Residents  HOTEL-75"),
+        ("hours 24", "  hours 24   # all day"),
+        ("# document", "\u{feff}# document"),
+        ("hours 24", "version 1\nhours 24\nstated length 50 bytes"),
+    ] {
+        assert_eq!(house::pack(&OWN.replacen(from, to, 1)).as_ref(), Ok(&plain), "{to}");
+    }
+}
+
+/// The mistake that the own case gives with one text put for another.
+fn mistake(from: &str, to: &str) -> Mistake {
+    assert!(OWN.contains(from), "{from}");
+    house::pack(&OWN.replacen(from, to, 1)).expect_err(to)
+}
+
+/// What is put for what, the line of the mistake, what is wrong and what is expected.
+type Slip = (&'static str, &'static str, usize, &'static str, &'static str);
+
+const SLIPS_OF_THE_HOUSE: &[Slip] = &[
+    ("hours 24", "hors 24", 3, "`hors` begins no line", "hours"),
+    ("hours 24", "hours", 3, "`hours` has no number", "`hours 24`"),
+    ("hours 24", "hours many", 3, "`many` is no number", "`hours 24`"),
+    ("hours 24", "hours 256", 3, "`hours 256` is not what", "0 to 255"),
+    ("hours 24", "hours 24 h", 3, "`h` is one word too many", "comments begin with #"),
+    ("hours 24", "hours 24h", 3, "`hours` has no unit", "`hours 24`"),
+    ("hours 24", "hours 2.5", 3, "finer than", "whole number"),
+    ("hours 24", "hours 24\nhours 24", 4, "`hours` is given twice", "the first is line 3"),
+    ("local losses 0.3", "local losses 0.35", 2, "finer than", "whole number of tenths"),
+    ("meter loss 50 cm", "meter loss 50", 4, "the unit of `meter loss 50` is missing", "`meter loss 50 cm`"),
+    ("meter loss 50 cm", "meter loss 50 bar", 4, "`bar` is no unit", "cm or m"),
+    ("1200 cm", "1,200 cm", 6, "has a comma", "1200"),
+    ("residents hotel-75 71", "residents hotel 71", 8, "`hotel` is no kind", "hotel-75"),
+    ("residents hotel-75 71", "residents none 71", 8, "`none` is no kind that has residents", "dwelling"),
+    ("residents hotel-75 71", "residents hotel-75 70000", 8, "`residents hotel-75 70000`", "0 to 65535"),
+];
+
+const SLIPS_OF_A_SECTION: &[Slip] = &[
+    ("section 1 from", "section one from", 9, "`one` is no section's number", "1 to 255"),
+    ("section 1 from", "section 256 from", 9, "`256` is no section's number", "1 to 255"),
+    ("section 1 from", "section 3 from", 9, "section 1 is missing", "from 1 to 3 without a gap"),
+    ("section 1", "section 1 from pump kind none length 1 m elevation 0 cm\nsection 1", 10, "twice", "line 9"),
+    ("from pump", "from cellar", 9, "`from cellar`", "`from pump`"),
+    ("from pump", "", 9, "the section has no `from`", "section 2 from 1"),
+    ("kind hotel-75 f", "kind motel f", 9, "`motel` is no kind of consumer", "hospital"),
+    ("length 10 m", "length 10", 9, "the unit of `length 10` is missing", "`length 10 m`"),
+    ("length 10 m", "length 10.25 m", 9, "finer than", "whole number of dm"),
+    ("length 10 m", "length 6553.6 m", 9, "`length 6553.6 m`", "0.0 to 6553.5 m"),
+    ("length 10 m", "length -1 m", 9, "`length -1.0 m`", "0.0 to 6553.5 m"),
+    ("length 10 m", "length 10 m length 10 m", 9, "`length` is given twice", "one `length`"),
+    ("elevation 600 cm", "elevation 65286 cm", 9, "`elevation 65286 cm`", "write `elevation -250 cm`"),
+    ("elevation 600 cm", "elevation 70000 cm", 9, "`elevation 70000 cm`", "-32768 to 32767 cm"),
+    ("free 200 cm", "", 9, "the section has no `free`", "needs no fixtures and free"),
+    ("free 200 cm", "free 200 cm pipe steel", 9, "`pipe` is no field of a section", "fixtures"),
+];
+
+#[test]
+fn mistakes_name_their_line_and_what_is_wrong() {
+    for (from, to, line, wrong, expected) in SLIPS_OF_THE_HOUSE.iter().chain(SLIPS_OF_A_SECTION) {
+        let mistake = mistake(from, to);
+        assert_eq!(mistake.line.as_ref().map(|(number, _)| *number), Some(*line), "{to}: {mistake}");
+        assert!(mistake.wrong.contains(wrong), "{to}: {mistake}");
+        assert!(mistake.expected.contains(expected), "{to}: {mistake}");
+    }
+    let bare = mistake(OWN.lines().last().expect("a section"), "section");
+    assert_eq!((bare.line.expect("a line").0, bare.wrong.as_str()), (9, "`section` has no number"));
+}
+
+#[test]
+fn a_missing_line_is_named() {
+    for line in OWN.lines().skip(1).take(6) {
+        let mistake = mistake(line, "");
+        assert_eq!(mistake.line, None);
+        let words: Vec<&str> = line.split(' ').take_while(|word| !word.starts_with(char::is_numeric)).collect();
+        assert_eq!(mistake.wrong, format!("the file has no line `{}`", words.join(" ")));
+        assert_eq!(mistake.expected, format!("for example `{line}`"));
+    }
+}
+
+/// Whatever is typed, packing gives bytes or a mistake whose line is in the file; and what it packs it shows again.
+#[test]
+fn any_text_is_taken() {
+    let mut dice = Dice(99);
+    let pieces =
+        ["section", " ", "\n", "#", "-", "9", ".", ",", "cm", "m", "pump", "kind", "hotel-75", "é", "\u{2212}", "1e9"];
+    for turn in 0..20_000 {
+        let start = if turn % 2 == 0 { OWN } else { SIZES };
+        let mut text = start.to_string();
+        for _ in 0..1 + dice.below(4) {
+            let at = (0..=dice.below(text.len() as u64 + 1)).rev().find(|at| text.is_char_boundary(*at)).unwrap_or(0);
+            let end = (at + dice.below(6)).min(text.len());
+            let end = if text.is_char_boundary(end) { end } else { at };
+            text.replace_range(at..end, pieces[dice.below(pieces.len() as u64)]);
+        }
+        let line_in_file = |mistake: Mistake| {
+            if let Some((number, said)) = mistake.line {
+                assert_eq!(text.lines().nth(number - 1).map(str::trim), Some(said.as_str()), "{text}");
+            }
+        };
+        match house::pack(&text) {
+            Ok(bytes) => assert_eq!(house::pack(&house::show(&bytes).expect("a record")), Ok(bytes)),
+            Err(mistake) => line_in_file(mistake),
+        }
+        match table::pack(&text) {
+            Ok(bytes) => assert_eq!(table::pack(&table::show(&bytes).expect("a catalogue")), Ok(bytes)),
+            Err(mistake) => line_in_file(mistake),
+        }
+    }
+}
+
+const SIZES: &str = "\
+# document 01's own catalogue
+size,bore mm,price,flow ml/s,velocity mm/s,slope mm/m
+1,40,900,1000,800,40
+1,40,900,3000,2400,300
+2,50,1300,1000,500,12
+2,50,1300,3000,1500,90
+";
+
+#[test]
+fn the_own_catalogue_is_document_01s() {
+    let hex = "0000002f01020200280384000003e80320002800000bb80960012c00320514000003e801f4000c00000bb805dc005a";
+    let bytes = table::pack(SIZES).expect("a table");
+    assert_eq!(bytes.iter().map(|byte| format!("{byte:02x}")).collect::<String>(), hex);
+    let mut lines: Vec<&str> = SIZES.lines().collect();
+    lines.swap(2, 4);
+    lines.swap(3, 5);
+    for text in [
+        lines.join("\r\n"),
+        SIZES.replace(',', ";"),
+        SIZES.replacen("1,40,900,3000", "1,,,3000", 1),
+        SIZES.replace(',', " , ").replacen("size", "\"size\"", 1),
+        SIZES.replacen("size,bore mm", "Size,Bore mm", 1) + ",,,,,\n",
+    ] {
+        assert_eq!(table::pack(&text).as_ref(), Ok(&bytes), "{text}");
+    }
+    let turned = "slope mm/m,velocity mm/s,flow ml/s,price,bore mm,size\n40,800,1000,900,40,1\n300,2400,3000,900,40,1\n\
+                  12,500,1000,1300,50,2\n90,1500,3000,1300,50,2\n";
+    assert_eq!(table::pack(turned).as_ref(), Ok(&bytes), "columns in any order");
+}
+
+#[test]
+fn mistakes_in_a_table_name_their_line() {
+    let cases = [
+        ("size,bore mm", "size,bore", Some(2), "`bore` is no column", "bore mm"),
+        ("size,bore mm,", "size,", Some(2), "no column `bore mm`", "size,bore mm"),
+        ("size,bore mm", "size,size,bore mm", Some(2), "`size` is there twice", "size,bore mm"),
+        ("1,40,900,1000", "1,forty,900,1000", Some(3), "`forty` is no whole number for `bore mm`", "0 to 65535"),
+        ("1,40,900,1000", "1,,900,1000", Some(3), "`bore mm` is empty", "0 to 65535"),
+        ("1,40,900,3000", "1,40,900,", Some(4), "`flow ml/s` is empty", "0 to 4294967295"),
+        ("1,40,900,3000", "1,41,900,3000", Some(4), "another bore mm here than on line 3", "40"),
+        ("1,40,900,3000", "3,60,900,3000", Some(5), "size 2 has 2 rows, but size 1 has 1 row", "equally many"),
+        ("2,50,1300,1000", "0,50,1300,1000", Some(5), "sizes number from 1", "1 to 255"),
+        ("2,50,1300,1000", "2,50,65536,1000", Some(5), "`price` 65536", "0 to 65535"),
+        ("800,40", "800,40,7", Some(3), "`7` stands under no column", "header"),
+        ("800,40", "800,4.5", Some(3), "`4.5` is no whole number", "0 to 65535"),
+    ];
+    for (from, to, line, wrong, expected) in cases {
+        assert!(SIZES.contains(from), "{from}");
+        let mistake = table::pack(&SIZES.replacen(from, to, 1)).expect_err(to);
+        assert_eq!(mistake.line.as_ref().map(|(number, _)| *number), line, "{to}: {mistake}");
+        assert!(mistake.wrong.contains(wrong), "{to}: {mistake}");
+        assert!(mistake.expected.contains(expected), "{to}: {mistake}");
+    }
+    let gap = table::pack(&SIZES.replace("\n2,", "\n3,")).expect_err("a gap");
+    assert_eq!((gap.line.expect("a line").0, gap.wrong.as_str()), (5, "size 2 is missing: this line is size 3"));
+    assert!(table::pack("# nothing\n").expect_err("no header").wrong.contains("no header line"));
+    assert!(table::pack(&format!("rows,3\n{SIZES}")).expect_err("rows").wrong.contains("says 3"));
+}

@@ -1,0 +1,160 @@
+//! Document 01's own case and edits of it with the numbers they give, and a house where widening pipes one by one ends
+//! dearer. Here the numbers are written down; library and model must both give them.
+
+use office::case::{Buffer, Call, Case};
+use office::replay;
+
+const JOB: &str = "0000003201030118003201f404b005dc 000000000000000000000000 0047 00000000000000000000 \
+                   000700500064025800c8";
+const CATALOGUE: &str = "0000002f010202 00280384 000003e803200028 00000bb80960012c \
+                         00320514 000003e801f4000c 00000bb805dc005a";
+
+fn own(call: Call) -> Case {
+    let file = format!("call {}\njob {JOB}\ncat {CATALOGUE}\nsizes 02\n", call.name());
+    let mut case = Case::parse(&file).expect("the own case");
+    case.out = Buffer { length: 100, pattern: vec![0xa5] };
+    case.work = Buffer { length: 17_608 + 8_000, pattern: vec![0x5a, 1, 2] };
+    case
+}
+
+/// What library and model give, where they agree.
+fn number(case: &Case) -> u32 {
+    let said = replay(&case.text()).unwrap_or_else(|what| panic!("{what}\n{}", case.text()));
+    let number = said.split("number ").nth(1).and_then(|rest| rest.split(',').next()).expect("a number");
+    number.parse().expect("a number")
+}
+
+/// Bytes, and where in the job they are set.
+type Edit<'a> = (usize, &'a [u8]);
+
+fn edited(call: Call, edits: &[Edit]) -> Case {
+    let mut case = own(call);
+    for (at, bytes) in edits {
+        case.job[*at..at + bytes.len()].copy_from_slice(bytes);
+    }
+    case
+}
+
+#[test]
+fn edits_of_the_job() {
+    let edits: &[(u32, &[Edit])] = &[
+        (0, &[]),
+        (1, &[(3, &[51])]),
+        (2, &[(4, &[2])]),
+        (2, &[(4, &[2]), (5, &[4])]),
+        (3, &[(5, &[4])]),
+        (3, &[(7, &[0])]),
+        (3, &[(7, &[25])]),
+        (3, &[(8, &[3, 0xe9])]),
+        (3, &[(14, &[0, 0])]),
+        (3, &[(6, &[64])]),
+        (4, &[(6, &[2])]),
+        (5, &[(44, &[0, 0])]),
+        (5, &[(40, &[1])]),
+        (5, &[(41, &[13])]),
+        (5, &[(48, &[3, 0xe9])]),
+        (5, &[(46, &[0xfc, 0x17])]),
+        (0, &[(46, &[0xfc, 0x18])]),
+        (5, &[(41, &[0])]),
+        (6, &[(41, &[0, 0, 0]), (48, &[0, 0])]),
+        (7, &[(28, &[0, 0])]),
+        (7, &[(16, &[0, 1])]),
+        (8, &[(28, &[0xff, 0xff]), (42, &[0xff, 0xff])]),
+        (9, &[(42, &[0, 18])]),
+        (9, &[(42, &[0, 70])]),
+        (0, &[(42, &[0, 71])]),
+    ];
+    for (expected, edit) in edits {
+        assert_eq!(number(&edited(Call::Flow, edit)), *expected, "{edit:?}");
+        let read = if [8, 9].contains(expected) { 0 } else { *expected };
+        assert_eq!(number(&edited(Call::Copy, edit)), read, "copied: {edit:?}");
+    }
+    for length in [0, 39, 49] {
+        let mut case = own(Call::Flow);
+        case.job.truncate(length);
+        assert_eq!(number(&case), 1);
+    }
+}
+
+#[test]
+fn edits_of_the_catalogue() {
+    let edits: &[(u32, usize, &[u8])] = &[
+        (10, 4, &[2]),
+        (10, 6, &[1]),
+        (11, 9, &[0, 0]),
+        (11, 27, &[0, 40]),
+        (11, 21, &[3, 0xe8]),
+        (11, 25, &[0, 39]),
+        (0, 25, &[0, 40]),
+    ];
+    for (expected, at, bytes) in edits {
+        for call in [Call::Rate, Call::Choose] {
+            let mut case = own(call);
+            case.cat[*at..at + bytes.len()].copy_from_slice(bytes);
+            assert_eq!(number(&case), *expected, "{at} {bytes:?}");
+        }
+    }
+    let mut longer = own(Call::Choose);
+    longer.cat.push(0);
+    assert_eq!(number(&longer), 10);
+}
+
+#[test]
+fn lists_and_buffers() {
+    for (list, length, expected) in [
+        (&[][..], 15, 12),
+        (&[0], 15, 12),
+        (&[3], 15, 12),
+        (&[2, 2], 15, 12),
+        (&[2], 15, 0),
+        (&[1], 15, 13),
+        (&[1], 14, 14),
+    ] {
+        let mut case = own(Call::Rate);
+        case.sizes = list.to_vec();
+        case.out.length = length;
+        assert_eq!(number(&case), expected, "{list:?} {length}");
+    }
+    for (out, work, expected) in [(4, 0, 14), (5, 17_607, 15), (5, 17_608, 0)] {
+        let mut case = own(Call::Choose);
+        (case.out.length, case.work.length) = (out, work);
+        assert_eq!(number(&case), expected, "{out} {work}");
+    }
+    assert_eq!(number(&edited(Call::Choose, &[(12, &[3, 0x98])])), 16);
+    assert_eq!(number(&edited(Call::Choose, &[(12, &[3, 0x99])])), 0);
+}
+
+#[test]
+fn sections_of_50_and_200_office_basins() {
+    let job = "0000003c010302180032 01f404b005dc 0000 0000 0000 0000 0000 0000 0000 0000 0000 0000 0c80 0000 \
+               000b00320064025800c8 000b00c80064025800c8";
+    let case = Case::parse(&format!("call flow\njob {job}\nout 20 00")).expect("a case");
+    assert_eq!(number(&case), 9);
+}
+
+#[test]
+fn widening_one_by_one_ends_dearer() {
+    let job = "0000004601030318 0000000009520bb8 0000003900000000 0000000000000000 0000000000000000 \
+               0000 0000 016b 031b 0000  0102 004c 0065 0308 00c8  0102 0046 00ae 031e 00c8";
+    let cat = "00000043010302 \
+               000f012c 00000064012c001e 00000bb80b540384 \
+               001401a4 0000006400c8000c 00000bb80960012c \
+               001902bc 0000006400780005 00000bb806a4006e";
+    let file = format!("call choose\njob {job}\ncat {cat}\nwork 60000 a5\nout 7 00");
+    let case = Case::parse(&file).expect("a case");
+    let said = replay(&file).unwrap_or_else(|what| panic!("{what}"));
+    assert_eq!(number(&case), 0);
+    // 224,400 and the only list of that cost; widening the dictating path gives 2, 1, 1 at 234,960.
+    assert!(said.ends_with("result [0, 3, 108, 144, 1, 2, 2]"), "{said}");
+    let flows = office::flow(&case.job).expect("an accepted job").flows;
+    assert_eq!(flows, [874, 631, 606]);
+}
+
+#[test]
+fn the_case_in_the_readme_can_be_replayed() {
+    let readme = include_str!("../README.md");
+    let from = readme.find("    call choose").expect("a case in the README");
+    let file = readme[from..].split("\n\n").next().expect("its lines");
+    let said = replay(file).unwrap_or_else(|what| panic!("{what}"));
+    assert_eq!(said, "choose: library and model agree: number 0, result [0, 1, 251, 208, 2]");
+}
