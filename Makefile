@@ -1,19 +1,57 @@
-.PHONY: test example sheet
+# Every recipe is one script of bash, and the first command that fails ends it.
+SHELL := /bin/bash
+.SHELLFLAGS := -euo pipefail -c
+.ONESHELL:
+.PHONY: test run bench example sheet
 
-# The stored vectors are the model's; then every crate is proved from nothing, the must-fail edits are tried and the programs run.
-# The last line is rt's verdict.
+office := office/target/release/office
+
+# The stored vectors are the model's; every crate is proved from nothing, the must-fail edits are tried and the programs run;
+# then the archive is made of what was proved, and the Rust side is built and tested with it. The last line is rt's verdict.
 test:
-	@sh model/check.sh
-	@rt ci
+	@verdict=$$(mktemp)
+	trap 'rm -f "$$verdict"' EXIT
+	sh model/check.sh
+	rt ci | tee "$$verdict"
+	rt staticlib order
+	cargo test --release --offline --manifest-path office/Cargo.toml
+	tail -n 1 "$$verdict"
+
+# An example house of twelve sections: its cheapest sizes, its sheet by the sheet program, and its drawing.
+run: target/built
+	@sizes=$$($(office) choose examples/house.txt examples/table.csv | tee target/house.txt | sed -n 's/^sizes *//p')
+	cat target/house.txt
+	$(office) pack examples/house.txt -o target/house.job
+	$(office) pack examples/table.csv -o target/house.cat
+	{
+		cat target/house.job target/house.cat
+		for size in $${sizes//,/ }; do printf "\\x$$(printf %x "$$size")"; done
+	} > target/house.order
+	echo
+	target/bin/sheet < target/house.order
+	$(office) draw examples/house.txt examples/table.csv -o target/house.svg
+	echo
+	echo "target/house.svg is the drawing"
+
+# Flow, rating and choosing against the independent model and a plain search in Rust, in one run.
+bench: target/built
+	@$(office) bench
+
+# The proved sheet program, the proved archive and the command over it.
+target/built: $(shell find crates office/src office/Cargo.toml -type f)
+	@mkdir -p target
+	echo "proving and building, which takes minutes the first time: target/built.log"
+	{ rt check sheet && rt staticlib order && cargo build --release --offline --manifest-path office/Cargo.toml; } > target/built.log 2>&1 || { tail -n 40 target/built.log; exit 1; }
+	touch target/built
 
 # Reads the record of an example and prints its fields.
 example:
 	@mkdir -p target
-	@rt check vectors > target/example.log 2>&1 || { cat target/example.log; exit 1; }
-	@target/bin/vectors < examples/own-case.txt
+	rt check vectors > target/example.log 2>&1 || { cat target/example.log; exit 1; }
+	target/bin/vectors < examples/own-case.txt
 
 # Prints the sheet of document 01's own case.
 sheet:
 	@mkdir -p target
-	@rt check sheet > target/sheet.log 2>&1 || { cat target/sheet.log; exit 1; }
-	@target/bin/sheet < crates/sheet/stdin
+	rt check sheet > target/sheet.log 2>&1 || { cat target/sheet.log; exit 1; }
+	target/bin/sheet < crates/sheet/stdin
