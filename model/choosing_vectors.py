@@ -10,7 +10,9 @@ is at most 1,000, a workspace has at most 1,792,256 bytes, which is the most tha
 any job needs, and a line at most 16,384.
 Output:
     choose N HEX   for l, with the whole buffer of `room` bytes afterwards
-    choose N COST  for k and N 0, with the cost as a decimal number
+    choose N COST  for k and N 0, with the cost as a decimal number; `unsuited`
+             follows where rating the list does not give 0 and a required head of
+             at most H, or where price x length does not add up to the cost
     choose N       for k and any other N
 From N 1 to 15 there follows the word `kept` where the whole workspace is still
 filled as it was, else `touched`; after 0 and 16 its bytes are free.

@@ -1,4 +1,4 @@
-"""Test vectors for job records, design flows, ratings and sheets.
+"""Test vectors for job records, design flows, ratings, sheets and choices.
 
     python3 model/vectors.py STDIN STDOUT
 
@@ -23,7 +23,7 @@ Input, in lines:
              (4 bytes, at most 8,192), a number of zero bytes (4), and the bytes
              that these zero bytes follow, in all at most 131,072
     l and k  choosing; choosing_vectors.py tells their lines and their answers
-A room is at most 1,000. A line has at most 2,048 bytes; the program reads its
+A room is at most 1,000. A line has at most 16,384 bytes; the program reads its
 input in chunks, so the number of lines has no limit that vectors could reach.
 Output:
     # text   the comment
@@ -41,10 +41,11 @@ Output:
     sheet N  the length of the text, and the text
 
 Every vector has its number written by hand, those of `a` and `f` in
-flow_vectors.py, those of `p` in rating_vectors.py and those of `s` in
-sheet_vectors.py. It is compared with the model (job.py, demand.py,
-catalogue.py, rating.py, sheet.py) and with the first of all conditions that
-hold (conditions.py, rating_conditions.py, sheet_conditions.py). Where `holds`
+flow_vectors.py, those of `p` in rating_vectors.py, those of `s` in
+sheet_vectors.py and those of `l` and `k` in choosing_vectors.py. It is compared
+with the model (job.py, demand.py, catalogue.py, rating.py, sheet.py,
+choosing.py) and with the first of all conditions that hold (conditions.py,
+rating_conditions.py, sheet_conditions.py, choosing_conditions.py). Where `holds`
 is given, these are all the conditions that hold; where `lines` is given, they
 stand in the model's answer one after another.
 """
@@ -54,6 +55,7 @@ import importlib
 import struct
 import sys
 
+import choosing_vectors
 import conditions
 import flow_vectors
 import job
@@ -495,7 +497,7 @@ GROUPS = [
     ("writer, section counts", writer_counts), ("writer, order", writing_order),
     ("writer, places", writer_places), ("writer, values", writer_values),
     ("writer, residents", writer_residents), ("copying", copies),
-] + flow_vectors.GROUPS + rating_vectors.GROUPS + sheet_vectors.GROUPS
+] + flow_vectors.GROUPS + rating_vectors.GROUPS + sheet_vectors.GROUPS + choosing_vectors.GROUPS
 
 # The answers to the own case and to three of its copies, by hand.
 OWN_ANSWER = [
@@ -561,6 +563,7 @@ CALLS = {
     **flow_vectors.CALLS,
     **rating_vectors.CALLS,
     **sheet_vectors.CALLS,
+    **choosing_vectors.CALLS,
 }
 
 
@@ -613,10 +616,8 @@ def check_room(vector):
 
 
 def check_length(vector):
-    """The program takes lines of 2,048 bytes; those of `p` and `s` keep well under, and
-    those of `l` and `k` have a bound of their own."""
-    most = {"p": 2000, "s": 2000, "l": 16_384, "k": 16_384}
-    assert len(input_lines(vector)[1]) < most.get(vector.letter, 2 ** 16), vector.name
+    """The program takes lines of 16,384 bytes."""
+    assert len(input_lines(vector)[1]) <= 16_384, vector.name
 
 
 def check_alone(vectors, calls):
@@ -686,18 +687,11 @@ def make(groups, calls, stdin_path, stdout_path):
     report(vectors)
 
 
-def join(more):
-    """The groups and calls of a module come behind the others."""
-    GROUPS.extend(more.GROUPS)
-    CALLS.update(more.CALLS)
-
-
 def main(stdin_path, stdout_path, alone=None):
     if alone is None:
         make(GROUPS, CALLS, stdin_path, stdout_path)
         return
     more = importlib.import_module(alone)
-    join(more)
     make(more.GROUPS, more.CALLS, stdin_path, stdout_path)
 
 

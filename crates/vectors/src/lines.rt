@@ -1,5 +1,5 @@
 // The lines of the input, and what each asks for. A line is collected in a buffer of its own, since a chunk may end
-// inside it. `used` counts the line's bytes so far; 2,049 stands for any number that the buffer has no room for.
+// inside it. `used` counts the line's bytes so far; 16,385 stands for any number that the buffer has no room for.
 use crate::calls;
 use crate::hex;
 use crate::parts;
@@ -8,7 +8,7 @@ use crate::sheets;
 use libc::STDIN_FILENO;
 
 // Answers the lines that end in the next chunk of input; false where there is none.
-pub fn take_chunk(line: &mut [u8; 2048], used: &mut usize) -> bool {
+pub fn take_chunk(line: &mut [u8; 16384], used: &mut usize) -> bool {
     let mut chunk = io::large_buffer();
     let n = io::read_full(STDIN_FILENO, &mut chunk);
     if n == 0 {
@@ -19,7 +19,7 @@ pub fn take_chunk(line: &mut [u8; 2048], used: &mut usize) -> bool {
     true
 }
 
-fn take_bytes(bytes: &[u8], line: &mut [u8; 2048], before: usize) -> usize {
+fn take_bytes(bytes: &[u8], line: &mut [u8; 16384], before: usize) -> usize {
     let mut used = before;
     let mut i: usize = 0;
     while i < bytes.len() {
@@ -29,16 +29,16 @@ fn take_bytes(bytes: &[u8], line: &mut [u8; 2048], before: usize) -> usize {
     used
 }
 
-fn take_byte(b: u8, line: &mut [u8; 2048], used: usize) -> usize {
+fn take_byte(b: u8, line: &mut [u8; 16384], used: usize) -> usize {
     if b == b'\n' {
         take_line(line, used);
         return 0;
     }
-    if used < 2048 {
+    if used < 16384 {
         line[used] = b;
         return used + 1;
     }
-    2049
+    16385
 }
 
 fn take_line(line: &[u8], used: usize) {
@@ -50,7 +50,7 @@ fn take_line(line: &[u8], used: usize) {
 }
 
 // A last line that has no line end.
-pub fn take_rest(line: &[u8; 2048], used: usize) {
+pub fn take_rest(line: &[u8; 16384], used: usize) {
     if 0 < used {
         take_line(line, used);
     }
@@ -70,7 +70,7 @@ fn answer(line: &[u8]) {
         return unknown();
     }
     let known = match line[0] {
-        b'p' => parts::rate(&line[2..]),
+        b'p' | b'l' | b'k' => parts::four(line[0], &line[2..]),
         b's' => sheets::sheet(&line[2..]),
         _ => vector(line[0], &line[2..]),
     };
@@ -79,13 +79,13 @@ fn answer(line: &[u8]) {
     }
 }
 
-// What the line's letter asks of the bytes that its digits stand for, which are fewer than 1,024.
+// What the line's letter asks of the bytes that its digits stand for, which are fewer than 8,192.
 // False where the line is none of these.
 fn vector(letter: u8, digits: &[u8]) -> bool {
     if !hex::whole(digits) {
         return false;
     }
-    let mut bytes = [0u8; 1024];
+    let mut bytes = [0u8; 8192];
     let n = hex::decode(digits, &mut bytes);
     match letter {
         b'r' => calls::read(&bytes[0..n]),

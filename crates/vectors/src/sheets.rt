@@ -1,5 +1,5 @@
 // The sheet of an input. A line of three parts of digits, with a space between each two: the room of the buffer and the number of
-// zero bytes that follow the input's own, in four bytes each, and the input's own bytes, which are fewer than 1,024.
+// zero bytes that follow the input's own, in four bytes each, and the input's own bytes, which are fewer than 8,192.
 use crate::hex;
 use crate::parts::space;
 use crate::print;
