@@ -19,6 +19,7 @@ pub fn catalogue(rng: &Rng, measure: &Measure) -> Vec<DraftSize> {
     // In a row of real pipes a wider one is dearer, slower and flatter; nothing in document 01 asks for that.
     let real = !rng.once_in(4);
     let price = rng.scaled(20, 1_500);
+    let one_price = rng.once_in(8);
     let mut bore = rng.between(1, 60);
     let mut sizes = Vec::new();
     for place in 0..count {
@@ -30,7 +31,11 @@ pub fn catalogue(rng: &Rng, measure: &Measure) -> Vec<DraftSize> {
         let velocities = rising(rng, rows, velocity);
         let slopes = rising(rng, rows, slope);
         let rows = flows.into_iter().zip(velocities).zip(slopes);
-        let price = if real { price + price * place / 2 } else { rng.between(1, 10_000) };
+        let price = match real {
+            _ if one_price => price,
+            true => price + price * place / 2,
+            false => rng.between(1, 10_000),
+        };
         sizes.push(DraftSize {
             bore: bore as u16,
             price: price.clamp(1, 10_000) as u16,

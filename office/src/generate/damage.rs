@@ -116,15 +116,29 @@ fn length(rng: &Rng, bytes: &mut Vec<u8>, least: usize) {
 }
 
 /// 3: one field of the head out of its range.
-fn head(rng: &Rng, job: &mut [u8]) {
-    match rng.below(7) {
+fn head(rng: &Rng, job: &mut Vec<u8>) {
+    match rng.below(8) {
         0 => set(job, 5, rng.pick(&[0, 1, 4, 255])),
         1 => set(job, 6, rng.pick(&[0, 64, 255])),
         2 => set(job, 7, rng.pick(&[0, 25, 255])),
         3 => set16(job, 8, rng.pick(&[1_001, 65_535])),
         4 => set16(job, 10, rng.pick(&[6_001, 65_535])),
         5 => set16(job, 12, rng.pick(&[6_001, 65_535])),
-        _ => set16(job, 14, rng.pick(&[0, 3_001, 65_535])),
+        6 => set16(job, 14, rng.pick(&[0, 3_001, 65_535])),
+        _ => recount(job, rng.pick(&[0, 64, 65])),
+    }
+}
+
+/// Another number of sections, all of them there and the length right: the last one is repeated.
+fn recount(job: &mut Vec<u8>, count: usize) {
+    if job.len() >= 50 {
+        let last = job[job.len() - 10..].to_vec();
+        job.truncate(40 + 10 * count);
+        while job.len() < 40 + 10 * count {
+            job.extend(&last[..last.len().min(40 + 10 * count - job.len())]);
+        }
+        set(job, 6, count as u8);
+        restate(job);
     }
 }
 
@@ -189,7 +203,7 @@ fn crowd(job: &mut [u8]) {
 
 /// 10: a catalogue of another length, version or counts.
 fn shape(rng: &Rng, cat: &mut Vec<u8>) {
-    match rng.below(5) {
+    match rng.below(7) {
         0 => set(cat, 4, rng.pick(&[0, 2, 255])),
         1 => set(cat, 5, rng.pick(&[0, 13, 255])),
         2 => set(cat, 6, rng.pick(&[0, 1, 65, 255])),
@@ -197,8 +211,35 @@ fn shape(rng: &Rng, cat: &mut Vec<u8>) {
             cat.push(rng.byte());
             restate(cat);
         }
+        4 => reshape(cat, rng.pick(&[0, 13]), None),
+        5 => reshape(cat, 1, Some(rng.pick(&[1, 65]))),
         _ => length(rng, cat, 7),
     }
+}
+
+/// Another number of sizes, or of rows in each, all of them there, in order and the length right: the last ones are repeated
+/// with bores and flows that go on rising.
+fn reshape(cat: &mut Vec<u8>, sizes: usize, rows: Option<usize>) {
+    let had = (usize::from(cat.get(5).copied().unwrap_or(0)), usize::from(cat.get(6).copied().unwrap_or(0)));
+    let rows = rows.unwrap_or(had.1);
+    if had.0 == 0 || had.1 == 0 || cat.len() != 7 + had.0 * (4 + 8 * had.1) {
+        return;
+    }
+    let mut other = vec![0, 0, 0, 0, 1, sizes as u8, rows as u8];
+    for size in 0..sizes {
+        let from = 7 + size.min(had.0 - 1) * (4 + 8 * had.1);
+        let bore = u16::from_be_bytes([cat[from], cat[from + 1]]);
+        other.extend(bore.wrapping_add((size + 1).saturating_sub(had.0) as u16).to_be_bytes());
+        other.extend(&cat[from + 2..from + 4]);
+        for row in 0..rows {
+            let at = from + 4 + 8 * row.min(had.1 - 1);
+            let flow = u32::from_be_bytes([cat[at], cat[at + 1], cat[at + 2], cat[at + 3]]);
+            other.extend(flow.wrapping_add((row + 1).saturating_sub(had.1) as u32).to_be_bytes());
+            other.extend(&cat[at + 4..at + 8]);
+        }
+    }
+    restate(&mut other);
+    *cat = other;
 }
 
 /// 11: one field of a size or a row against its rules.
@@ -209,14 +250,18 @@ fn row(rng: &Rng, cat: &mut [u8]) {
     let (sizes, rows) = (u64::from(cat[5]).max(1), u64::from(cat[6]).max(2));
     let size = 7 + (rng.below(sizes) * (4 + 8 * rows)) as usize;
     let row = size + 4 + 8 * rng.between(1, rows as i64 - 1) as usize;
-    match rng.below(8) {
-        0 => set16(cat, size, 0),
+    let last = size + 4 + 8 * (rows as usize - 1);
+    match rng.below(11) {
+        0 => set16(cat, 7, 0),
         1 if size > 7 => set16(cat, size, 1),
         2 => set16(cat, size + 2, rng.pick(&[0, 10_001, 65_535])),
         3 if row + 4 <= cat.len() => cat.copy_within(row - 8..row - 4, row),
-        4 => set16(cat, row + 4, 0),
-        5 => set16(cat, row + 6, 0),
+        4 => set16(cat, size + 8, 0),
+        5 => set16(cat, size + 10, 0),
         6 => set16(cat, row - 4, 65_535),
+        7 => set16(cat, row - 2, 65_535),
+        8 => set32(cat, size + 4, 0),
+        9 => set32(cat, last, 1_000_001),
         _ => set(cat, row, rng.pick(&[15, 255])),
     }
 }
@@ -257,6 +302,11 @@ fn set(bytes: &mut [u8], at: usize, to: u8) {
     if let Some(byte) = bytes.get_mut(at) {
         *byte = to;
     }
+}
+
+fn set32(bytes: &mut [u8], at: usize, to: u32) {
+    set16(bytes, at, (to >> 16) as u16);
+    set16(bytes, at + 2, to as u16);
 }
 
 fn set16(bytes: &mut [u8], at: usize, to: u16) {

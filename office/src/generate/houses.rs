@@ -43,8 +43,22 @@ pub fn house(rng: &Rng, large_once_in: u64) -> Draft {
         residents: [0; 12],
         sections: sections.collect(),
     };
+    if rng.once_in(5) {
+        alike(&mut draft);
+    }
     people(rng, &mut draft);
     draft
+}
+
+/// All pipes and all ends the same, so that several ends reach the greatest and several lists cost the least.
+fn alike(draft: &mut Draft) {
+    let Some(last) = draft.sections.last().cloned() else { return };
+    for s in &mut draft.sections {
+        (s.length, s.elevation) = (last.length, last.elevation);
+        if s.kind > 0 {
+            (s.kind, s.fixtures, s.free) = (last.kind, last.fixtures, last.free);
+        }
+    }
 }
 
 /// Each section's parent.
