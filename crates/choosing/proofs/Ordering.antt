@@ -6,38 +6,32 @@ use Prim.Native.Nat.{ℕ, _≤_, _<_}
 use lib.Dec.{ltb}
 use borrow.Author.Tests.{lt-ltb, le-ltb}
 use Rattle.answer.specs.Checks.{firstNo}
-use Rattle.answer.proofs.First.{first-none, first-found, first-next}
+use Rattle.answer.proofs.First.{first-none, first-found, first-next, first-after, first-before}
 use Rattle.fields.specs.Fields.{countOf}
 use Rattle.record.specs.Record.{decode}
-use Rattle.flow.specs.Calls.{jobNo}
-use Rattle.catalogue.specs.Rules.{catNo}
-use Rattle.rating.proofs.Inputs.{by-job, by-cat, by-rest}
+use Rattle.rating.specs.Calls.{inputChecks, inputNo}
+use Rattle.rating.proofs.Both.{input-numbered}
 use Rattle.choosing.specs.Calls.{chooseLength, workLength, chooseChecks, chooseNo}
 
 module _ (b cat : List ℕ) (room work : ℕ) where
-  pub choose-job : (jobNo b ≡ 0 → ⊥) → chooseNo b cat room work ≡ jobNo b
-  unfolding chooseNo chooseChecks
-  choose-job n = by-job b cat _ n
+  pub choose-inputs : (inputNo b cat ≡ 0 → ⊥) → chooseNo b cat room work ≡ inputNo b cat
+  unfolding chooseNo chooseChecks inputNo
+  choose-inputs n = first-before (inputChecks b cat) _ (input-numbered b cat) n
 
-  module _ (job : jobNo b ≡ 0) where
-    pub choose-cat : (catNo cat ≡ 0 → ⊥) → chooseNo b cat room work ≡ catNo cat
-    unfolding chooseNo chooseChecks
-    choose-cat n = by-cat b cat _ job n
+  module _ (none : inputNo b cat ≡ 0) where
+    past : chooseNo b cat room work ≡ firstNo ((ltb room (chooseLength (countOf (decode b))), 14) ∷ (ltb work (workLength (decode b)), 15) ∷ [])
+    unfolding chooseNo chooseChecks inputNo
+    past = first-after (inputChecks b cat) _ (input-numbered b cat) none
 
-    module _ (catalogue : catNo cat ≡ 0) where
-      past : chooseNo b cat room work ≡ firstNo ((ltb room (chooseLength (countOf (decode b))), 14) ∷ (ltb work (workLength (decode b)), 15) ∷ [])
-      unfolding chooseNo chooseChecks
-      past = by-rest b cat _ job catalogue
+    pub choose-short : room < chooseLength (countOf (decode b)) → chooseNo b cat room work ≡ 14
+    choose-short h = past ∙ first-found 14 _ (lt-ltb room (chooseLength (countOf (decode b))) h)
 
-      pub choose-short : room < chooseLength (countOf (decode b)) → chooseNo b cat room work ≡ 14
-      choose-short h = past ∙ first-found 14 _ (lt-ltb room (chooseLength (countOf (decode b))) h)
+    module _ (fits : chooseLength (countOf (decode b)) ≤ room) where
+      last : chooseNo b cat room work ≡ firstNo ((ltb work (workLength (decode b)), 15) ∷ [])
+      last = past ∙ first-next 14 _ (le-ltb room (chooseLength (countOf (decode b))) fits)
 
-      module _ (fits : chooseLength (countOf (decode b)) ≤ room) where
-        last : chooseNo b cat room work ≡ firstNo ((ltb work (workLength (decode b)), 15) ∷ [])
-        last = past ∙ first-next 14 _ (le-ltb room (chooseLength (countOf (decode b))) fits)
+      pub choose-narrow : work < workLength (decode b) → chooseNo b cat room work ≡ 15
+      choose-narrow h = last ∙ first-found 15 [] (lt-ltb work (workLength (decode b)) h)
 
-        pub choose-narrow : work < workLength (decode b) → chooseNo b cat room work ≡ 15
-        choose-narrow h = last ∙ first-found 15 [] (lt-ltb work (workLength (decode b)) h)
-
-        pub choose-ready : workLength (decode b) ≤ work → chooseNo b cat room work ≡ 0
-        choose-ready h = last ∙ first-next 15 [] (le-ltb work (workLength (decode b)) h) ∙ first-none
+      pub choose-ready : workLength (decode b) ≤ work → chooseNo b cat room work ≡ 0
+      choose-ready h = last ∙ first-next 15 [] (le-ltb work (workLength (decode b)) h) ∙ first-none

@@ -50,8 +50,9 @@ use Rattle.catalogue.specs.Reading.{between, servesAt, readRows}
 use Rattle.heads.specs.Signed.{greater, clamped}
 use Rattle.heads.specs.Heads.{pathFrom, pathOf, reachOf, greatestTo, requiredOf, pumpOf, lowestTo, dictatingOf}
 use Rattle.rating.specs.Losses.{listOk, readingOf, overAt, overAny, lossOf, lossAt, lossesOf}
-use Rattle.rating.specs.Calls.{rateChecks, rateNo}
+use Rattle.rating.specs.Calls.{inputChecks, rateChecks, rateNo}
 use Rattle.rating.proofs.Named.{list-long, list-names}
+use Rattle.rating.proofs.Both.{input-cat}
 use Rattle.choosing.specs.Suitable.{Suitable, priceAt, costOf}
 use Rattle.choosing.specs.Calls.{chooseChecks, chooseNo, chooseBytes, Chosen}
 use Rattle.choosing.specs.OwnCase.{jobOf, ownCat, ownJob, job921, job920, Ample, OwnCase}
@@ -112,7 +113,7 @@ none-suits y s = apart (rw (only-two 3 152 y s) at (s .head)) (computed .short)
 -- the call on either job, with enough of both buffers
 module _ {out₀ work₀ : List ℕ} where
   ready : (b : List ℕ) → jobNo b ≡ 0 → Ample b out₀ work₀ → chooseNo b ownCat (length out₀) (length work₀) ≡ 0
-  ready b e a = choose-ready b ownCat (length out₀) (length work₀) e (computed .listed) (a .result) (a .space)
+  ready b e a = choose-ready b ownCat (length out₀) (length work₀) (input-cat b ownCat e ∙ computed .listed) (a .result) (a .space)
 
   gives-bytes : {out work : List ℕ} {n : ℕ} → Ample job921 out₀ work₀ → Chosen job921 ownCat out₀ work₀ out work n → (n ≡ 0) × (out ≡ stored out₀ 0 (0 ∷ 1 ∷ 251 ∷ 208 ∷ 2 ∷ []))
   gives-bytes a c =
@@ -127,7 +128,7 @@ module _ {out₀ work₀ : List ℕ} where
 
 -- the rest is computed too, but for the two statements over every list
 pub own-case : OwnCase
-unfolding computed dayNorms drawSumOf hourOf dayOf meanOf clamped pumpOf lowestTo dictatingOf rateChecks rateNo chooseChecks chooseNo
+unfolding computed dayNorms drawSumOf hourOf dayOf meanOf clamped pumpOf lowestTo dictatingOf inputChecks rateChecks rateNo chooseChecks chooseNo
 own-case =
     record {
       job = computed .own;

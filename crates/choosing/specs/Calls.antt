@@ -13,8 +13,7 @@ use Rattle.wire.specs.Wire.{bytesOf}
 use Rattle.fields.specs.declared.Job.{Job}
 use Rattle.fields.specs.Fields.{countOf}
 use Rattle.record.specs.Record.{decode}
-use Rattle.flow.specs.Calls.{jobChecks}
-use Rattle.catalogue.specs.Rules.{catChecks}
+use Rattle.rating.specs.Calls.{inputChecks}
 use Rattle.choosing.specs.Suitable.{Suitable, costOf}
 
 -- the length of a choosing result for S sections
@@ -25,10 +24,10 @@ chooseLength count = 4 + count
 abbrev pub workLength : Job → ℕ
 workLength job = 4 * ((countOf job + 1) * (job .head .delivered + 1001))
 
--- 1 to 9, 10, 11, 14, 15: what is checked before the search
+-- 1 to 11, 14, 15: what is checked before the search
 unfoldable pub chooseChecks : List ℕ → List ℕ → ℕ → ℕ → List (Bool × ℕ)
 chooseChecks b cat room work =
-    jobChecks b ++ (catChecks cat ++ ((ltb room (chooseLength (countOf (decode b))), 14) ∷ (ltb work (workLength (decode b)), 15) ∷ []))
+    inputChecks b cat ++ ((ltb room (chooseLength (countOf (decode b))), 14) ∷ (ltb work (workLength (decode b)), 15) ∷ [])
 
 -- the number of the first that finds something, 0 where none does
 unfoldable pub chooseNo : List ℕ → List ℕ → ℕ → ℕ → ℕ

@@ -1,4 +1,4 @@
-pub mod Inputs
+pub mod Both
 pub mod Ordering
 pub mod LossBounds
 pub mod Named

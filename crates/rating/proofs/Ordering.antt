@@ -7,44 +7,37 @@ use Prim.Native.Nat.{ℕ, _≤_, _<_}
 use lib.Dec.{ltb}
 use borrow.Author.Tests.{lt-ltb, le-ltb}
 use Rattle.answer.specs.Checks.{firstNo}
-use Rattle.answer.proofs.First.{first-none, first-found, first-next}
+use Rattle.answer.proofs.First.{first-none, first-found, first-next, first-after, first-before}
 use Rattle.fields.specs.Fields.{countOf}
 use Rattle.record.specs.Record.{decode}
-use Rattle.flow.specs.Calls.{jobNo}
-use Rattle.catalogue.specs.Rules.{catNo}
 use Rattle.rating.specs.Losses.{listOk, overAny}
-use Rattle.rating.specs.Calls.{rateLength, rateChecks, rateNo}
-use Rattle.rating.proofs.Inputs.{by-job, by-cat, by-rest}
+use Rattle.rating.specs.Calls.{inputChecks, inputNo, rateLength, rateChecks, rateNo}
+use Rattle.rating.proofs.Both.{input-numbered}
 
 module _ (b cat list : List ℕ) (room : ℕ) where
-  pub rate-job : (jobNo b ≡ 0 → ⊥) → rateNo b cat list room ≡ jobNo b
-  unfolding rateNo rateChecks
-  rate-job n = by-job b cat _ n
+  pub rate-inputs : (inputNo b cat ≡ 0 → ⊥) → rateNo b cat list room ≡ inputNo b cat
+  unfolding rateNo rateChecks inputNo
+  rate-inputs n = first-before (inputChecks b cat) _ (input-numbered b cat) n
 
-  module _ (job : jobNo b ≡ 0) where
-    pub rate-cat : (catNo cat ≡ 0 → ⊥) → rateNo b cat list room ≡ catNo cat
-    unfolding rateNo rateChecks
-    rate-cat n = by-cat b cat _ job n
+  module _ (none : inputNo b cat ≡ 0) where
+    past : rateNo b cat list room ≡
+        firstNo ((not (listOk (decode b) cat list), 12) ∷ (ltb room (rateLength (countOf (decode b))), 14) ∷ (overAny (decode b) cat list, 13) ∷ [])
+    unfolding rateNo rateChecks inputNo
+    past = first-after (inputChecks b cat) _ (input-numbered b cat) none
 
-    module _ (catalogue : catNo cat ≡ 0) where
-      past : rateNo b cat list room ≡
-          firstNo ((not (listOk (decode b) cat list), 12) ∷ (ltb room (rateLength (countOf (decode b))), 14) ∷ (overAny (decode b) cat list, 13) ∷ [])
-      unfolding rateNo rateChecks
-      past = by-rest b cat _ job catalogue
+    pub rate-list : listOk (decode b) cat list ≡ false → rateNo b cat list room ≡ 12
+    rate-list e = past ∙ first-found 12 _ (rw e)
 
-      pub rate-list : listOk (decode b) cat list ≡ false → rateNo b cat list room ≡ 12
-      rate-list e = past ∙ first-found 12 _ (rw e)
+    module _ (named : listOk (decode b) cat list ≡ true) where
+      pub rate-short : room < rateLength (countOf (decode b)) → rateNo b cat list room ≡ 14
+      rate-short h = past ∙ first-next 12 _ (rw named) ∙ first-found 14 _ (lt-ltb room (rateLength (countOf (decode b))) h)
 
-      module _ (named : listOk (decode b) cat list ≡ true) where
-        pub rate-short : room < rateLength (countOf (decode b)) → rateNo b cat list room ≡ 14
-        rate-short h = past ∙ first-next 12 _ (rw named) ∙ first-found 14 _ (lt-ltb room (rateLength (countOf (decode b))) h)
+      module _ (fits : rateLength (countOf (decode b)) ≤ room) where
+        over : rateNo b cat list room ≡ firstNo ((overAny (decode b) cat list, 13) ∷ [])
+        over = past ∙ first-next 12 _ (rw named) ∙ first-next 14 _ (le-ltb room (rateLength (countOf (decode b))) fits)
 
-        module _ (fits : rateLength (countOf (decode b)) ≤ room) where
-          over : rateNo b cat list room ≡ firstNo ((overAny (decode b) cat list, 13) ∷ [])
-          over = past ∙ first-next 12 _ (rw named) ∙ first-next 14 _ (le-ltb room (rateLength (countOf (decode b))) fits)
+        pub rate-over : overAny (decode b) cat list ≡ true → rateNo b cat list room ≡ 13
+        rate-over e = over ∙ first-found 13 [] e
 
-          pub rate-over : overAny (decode b) cat list ≡ true → rateNo b cat list room ≡ 13
-          rate-over e = over ∙ first-found 13 [] e
-
-          pub rate-done : overAny (decode b) cat list ≡ false → rateNo b cat list room ≡ 0
-          rate-done e = over ∙ first-next 13 [] e ∙ first-none
+        pub rate-done : overAny (decode b) cat list ≡ false → rateNo b cat list room ≡ 0
+        rate-done e = over ∙ first-next 13 [] e ∙ first-none

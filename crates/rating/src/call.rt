@@ -1,4 +1,5 @@
 // The rating call.
+use crate::inputs::accept_both;
 use crate::refusal::Outcome;
 use crate::refusal::refused;
 use crate::result::put_result;
@@ -19,14 +20,10 @@ pub fn outcome(b: &[u8], cat: &[u8], list: &[u8], room: usize) -> Outcome
     ensures rated { λ r. ⌜ (numberOf (r .answer) ≡ 0 → RatedJob (now (b .entry)) (now (cat .entry)) (now (list .entry)) room (r .job) (r .velocities) (r .losses)) ⌝ }
     ensures refused { λ r. ⌜ ((numberOf (r .answer) ≡ 0 → ⊥) → Blank (r .job) (r .velocities) (r .losses)) ⌝ }
 {
-    let accepted = flow::accept(b);
+    let accepted = accept_both(b, cat);
     let answer = accepted.answer;
     if answer::number(answer) != 0 {
         return refused(answer);
-    }
-    let listed = catalogue::catalogue_refusal(cat);
-    if answer::number(listed) != 0 {
-        return refused(listed);
     }
     let job = accepted.job;
     if !list_ok(job, cat, list) {

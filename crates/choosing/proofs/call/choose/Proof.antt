@@ -14,117 +14,97 @@ use Rattle.record.specs.Record.{decode}
 use Rattle.demand.specs.Demand.{Accepted}
 use Rattle.demand.proofs.Ruling.{ruled-count}
 use Rattle.rules.proofs.HeadBounds.{head-in}
-use Rattle.flow.specs.Calls.{jobNo}
-use Rattle.flow.proofs.Accepting.{accept-fields, accept-accepted}
-use Rattle.catalogue.specs.Rules.{catNo}
-use Rattle.catalogue.proofs.Listed.{listed-of}
+use Rattle.rating.specs.Calls.{inputNo}
+use Rattle.rating.proofs.Both.{input-fields, input-accepted, input-listed}
 use Rattle.choosing.specs.Calls.{chooseLength, workLength, chooseNo}
-use Rattle.choosing.proofs.Ordering.{choose-job, choose-cat, choose-short, choose-narrow, choose-ready}
+use Rattle.choosing.proofs.Ordering.{choose-inputs, choose-short, choose-narrow, choose-ready}
 use Rattle.choosing.proofs.Promised.{chosen-refused, chosen-none, chosen-least}
 use Rattle.choosing.proofs.call.choose.Statement.{statement}
 use Rattle.choosing.proofs.call.choose.Tie as tie
 
--- 1 to 9
-found : (c : tie.After-number) → c .number .result ≡ jobNo (c .before .before .before .before .before .before .args .b .now)
-found c = c .number .ensures ∙ c .before .accept .ensures .0
+-- 1 to 11
+found : (c : tie.After-number) → c .number .result ≡ inputNo (c .before .before .before .before .before .before .args .b .now) (c .before .before .before .before .before .before .args .cat .now)
+found c = c .number .ensures ∙ c .before .accept-both .ensures .0
 
 returns : tie.Need-returns
 returns c =
-    let no = c .before .before .accept .ensures .0 in
-    chosen-refused (no ∙ sym (choose-job _ _ _ _ (λ e. c .if1 .taken (found (c .before) ∙ e)))) (λ e. c .if1 .taken (c .before .number .ensures ∙ e))
+    let no = c .before .before .accept-both .ensures .0 in
+    chosen-refused (no ∙ sym (choose-inputs _ _ _ _ (λ e. c .if1 .taken (found (c .before) ∙ e)))) (λ e. c .if1 .taken (c .before .number .ensures ∙ e))
 
-passed : (c : tie.Else1) → jobNo (c .before .before .before .before .before .before .before .args .b .now) ≡ 0
+passed : (c : tie.Else1) → inputNo (c .before .before .before .before .before .before .before .args .b .now) (c .before .before .before .before .before .before .before .args .cat .now) ≡ 0
 passed c = sym (found (c .before)) ∙ c .if1 .left
 
-fields : (c : tie.Else1) → c .before .before .accept .result .job ≡ decode (c .before .before .before .before .before .before .before .args .b .now)
-fields c = c .before .before .accept .ensures .1 ∙ accept-fields _ (passed c)
+fields : (c : tie.Else1) → c .before .before .accept-both .result .job ≡ decode (c .before .before .before .before .before .before .before .args .b .now)
+fields c = c .before .before .accept-both .ensures .1 ∙ input-fields _ _ (passed c)
 
-accepted : (c : tie.Else1) → Accepted (c .before .before .accept .result .job)
-accepted c = rw (fields c) (accept-accepted _ (passed c))
+accepted : (c : tie.Else1) → Accepted (c .before .before .accept-both .result .job)
+accepted c = rw (fields c) (input-accepted _ _ (passed c))
 
--- 10 and 11
-listing : (c : tie.After-number2) → c .number2 .result ≡ catNo (c .before .before .before .before .before .before .before .before .before .args .cat .now)
-listing c = c .number2 .ensures ∙ c .before .catalogue-refusal .ensures
+-- 14
+count : (c : tie.Else1) → countOf (c .before .before .accept-both .result .job) ≡ countOf (decode (c .before .before .before .before .before .before .before .args .b .now))
+count c = ap (λ (job : Job). job .head .sections) (fields c)
 
 returns-2 : tie.Need-returns-2
 returns-2 c =
-    let at = c .before in
-    chosen-refused
-    (at .before .catalogue-refusal .ensures ∙ sym (choose-cat _ _ _ _ (passed (at .before .before)) (λ e. c .if2 .taken (listing at ∙ e))))
-    (λ e. c .if2 .taken (at .number2 .ensures ∙ e))
+    let one = c .before .before .before in
+    chosen-refused (sym (choose-short _ _ _ _ (passed one) (rw (← count one) (omega arith)))) (λ z. omega arith)
 
-listed : (c : tie.Else2) → catNo (c .before .before .before .before .before .before .before .before .before .before .args .cat .now) ≡ 0
-listed c = sym (listing (c .before)) ∙ c .if2 .left
-
--- 14
-count : (c : tie.Else1) → countOf (c .before .before .accept .result .job) ≡ countOf (decode (c .before .before .before .before .before .before .before .args .b .now))
-count c = ap (λ (job : Job). job .head .sections) (fields c)
-
-returns-3 : tie.Need-returns-3
-returns-3 c =
-    let two = c .before .before .before in
-    let one = two .before .before .before in
-    chosen-refused (sym (choose-short _ _ _ _ (passed one) (listed two) (rw (← count one) (omega arith)))) (λ z. omega arith)
-
-room : (c : tie.Else3) → chooseLength (countOf (decode (c .before .before .before .before .before .before .before .before .before .before .before .before .before .args .b .now))) ≤ length (c .before .before .before .before .before .before .before .before .before .before .before .before .before .args .out .now)
-room c = rw (← count (c .before .before .before .before .before .before)) (omega arith)
+room : (c : tie.Else2) → chooseLength (countOf (decode (c .before .before .before .before .before .before .before .before .before .before .args .b .now))) ≤ length (c .before .before .before .before .before .before .before .before .before .before .args .out .now)
+room c = rw (← count (c .before .before .before)) (omega arith)
 
 -- 15
-space : (c : tie.Else1) → (countOf (c .before .before .accept .result .job) + 1) * (c .before .before .accept .result .job .head .delivered + 1001) ≤ 448064
+space : (c : tie.Else1) → (countOf (c .before .before .accept-both .result .job) + 1) * (c .before .before .accept-both .result .job .head .delivered + 1001) ≤ 448064
 space c =
     let r = accepted c .ruled in
     mul-le-mul {n₂ = 64} {m₂ = 7001} (omega (arith, ruled-count r .high)) (omega (arith, head-in _ (r .head) .delivered))
 
-needed : (c : tie.Else1) → workLength (c .before .before .accept .result .job) ≡ workLength (decode (c .before .before .before .before .before .before .before .args .b .now))
+needed : (c : tie.Else1) → workLength (c .before .before .accept-both .result .job) ≡ workLength (decode (c .before .before .before .before .before .before .before .args .b .now))
 needed c = ap workLength (fields c)
 
-returns-4 : tie.Need-returns-4
-returns-4 c =
-    let three = c .before .before in
-    let two = three .before .before .before in
+returns-3 : tie.Need-returns-3
+returns-3 c =
+    let two = c .before .before in
     let one = two .before .before .before in
-    chosen-refused (sym (choose-narrow _ _ _ _ (passed one) (listed two) (room three) (rw (← needed one) (c .if4 .taken)))) (λ z. omega arith)
+    chosen-refused (sym (choose-narrow _ _ _ _ (passed one) (room two) (rw (← needed one) (c .if3 .taken)))) (λ z. omega arith)
 
-ready : (c : tie.Else4) → chooseNo (c .before .before .before .before .before .before .before .before .before .before .before .before .before .before .before .args .b .now) (c .before .before .before .before .before .before .before .before .before .before .before .before .before .before .before .args .cat .now) (length (c .before .before .before .before .before .before .before .before .before .before .before .before .before .before .before .args .out .now)) (length (c .before .before .before .before .before .before .before .before .before .before .before .before .before .before .before .args .work .now)) ≡ 0
+ready : (c : tie.Else3) → chooseNo (c .before .before .before .before .before .before .before .before .before .before .before .before .args .b .now) (c .before .before .before .before .before .before .before .before .before .before .before .before .args .cat .now) (length (c .before .before .before .before .before .before .before .before .before .before .before .before .args .out .now)) (length (c .before .before .before .before .before .before .before .before .before .before .before .before .args .work .now)) ≡ 0
 ready c =
-    let three = c .before .before in
-    let two = three .before .before .before in
+    let two = c .before .before in
     let one = two .before .before .before in
-    choose-ready _ _ _ _ (passed one) (listed two) (room three) (rw (← needed one) (c .if4 .left))
+    choose-ready _ _ _ _ (passed one) (room two) (rw (← needed one) (c .if3 .left))
 
 cheapest-requires : tie.Need-cheapest-requires
 cheapest-requires c κs =
-    let two = c .before .before .before .before .before .before in (accepted (two .before .before .before), listed-of _ (listed two), c .before .if4 .left)
+    let one = c .before .before .before .before .before .before in (accepted one, input-listed _ _ (passed one), c .before .if3 .left)
 
 -- 16
-returns-5 : tie.Need-returns-5
-returns-5 c =
+returns-4 : tie.Need-returns-4
+returns-4 c =
     let search = c .before .before .before .before in
-    let four = search .before .before in
-    let one = four .before .before .before .before .before .before .before .before in
-    chosen-none (ready four) (rw (fields one) at (search .cheapest .ensures .0 (not-true (search .cheapest .result .found) (c .if5 .taken))))
+    let three = search .before .before in
+    let one = three .before .before .before .before .before in
+    chosen-none (ready three) (rw (fields one) at (search .cheapest .ensures .0 (not-true (search .cheapest .result .found) (c .if4 .taken))))
 
 put-result-requires : tie.Need-put-result-requires
 put-result-requires c κs =
-    let four = c .before .before .before .before .before .before .before .before in
-    let one = four .before .before .before .before .before .before .before .before in
-    (ruled-count (accepted one .ruled) .high, rw (count one) (room (four .before .before)))
+    let three = c .before .before .before .before .before .before .before .before in
+    let one = three .before .before .before .before .before in
+    (ruled-count (accepted one .ruled) .high, rw (count one) (room (three .before .before)))
 
 -- the result
-returns-6 : tie.Need-returns-6
-returns-6 c =
-    let five = c .before .before .before .before .before in
-    let search = five .before .before .before .before in
-    let four = search .before .before in
-    let one = four .before .before .before .before .before .before .before .before in
-    let none = one .before .before .accept .ensures .0 ∙ passed one in
-    let least = search .cheapest .ensures .1 (not-false (search .cheapest .result .found) (five .if5 .left)) in
-    chosen-least (ready four) none (rw (fields one) at least) (c .before .before .put-result .ensures ∙ rw (count one))
+returns-5 : tie.Need-returns-5
+returns-5 c =
+    let four = c .before .before .before .before .before in
+    let search = four .before .before .before .before in
+    let three = search .before .before in
+    let one = three .before .before .before .before .before in
+    let none = one .before .before .accept-both .ensures .0 ∙ passed one in
+    let least = search .cheapest .ensures .1 (not-false (search .cheapest .result .found) (four .if4 .left)) in
+    chosen-least (ready three) none (rw (fields one) at least) (c .before .before .put-result .ensures ∙ rw (count one))
 
 pub choose-spec : {M : Type 1} → statement M
 choose-spec =
     tie.close
-    (tie.spec (λ c κs. search needs) (λ c κs. search needs) returns (λ c κs. search needs) (λ c κs. search needs) returns-2
-    (λ c. search needs) (λ c. search needs) returns-3 (λ c. search needs) (λ c. search needs) (λ c. search needs) (λ c. omega (arith, space (c .before .before .before .before .before .before .before)))
-    (λ c. omega (arith, space (c .before .before .before .before .before .before .before))) returns-4
-    cheapest-requires (λ c. search needs) returns-5 put-result-requires (λ c. search needs) (λ c. search needs) returns-6)
+    (tie.spec (λ c κs. search needs) (λ c κs. search needs) returns (λ c. search needs) (λ c. search needs) returns-2 (λ c. search needs)
+    (λ c. search needs) (λ c. search needs) (λ c. omega (arith, space (c .before .before .before .before))) (λ c. omega (arith, space (c .before .before .before .before))) returns-3
+    cheapest-requires (λ c. search needs) returns-4 put-result-requires (λ c. search needs) (λ c. search needs) returns-5)
