@@ -2,9 +2,10 @@
 -- Assumes nothing.
 use mathlib.Core.Path.{_≡_, refl, sym, _∙_}
 use mathlib.Core.Logic.{⊎-elim}
-use Prim.Native.Nat.{ℕ, zero, suc, _≤_, _<_, min}
+use Prim.Native.Nat.{ℕ, zero, suc, _+_, _≤_, _<_, min}
 use native.Mathlib.Nat.{eq-or-lt-of-le}
 use native.Mathlib.Omega.{arith}
+use native.Mathlib.Numerals.{add-one}
 use Rattle.search.specs.Plan.{top, leastTo}
 
 -- the definition's clauses
@@ -15,6 +16,9 @@ least-none f = refl
 pub least-more : (n : ℕ) (f : ℕ → ℕ) → leastTo (suc n) f ≡ min (leastTo n f) (f (suc n))
 unfolding leastTo
 least-more n f = refl
+
+pub least-next : (n : ℕ) (f : ℕ → ℕ) → leastTo (n + 1) f ≡ min (leastTo n f) (f (n + 1))
+least-next n f = rw add-one (least-more n f)
 
 -- functions with the same values have the same least
 pub least-ext : (n : ℕ) (f g : ℕ → ℕ) → ((t : ℕ) → 0 < t → t ≤ n → f t ≡ g t) → leastTo n f ≡ leastTo n g
@@ -28,3 +32,7 @@ least-le zero f t p l = absurd (omega arith)
 least-le (suc n) f t p l =
     rw (least-more n f)
     (⊎-elim (λ e. rw e (omega arith)) (λ m. omega (arith, least-le n f t p (omega arith))) (eq-or-lt-of-le l))
+
+pub least-most : (n : ℕ) (f : ℕ → ℕ) → leastTo n f ≤ top
+least-most zero f = rw (least-none f) (omega arith)
+least-most (suc n) f = rw (least-more n f) (omega (arith, least-most n f))

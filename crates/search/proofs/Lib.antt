@@ -9,3 +9,4 @@ pub mod Steps
 pub mod Reading
 pub mod Workspace
 pub mod Turns
+pub mod Offers

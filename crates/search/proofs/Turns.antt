@@ -1,22 +1,16 @@
 -- One turn of the loops that pick the cheapest size and raise a row, and what they start from.
 -- Assumes nothing.
-use mathlib.Core.Path.{_≡_, refl, sym, ap, _∙_}
-use mathlib.Core.Bool.{cond}
+use mathlib.Core.Path.{_≡_, refl, sym, _∙_}
 use mathlib.Core.List.{List}
 use Prim.Native.Nat.{ℕ, suc, _+_, _-_, _*_, _≤_, _<_, min}
 use native.Mathlib.Omega.{arith}
 use native.Mathlib.Numerals.{add-one}
-use lib.Dec.{leb}
-use lib.ListN.{length}
 use borrow.Author.Count.{below-more}
 use borrow.Author.Tests.{le-leb, lt-leb}
-use Rattle.basis.specs.Stored.{stored}
-use Rattle.wire.specs.Wire.{bytesOf}
-use Rattle.search.specs.Plan.{top, leastTo}
-use Rattle.search.specs.Cells.{cellAt}
+use Rattle.search.specs.Plan.{top}
+use Rattle.search.specs.Cells.{cellAt, Written}
 use Rattle.search.specs.Shape.{optionAt, rowAt, «from», Picked, Raised}
-use Rattle.search.proofs.Least.{least-none, least-more, least-ext}
-use Rattle.search.proofs.Workspace.{cell-same, cell-other}
+use Rattle.search.proofs.Least.{least-none, least-more}
 
 -- an option that leaves the need, and one that does not
 module _ (loss cost : ℕ → ℕ) (need : ℕ) (v : ℕ → ℕ → ℕ) (h t : ℕ) where
@@ -32,13 +26,6 @@ pub option-read : (losses costs ws : List ℕ) (at need row stride h t l k v : �
     optionAt («from» losses at) («from» costs at) need (rowAt ws row stride) h t ≡ k + v
 option-read losses costs ws at need row stride h t l k v el ek ev b =
     option-met («from» losses at) («from» costs at) need (rowAt ws row stride) h t (omega arith) ∙ cc
-
--- rows with the same cells have the same least
-pub least-rows : (loss cost : ℕ → ℕ) (need n h : ℕ) (v w : ℕ → ℕ → ℕ) → ((t x : ℕ) → v t x ≡ w t x) →
-    leastTo n (optionAt loss cost need v h) ≡ leastTo n (optionAt loss cost need w h)
-least-rows loss cost need n h v w e =
-    least-ext n (optionAt loss cost need v h) (optionAt loss cost need w h)
-    (λ t a b. ap (λ (k : ℕ). cond (leb (loss t + need) h) (cost t + k) top) (e t (h - loss t)))
 
 pub picked-none : (f : ℕ → ℕ) → Picked 0 f top 0
 picked-none f = record { is = sym (least-none f); most = omega arith; low = λ m. absurd (omega arith); high = omega arith; at = λ m. absurd (omega arith) }
@@ -60,23 +47,18 @@ pub raised-none : (ws : List ℕ) (up : ℕ) (f : ℕ → ℕ) → Raised ws ws 
 raised-none ws up f = record { within = λ h b. absurd (omega arith); below = λ j b. refl; above = λ j b. refl }
 
 -- one cell more
-pub raised-more : (ws₀ ws : List ℕ) (up h v : ℕ) (f : ℕ → ℕ) → 4 * (up + h) + 4 ≤ length ws → v ≡ min top (cellAt ws (up + h) + f h) →
-    Raised ws₀ ws up h f → Raised ws₀ (stored ws (4 * (up + h)) (bytesOf 4 v)) up (h + 1) f
-raised-more ws₀ ws up h v f fits e r =
+pub raised-more : (ws₀ ws ws′ : List ℕ) (up h v : ℕ) (f : ℕ → ℕ) → Written ws ws′ (up + h) v → v ≡ min top (cellAt ws (up + h) + f h) →
+    Raised ws₀ ws up h f → Raised ws₀ ws′ up (h + 1) f
+raised-more ws₀ ws ws′ up h v f w e r =
     record {
-      within = below-more (λ x. cellAt (stored ws (4 * (up + h)) (bytesOf 4 v)) (up + x) ≡ min top (cellAt ws₀ (up + x) + f x)) h
-          (λ x b. cell-other ws (up + h) v fits (up + x) (λ i. omega arith) ∙ r .within x b)
-          (cell-same ws (up + h) v fits (omega arith) ∙ e ∙ rw (r .above (up + h) (omega arith)));
-      below = λ j b. cell-other ws (up + h) v fits j (λ i. omega arith) ∙ r .below j b;
-      above = λ j b. cell-other ws (up + h) v fits j (λ i. omega arith) ∙ r .above j (omega arith);
+      within = below-more (λ x. cellAt ws′ (up + x) ≡ min top (cellAt ws₀ (up + x) + f x)) h
+          (λ x b. w .rest (up + x) (λ i. omega arith) ∙ r .within x b)
+          (w .is ∙ e ∙ rw (r .above (up + h) (omega arith)));
+      below = λ j b. w .rest j (λ i. omega arith) ∙ r .below j b;
+      above = λ j b. w .rest j (λ i. omega arith) ∙ r .above j (omega arith);
     }
 
--- the turn that adds the size picked: the section's rows lie above the row that is raised, so that they are still as they were
-pub raised-turn : (ws₀ ws ws′ : List ℕ) (loss cost : ℕ → ℕ) (need row stride n up h c t old v : ℕ) → up + h ≤ row →
-    4 * (up + h) + 4 ≤ length ws → Raised ws₀ ws up h (λ x. leastTo n (optionAt loss cost need (rowAt ws₀ row stride) x)) →
-    Picked n (optionAt loss cost need (rowAt ws row stride) h) c t → old ≡ cellAt ws (up + h) → v ≡ min top (old + c) →
-    ws′ ≡ stored ws (4 * (up + h)) (bytesOf 4 v) → Raised ws₀ ws′ up (h + 1) (λ x. leastTo n (optionAt loss cost need (rowAt ws₀ row stride) x))
-raised-turn ws₀ ws ws′ loss cost need row stride n up h c t old v a fits r p eo ev es =
-    let same : c ≡ leastTo n (optionAt loss cost need (rowAt ws₀ row stride) h) =
-    p .is ∙ least-rows loss cost need n h (rowAt ws row stride) (rowAt ws₀ row stride) (λ u x. r .above (row + u * stride + x) (omega arith)) in
-    rw es (raised-more ws₀ ws up h v _ fits (ev ∙ rw (eo, same)) r)
+-- the same costs from elsewhere
+pub raised-same : (ws ws′ : List ℕ) (up width : ℕ) (f g : ℕ → ℕ) → ((h : ℕ) → h < width → f h ≡ g h) → Raised ws ws′ up width f → Raised ws ws′ up width g
+raised-same ws ws′ up width f g e r =
+    record { within = λ h b. r .within h b ∙ rw (e h b); below = r .below; above = r .above }

@@ -49,6 +49,13 @@ pub record Picked (n : ℕ) (f : ℕ → ℕ) (c t : ℕ) : Type 0 where
   pub high : t ≤ n
   pub at : c < top → f t ≡ c
 
+-- f is offered to the places from `start` to `width`: each keeps the least, at most top, and no other changes
+pub record Offered (before after : List ℕ) (start width : ℕ) (f : ℕ → ℕ) : Type 0 where
+  pub long : length after ≡ length before
+  pub within : (h : ℕ) → start ≤ h → h < width → getD after h 0 ≡ min (getD before h 0) (min top (f h))
+  pub below : (h : ℕ) → h < start → getD after h 0 ≡ getD before h 0
+  pub above : (h : ℕ) → width ≤ h → getD after h 0 ≡ getD before h 0
+
 -- f is added to the `width` cells from `up` on, and no other cell changes
 pub record Raised (before after : List ℕ) (up width : ℕ) (f : ℕ → ℕ) : Type 0 where
   pub within : (h : ℕ) → h < width → cellAt after (up + h) ≡ min top (cellAt before (up + h) + f h)

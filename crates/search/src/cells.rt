@@ -1,26 +1,44 @@
-// The workspace as cells of four bytes each.
+// The workspace as cells of four bytes each, the low byte first: so a compiler reads and writes several cells at once.
 ghost use mathlib.Core.Path.{_≡_};
 ghost use Prim.Native.Nat.{ℕ, _+_, _*_, _≤_, _<_};
 ghost use lib.ListN.{length};
-ghost use Rattle.basis.specs.Stored.{stored};
-ghost use Rattle.wire.specs.Wire.{bytesOf};
 ghost use Rattle.search.specs.Plan.{top};
-ghost use Rattle.search.specs.Cells.{cellAt};
+ghost use Rattle.search.specs.Cells.{cellAt, Written};
+
+fn wide(x: u8) -> u32
+    ensures { λ r. ⌜ (r ≡ x) × (r < 256) ⌝ }
+{
+    x as u32
+}
 
 // Cell k.
+pub fn get(ws: &[u8], k: usize) -> u32
+    requires { ⌜ 4 * k + 4 ≤ length (now ws) ⌝ }
+    ensures { λ r. ⌜ (r ≡ cellAt (now (ws .entry)) k) × (r ≤ top) ⌝ }
+{
+    wide(ws[4 * k])
+        + wide(ws[4 * k + 1]) * 256
+        + wide(ws[4 * k + 2]) * 65536
+        + wide(ws[4 * k + 3]) * 16777216
+}
+
+// Cell k as a wider number.
 pub fn cell(ws: &[u8], k: usize) -> usize
     requires { ⌜ 4 * k + 4 ≤ length (now ws) ⌝ }
     ensures { λ r. ⌜ (r ≡ cellAt (now (ws .entry)) k) × (r ≤ top) ⌝ }
 {
-    wire::be32(ws, 4 * k) as usize
+    get(ws, k) as usize
 }
 
 // Writes v to cell k.
-pub fn put_cell(ws: &mut [u8], k: usize, v: usize)
-    requires { ⌜ (4 * k + 4 ≤ length (now ws)) × (v ≤ top) ⌝ }
-    ensures { λ _. ⌜ now (ws .exit) ≡ stored (now (ws .entry)) (4 * k) (bytesOf 4 v) ⌝ }
+pub fn put(ws: &mut [u8], k: usize, v: u32)
+    requires { ⌜ 4 * k + 4 ≤ length (now ws) ⌝ }
+    ensures { λ _. ⌜ Written (now (ws .entry)) (now (ws .exit)) k v ⌝ }
 {
-    wire::put_be32(ws, 4 * k, v as u32);
+    ws[4 * k] = (v % 256) as u8;
+    ws[4 * k + 1] = (v / 256 % 256) as u8;
+    ws[4 * k + 2] = (v / 65536 % 256) as u8;
+    ws[4 * k + 3] = (v / 16777216) as u8;
 }
 
 // Writes 0 to the first n cells.

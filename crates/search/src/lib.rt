@@ -1,4 +1,5 @@
 // The cheapest sizes for the sections of a tree, over a lent workspace.
+mod best;
 mod cells;
 mod recover;
 mod rows;

@@ -1,9 +1,11 @@
 // The rows of the workspace, filled from the last section to the first.
+use crate::best::MARK;
+use crate::best::add;
+use crate::best::offer;
 use crate::cells::cell;
 use crate::cells::clear;
-use crate::cells::put_cell;
 ghost use mathlib.Core.Path.{_≡_};
-ghost use Prim.Native.Nat.{_+_, _*_, _≤_, _<_, min};
+ghost use Prim.Native.Nat.{_+_, _*_, _≤_, _<_};
 ghost use lib.ListN.{length};
 ghost use Rattle.search.specs.Plan.{top, leastTo};
 ghost use Rattle.search.specs.Shape.{netOf, Sound, optionAt, rowAt, «from», Picked, Raised, Holds};
@@ -34,12 +36,6 @@ pub fn wide32(x: u32) -> usize
     ensures { λ r. ⌜ (r ≡ x) × (r ≤ top) ⌝ }
 {
     x as usize
-}
-
-fn capped(x: usize) -> usize
-    ensures { λ r. ⌜ r ≡ min top x ⌝ }
-{
-    if x < TOP { x } else { TOP }
 }
 
 // The cheapest of the sizes 1 to n at the head h.
@@ -82,16 +78,20 @@ pub fn raise(
     up: usize,
     width: usize,
 )
-    requires { ⌜ (s .at + n < 832) × (s .need ≤ top) × (up + width ≤ s .row) × (4 * (s .row + n * s .stride + width) ≤ length (now ws)) ⌝ }
+    requires { ⌜ (s .at + n < 832) × (s .need ≤ top) × (up + width ≤ s .row) × (4 * (s .row + n * s .stride + width) ≤ length (now ws)) × (width ≤ 7001) ⌝ }
     ensures { λ _. ⌜ (length (now (ws .exit)) ≡ length (now (ws .entry))) × Raised (now (ws .entry)) (now (ws .exit)) up width (λ h. leastTo n (optionAt («from» (now (losses .entry)) (s .at)) («from» (now (costs .entry)) (s .at)) (s .need) (rowAt (now (ws .entry)) (s .row) (s .stride)) h)) ⌝ }
 {
-    let mut h: usize = 0;
-    while h < width {
-        let b = cheapest(ws, losses, costs, s, n, h);
-        let old = cell(ws, up + h);
-        put_cell(ws, up + h, capped(old + b.cost));
-        h += 1;
+    let at = s.at;
+    let need = s.need;
+    let mut best = [MARK; 7001];
+    let mut t = 0;
+    while t < n {
+        t += 1;
+        let loss = wide32(losses[at + t]);
+        let row = s.row + t * s.stride;
+        offer(ws, &mut best, row, loss, costs[at + t], need, width);
     }
+    add(ws, &best, up, width);
 }
 
 // All rows: each section is added to its parent's, the last first, so that its own row is complete by then.

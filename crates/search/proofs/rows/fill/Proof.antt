@@ -54,6 +54,7 @@ raise-requires c κs =
       omega arith,
       rows-apart (c .wide8 .result) (g .loop .s) (b .args .width) (parent-low c),
       omega (arith, row-fits (g .loop .s) (b .args .sections) (b .args .width) (g .loop .inv .0)),
+      omega arith,
     )
 
 loop-again : tie.Need-loop-again Inv-loop μ-loop
