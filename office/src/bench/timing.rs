@@ -5,29 +5,35 @@ use std::time::{Duration, Instant};
 
 pub type Side<'a> = &'a mut dyn FnMut();
 
-const ROUNDS: usize = 21;
-/// A side is called again and again for at least this long in each round.
-const TURN: Duration = Duration::from_millis(4);
+const ROUNDS: usize = 15;
+/// In each round a side runs so often, and its best time counts: the others are those in which the machine did something
+/// else.
+const TRIES: usize = 6;
+/// Short calls are repeated for at least this long in one try.
+const TRY: Duration = Duration::from_micros(300);
 
 /// The time of one call in nanoseconds, by side and round.
 pub fn race(sides: &mut [Side]) -> Vec<Vec<f64>> {
-    let calls: Vec<u32> = sides.iter_mut().map(calls_in_a_turn).collect();
+    let calls: Vec<u32> = sides.iter_mut().map(calls_in_a_try).collect();
     let mut times = vec![Vec::new(); sides.len()];
     for _ in 0..ROUNDS {
         for (side, run) in sides.iter_mut().enumerate() {
-            let start = Instant::now();
-            (0..calls[side]).for_each(|_| run());
-            times[side].push(start.elapsed().as_nanos() as f64 / f64::from(calls[side]));
+            let tries = (0..TRIES).map(|_| {
+                let start = Instant::now();
+                (0..calls[side]).for_each(|_| run());
+                start.elapsed().as_nanos() as f64 / f64::from(calls[side])
+            });
+            times[side].push(tries.fold(f64::INFINITY, f64::min));
         }
     }
     times
 }
 
 /// This also warms the caches up.
-fn calls_in_a_turn(side: &mut Side) -> u32 {
+fn calls_in_a_try(side: &mut Side) -> u32 {
     let start = Instant::now();
     let mut calls = 0;
-    while start.elapsed() < TURN {
+    while start.elapsed() < TRY {
         side();
         calls += 1;
     }
