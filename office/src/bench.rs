@@ -106,7 +106,11 @@ fn choosing(load: &Load) -> String {
 fn other(call: Call, sections: usize) -> String {
     let mut case = Load { sections, head: 3_000, sizes: 12, pipes: Pipes::AllServe }.case();
     case.call = call;
-    case.sizes = (0..sections).map(|place| (place % 12) as u8 + 1).collect();
+    match call {
+        // The flow call takes no catalogue, so the model is given none to read.
+        Call::Flow => case.cat.clear(),
+        _ => case.sizes = (0..sections).map(|place| (place % 12) as u8 + 1).collect(),
+    }
     case.out.length = result_bytes(call, sections);
     let mut out = vec![0; case.out.length];
     let judged = judge(&case);
