@@ -98,12 +98,7 @@ impl Fenced {
 fn agree(case: &Case, judged: &Judged) -> Result<String, String> {
     let before = case.clone();
     let (mut out, mut work) = (Fenced::of(&case.out), Fenced::of(&case.work));
-    let number = match case.call {
-        Call::Copy => ffi::copy(&case.job, out.lent()),
-        Call::Flow => ffi::flow(&case.job, out.lent()),
-        Call::Rate => ffi::rate(&case.job, &case.cat, &case.sizes, out.lent()),
-        Call::Choose => ffi::choose(&case.job, &case.cat, work.lent(), out.lent()),
-    };
+    let number = call(case, out.lent(), work.lent());
     if number != judged.number {
         return Err(format!("the library gives {number}, the model {}", judged.number));
     }
@@ -113,19 +108,8 @@ fn agree(case: &Case, judged: &Judged) -> Result<String, String> {
     if !out.fences_stand() || !work.fences_stand() {
         return Err("the library wrote outside of a buffer".to_string());
     }
-    let mut expected = Vec::new();
-    case.out.fill(&mut expected);
     let given = out.lent();
-    match &judged.result {
-        Expected::Nothing => {}
-        Expected::Bytes(bytes) => expected[..bytes.len()].copy_from_slice(bytes),
-        Expected::Rated(rating) => expected[..9 + 6 * judged.flows.len()].copy_from_slice(&rating.bytes()),
-        Expected::Chosen { cost, .. } => {
-            let result = &given[..4 + judged.flows.len()];
-            chosen_well(judged, *cost, result)?;
-            expected[..result.len()].copy_from_slice(result);
-        }
-    }
+    let expected = expected_result(case, judged, given)?;
     if given != expected {
         let place = given.iter().zip(&expected).position(|(given, expected)| given != expected).unwrap_or(0);
         let (given, expected) = (given[place], expected[place]);
@@ -140,6 +124,33 @@ fn agree(case: &Case, judged: &Judged) -> Result<String, String> {
     }
     let result = if number == 0 { &given[..model::result_bytes(case.call, judged.house.sections.len())] } else { &[] };
     Ok(format!("number {number}, result {result:?}"))
+}
+
+/// The library's number for a case.
+fn call(case: &Case, out: &mut [u8], work: &mut [u8]) -> u32 {
+    match case.call {
+        Call::Copy => ffi::copy(&case.job, out),
+        Call::Flow => ffi::flow(&case.job, out),
+        Call::Rate => ffi::rate(&case.job, &case.cat, &case.sizes, out),
+        Call::Choose => ffi::choose(&case.job, &case.cat, work, out),
+    }
+}
+
+/// The result buffer as the model has it. A list that choosing gave stands there itself once it is found good.
+fn expected_result(case: &Case, judged: &Judged, given: &[u8]) -> Result<Vec<u8>, String> {
+    let mut expected = Vec::new();
+    case.out.fill(&mut expected);
+    match &judged.result {
+        Expected::Nothing => {}
+        Expected::Bytes(bytes) => expected[..bytes.len()].copy_from_slice(bytes),
+        Expected::Rated(rating) => expected[..9 + 6 * judged.flows.len()].copy_from_slice(&rating.bytes()),
+        Expected::Chosen { cost, .. } => {
+            let result = &given[..4 + judged.flows.len()];
+            chosen_well(judged, *cost, result)?;
+            expected[..result.len()].copy_from_slice(result);
+        }
+    }
+    Ok(expected)
 }
 
 /// The cost is the least, and the list, which may be any of the cheapest, suits at that cost.

@@ -89,25 +89,10 @@ pub fn judge(case: &Case) -> Judged {
         faults.join(cat.faults());
     }
     let order = Order { house: &house, cat: &cat, flows: &flows };
-    let mut result = Expected::Nothing;
-    match case.call {
-        Call::Copy if !faults.any() => result = Expected::Bytes(case.job.clone()),
-        Call::Flow if !faults.any() => result = Expected::Bytes(flow_bytes(&demand, &flows)),
-        Call::Rate => {
-            faults.note(12, order.list_wrong(&case.sizes));
-            if !faults.any() {
-                match order.rate(&case.sizes) {
-                    Some(rating) => result = Expected::Rated(rating),
-                    None => faults.note(13, true),
-                }
-            }
-        }
-        Call::Choose if !faults.any() => match fronts::least(&order) {
-            Some((cost, list)) => result = Expected::Chosen { cost, list },
-            None => faults.note(16, true),
-        },
-        _ => {}
+    if case.call == Call::Rate {
+        faults.note(12, order.list_wrong(&case.sizes));
     }
+    let mut result = if faults.any() { Expected::Nothing } else { result_of(case, &order, &demand, &mut faults) };
     let sections = house.sections.len();
     faults.note(14, case.out.length < result_bytes(case.call, sections));
     if case.call == Call::Choose {
@@ -118,6 +103,28 @@ pub fn judge(case: &Case) -> Judged {
         result = Expected::Nothing;
     }
     Judged { house, demand, cat, flows, faults, number, result }
+}
+
+/// The result of inputs in which nothing was found so far, or 13 or 16.
+fn result_of(case: &Case, order: &Order, demand: &Demand, faults: &mut Faults) -> Expected {
+    match case.call {
+        Call::Copy => Expected::Bytes(case.job.clone()),
+        Call::Flow => Expected::Bytes(flow_bytes(demand, order.flows)),
+        Call::Rate => match order.rate(&case.sizes) {
+            Some(rating) => Expected::Rated(rating),
+            None => {
+                faults.note(13, true);
+                Expected::Nothing
+            }
+        },
+        Call::Choose => match fronts::least(order) {
+            Some((cost, list)) => Expected::Chosen { cost, list },
+            None => {
+                faults.note(16, true);
+                Expected::Nothing
+            }
+        },
+    }
 }
 
 impl Judged {
