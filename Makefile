@@ -44,7 +44,7 @@ target/built: $(shell find crates office/src office/Cargo.toml -type f)
 	{ rt check sheet && rt staticlib order && cargo build --release --offline --manifest-path office/Cargo.toml; } > target/built.log 2>&1 || { tail -n 40 target/built.log; exit 1; }
 	touch target/built
 
-# Reads the record of an example and prints its fields.
+# Document 01's own case through the test program: fields, record, flows, rating and cheapest sizes.
 example:
 	@mkdir -p target
 	rt check vectors > target/example.log 2>&1 || { cat target/example.log; exit 1; }

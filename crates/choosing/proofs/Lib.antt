@@ -5,4 +5,5 @@ pub mod Placed
 pub mod Entries
 pub mod Drawing
 pub mod Ordering
+pub mod Whole
 pub mod Worked

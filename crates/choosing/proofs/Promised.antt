@@ -1,4 +1,4 @@
--- What the search finds is what document 01 promises: no list that suits, or one that no list that suits undercuts.
+-- What the search finds is what document 01 promises: no list that suits, or one of least cost.
 -- Assumes nothing.
 use mathlib.Core.Path.{_≡_, refl, _∙_}
 use mathlib.Core.Logic.{inl, inr}

@@ -54,8 +54,8 @@ use Rattle.rating.specs.Calls.{inputChecks, rateChecks, rateNo}
 use Rattle.rating.proofs.Named.{list-long, list-names}
 use Rattle.rating.proofs.Both.{input-cat}
 use Rattle.choosing.specs.Suitable.{Suitable, priceAt, costOf}
-use Rattle.choosing.specs.Calls.{chooseChecks, chooseNo, chooseBytes, Chosen}
-use Rattle.choosing.specs.OwnCase.{jobOf, ownCat, ownJob, job921, job920, Ample, OwnCase}
+use Rattle.choosing.specs.Calls.{Ample, chooseChecks, chooseNo, chooseBytes, Chosen}
+use Rattle.choosing.specs.OwnCase.{jobOf, ownCat, ownJob, job921, job920, OwnCase}
 use Rattle.choosing.proofs.Ordering.{choose-ready}
 
 -- size 1 is over the limit, whatever H is
@@ -126,7 +126,7 @@ module _ {out₀ work₀ : List ℕ} where
   gives-16 a c =
       ⊎-elim (λ u. u .number) (λ f. absurd (none-suits (f .list) (f .suits))) (c .chosen (ready job920 (computed .accepted-920) a))
 
--- the rest is computed too, but for the two statements over every list
+-- the rest is computed too, but for the statements over every list and over the call
 pub own-case : OwnCase
 unfolding computed dayNorms drawSumOf hourOf dayOf meanOf clamped pumpOf lowestTo dictatingOf inputChecks rateChecks rateNo chooseChecks chooseNo
 own-case =

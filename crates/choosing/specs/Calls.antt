@@ -24,6 +24,11 @@ chooseLength count = 4 + count
 abbrev pub workLength : Job → ℕ
 workLength job = 4 * ((countOf job + 1) * (job .head .delivered + 1001))
 
+-- result space and workspace are enough when neither 14 nor 15 applies
+pub record Ample (b out work : List ℕ) : Type 0 where
+  pub result : chooseLength (countOf (decode b)) ≤ length out
+  pub space : workLength (decode b) ≤ length work
+
 -- 1 to 11, 14, 15: what is checked before the search
 unfoldable pub chooseChecks : List ℕ → List ℕ → ℕ → ℕ → List (Bool × ℕ)
 chooseChecks b cat room work =
@@ -43,7 +48,7 @@ pub record Unsuitable (job : Job) (cat before after : List ℕ) (n : ℕ) : Type
   pub none : (y : List ℕ) → Suitable job cat y → ⊥
   pub kept : after ≡ before
 
--- a result: one list stands behind cost and sizes; it suits, and every list that suits costs at least as much
+-- a result: cost and sizes are those of one list; it suits, and every list that suits costs at least as much
 pub record Cheapest (job : Job) (cat before after : List ℕ) (n : ℕ) : Type 0 where
   pub number : n ≡ 0
   pub list : List ℕ

@@ -4,9 +4,7 @@ use mathlib.Core.Path.{_≡_}
 use mathlib.Core.List.{List, [], _∷_}
 use Prim.Native.Nat.{ℕ, _≤_}
 use lib.IntN.{pos}
-use lib.ListN.{length}
 use Rattle.basis.specs.Stored.{stored}
-use Rattle.fields.specs.Fields.{countOf}
 use Rattle.record.specs.Record.{decode}
 use Rattle.tree.specs.Tree.{servedOf, houseOf}
 use Rattle.coefficient.specs.Alpha.{alphaOf}
@@ -17,7 +15,7 @@ use Rattle.heads.specs.Heads.{requiredOf, pumpOf, dictatingOf}
 use Rattle.rating.specs.Losses.{readingOf, lossAt, lossesOf}
 use Rattle.rating.specs.Calls.{rateNo}
 use Rattle.choosing.specs.Suitable.{Suitable, costOf}
-use Rattle.choosing.specs.Calls.{chooseLength, workLength, chooseNo, Chosen}
+use Rattle.choosing.specs.Calls.{Ample, chooseNo, Chosen}
 
 -- the job's bytes, with the two of H left open: head, residents and the one section
 abbrev pub jobOf : ℕ → ℕ → List ℕ
@@ -42,11 +40,6 @@ job921 = jobOf 3 153
 
 abbrev pub job920 : List ℕ
 job920 = jobOf 3 152
-
--- result space and workspace are enough when neither 14 nor 15 applies
-pub record Ample (b out work : List ℕ) : Type 0 where
-  pub result : chooseLength (countOf (decode b)) ≤ length out
-  pub space : workLength (decode b) ≤ length work
 
 -- what document 01 says of its own case
 pub record OwnCase : Type 0 where

@@ -63,7 +63,7 @@ pub record Ended (job : Job) (parents needs : List ℕ) : Type 0 where
   pub parent : (i : ℕ) → 0 < i → i ≤ countOf job → getD parents i 0 ≡ sectionOf job i .parent
   pub need : (i : ℕ) → 0 < i → i ≤ countOf job → pos (getD needs i 0) ≡ sectionOf job i .elevation +ℤ pos (sectionOf job i .free + shift)
 
--- a list that suits at the cost c, which no list that suits undercuts
+-- a list that suits, at the cost c, and no list that suits costs less
 pub record Least (job : Job) (cat : List ℕ) (c : ℕ) (list : List ℕ) : Type 0 where
   pub suits : Suitable job cat list
   pub cost : c ≡ costOf job cat list

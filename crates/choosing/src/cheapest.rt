@@ -15,7 +15,7 @@ ghost use Rattle.choosing.specs.Suitable.{Suitable};
 ghost use Rattle.choosing.specs.Calls.{workLength};
 ghost use Rattle.choosing.specs.Shape.{Least};
 
-// Heads of the search are 1,000 cm more than the job's, so that none is negative.
+// A cheapest suitable list, found over the lent workspace. Heads of the search are 1,000 cm more than the job's, so that none is negative.
 pub fn cheapest(job: Job, cat: &[u8], work: &mut [u8]) -> Choice
     requires { ⌜ Accepted job × Listed (now cat) × (workLength job ≤ length (now work)) ⌝ }
     ensures none { λ r. ⌜ (r .found ≡ false → (y : List ℕ) → Suitable job (now (cat .entry)) y → ⊥) ⌝ }

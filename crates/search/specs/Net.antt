@@ -49,11 +49,11 @@ unfoldable pub greatestTo : ℕ → (ℕ → ℕ) → ℕ
 greatestTo zero f = 0
 greatestTo (suc n) f = max (greatestTo n f) (f (suc n))
 
--- the least head at the pump with which a list gives each end what it needs
+-- the greatest of path loss + need: the least head at the pump with which a list gives each end what it needs
 unfoldable pub requiredOf : Net → List ℕ → ℕ
 requiredOf N z = greatestTo (N .sections) (λ s. pathLoss N (sizeOf z) s + N .need s)
 
--- a list that suits, and that no list that suits undercuts
+-- a list that suits, and no list that suits costs less
 pub record Best (N : Net) (a : ℕ) (z : List ℕ) : Type 0 where
   pub suits : Suits N a z
   pub least : (y : List ℕ) → Suits N a y → costOf N z ≤ costOf N y

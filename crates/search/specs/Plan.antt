@@ -40,7 +40,7 @@ module _ {X : Type 0} (P : Plan X) where
   rows zero p x = 0
   rows (suc k) p x = added (P .sections - k) (rows k) p x
 
-  -- row p after all sections above s
+  -- row p after all sections of higher numbers than s
   unfoldable pub cell : ℕ → ℕ → X → ℕ
   cell s = rows (P .sections - s)
 

@@ -23,7 +23,7 @@ netOf sections sizes parents needs losses costs =
       cost = λ s t. getD costs (s * 13 + t) 0;
     }
 
--- the workspace has a row of `width` cells for the pump and for each section, and the pump's head is one of its columns
+-- the workspace has a row of `width` cells, at most 7,001, for the pump and for each section, and the pump's head is one of its columns
 pub record Spacious (sections width a : ℕ) (ws : List ℕ) : Type 0 where
   pub rows : 4 * ((sections + 1) * width) ≤ length ws
   pub column : a < width
@@ -62,7 +62,7 @@ pub record Raised (before after : List ℕ) (up width : ℕ) (f : ℕ → ℕ) :
   pub below : (j : ℕ) → j < up → cellAt after j ≡ cellAt before j
   pub above : (j : ℕ) → up + width ≤ j → cellAt after j ≡ cellAt before j
 
--- each row holds what the plan says after all sections above s
+-- each row holds what the plan says after all sections of higher numbers than s
 pub record Holds (N : Net) (width : ℕ) (ws : List ℕ) (s : ℕ) : Type 0 where
   pub at : (p h : ℕ) → p ≤ N .sections → h < width → cellAt ws (p * width + h) ≡ cell (planOf N) s p h
 
@@ -73,7 +73,7 @@ pub record Sound (N : Net) : Type 0 where
   pub lower : (s : ℕ) → 0 < s → s ≤ N .sections → N .parent s < s
   pub cheap : (s t : ℕ) → 0 < s → s ≤ N .sections → 0 < t → t ≤ N .sizes → N .cost s t ≤ 50000000
 
--- a list behind cost and head: it suits at the head a, no list that suits costs less, and this is its cost and the least head that it needs
+-- a list that suits at the head a, at the least cost of those that do, with that cost and the least head that the list needs
 pub record Found (N : Net) (a c h : ℕ) (z : List ℕ) : Type 0 where
   pub best : Best N a z
   pub cost : c ≡ costOf N z

@@ -1,4 +1,4 @@
-// The workspace as cells of four bytes each, the low byte first: so a compiler reads and writes several cells at once.
+// The workspace as cells of four bytes each, the low byte first: so that compiled code reads and writes several cells at once.
 ghost use mathlib.Core.Path.{_≡_};
 ghost use Prim.Native.Nat.{ℕ, _+_, _*_, _≤_, _<_};
 ghost use lib.ListN.{length};

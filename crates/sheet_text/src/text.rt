@@ -23,7 +23,7 @@ pub fn put_word(out: &mut [u8], at: usize, word: &[u8]) -> usize
     at + word.len()
 }
 
-// A figure: that of its tenth, where it has one, and then its last digit.
+// A figure: the digits of its tenth part, where that is not 0, and then its last digit.
 fn put_decimal(out: &mut [u8], at: usize, n: u32) -> usize
     requires { ⌜ at + 10 ≤ length (now out) ⌝ }
     ensures { λ r. ⌜ Wrote 10 (now (out .entry)) (now (out .exit)) at r (decimal n) ⌝ }
