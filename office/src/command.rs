@@ -15,7 +15,7 @@ mod trials;
 
 use arguments::Arguments;
 use outcome::{Misuse, Outcome};
-use std::io::Write;
+use std::io::{ErrorKind, Write};
 use std::process::ExitCode;
 
 /// Runs one command and gives its status.
@@ -24,11 +24,23 @@ pub fn run(words: &[String]) -> ExitCode {
         Ok(outcome) => outcome,
         Err(Misuse(text)) => Outcome::misuse(&text),
     };
-    // Who closes the pipe early has read enough.
-    let _ = std::io::stdout().write_all(&outcome.output);
-    let _ = std::io::stdout().flush();
+    let lost = said(&outcome.output).err();
+    // A warning that can't be written has nowhere else to go; the status says it too.
     let _ = std::io::stderr().write_all(outcome.warning.as_bytes());
-    ExitCode::from(outcome.status)
+    let Some(why) = lost else { return ExitCode::from(outcome.status) };
+    let lost = Outcome::misuse(&format!("the answer can't be written to standard output: {why}"));
+    let _ = std::io::stderr().write_all(lost.warning.as_bytes());
+    ExitCode::from(lost.status)
+}
+
+/// Writes to standard output. Who closes the pipe early has read enough; on a full disk the answer is lost, and a script
+/// must not take what is there for the whole of it.
+fn said(output: &[u8]) -> std::io::Result<()> {
+    let mut out = std::io::stdout().lock();
+    match out.write_all(output).and_then(|()| out.flush()) {
+        Err(why) if why.kind() == ErrorKind::BrokenPipe => Ok(()),
+        other => other,
+    }
 }
 
 fn perform(arguments: &Arguments) -> Result<Outcome, Misuse> {

@@ -1,0 +1,48 @@
+//! The command where things go wrong around it: full disks, odd file names, files as other programs save them.
+
+#[path = "tools/run.rs"]
+mod run;
+
+use run::{office, office_with, read, scratch, top};
+use std::process::{Command, Stdio};
+
+const HOUSE: &str = "examples/house.txt";
+const TABLE: &str = "examples/table.csv";
+
+#[test]
+fn a_lost_answer_is_no_success() {
+    // The device on which every write fails; not every system has it.
+    if !std::path::Path::new("/dev/full").exists() {
+        return;
+    }
+    let refused = ["flow", "examples/mistakes/circle.txt"];
+    let ways: [&[&str]; 6] =
+        [&["pack", HOUSE], &["flow", HOUSE], &["choose", HOUSE, TABLE, "--json"], &["help"], &["soak", "3"], &refused];
+    for words in ways {
+        let full = std::fs::File::options().write(true).open("/dev/full").expect("it can be opened");
+        let ran = Command::new(env!("CARGO_BIN_EXE_office")).args(words).current_dir(top()).stdout(full).output();
+        let ran = ran.expect("the command starts");
+        let said = String::from_utf8_lossy(&ran.stderr).into_owned();
+        assert_eq!(ran.status.code(), Some(2), "{words:?}: {said}");
+        assert!(said.contains("office: the answer can't be written to standard output: "), "{words:?}: {said}");
+    }
+}
+
+#[test]
+fn who_closes_the_pipe_early_has_read_enough() {
+    let mut child = Command::new(env!("CARGO_BIN_EXE_office"))
+        .args(["flow", "-"])
+        .current_dir(top())
+        .stdin(Stdio::piped())
+        .stdout(Stdio::piped())
+        .stderr(Stdio::piped())
+        .spawn()
+        .expect("the command starts");
+    // It answers only when its input has ended, and by then nobody listens.
+    drop(child.stdout.take());
+    let mut input = child.stdin.take().expect("its input is a pipe");
+    std::io::Write::write_all(&mut input, read(HOUSE).as_bytes()).expect("it reads");
+    drop(input);
+    let ran = child.wait_with_output().expect("the command ends");
+    assert_eq!((ran.status.code(), ran.stderr.as_slice()), (Some(0), &b""[..]));
+}
