@@ -46,3 +46,18 @@ fn who_closes_the_pipe_early_has_read_enough() {
     let ran = child.wait_with_output().expect("the command ends");
     assert_eq!((ran.status.code(), ran.stderr.as_slice()), (Some(0), &b""[..]));
 }
+
+#[test]
+fn the_mark_in_front_of_utf_8_is_no_letter() {
+    let marked = |text: &str| [b"\xef\xbb\xbf", text.as_bytes()].concat();
+    for comment in ["", "# sizes of the shop\n", "# sizes, bores; prices\n"] {
+        let table = marked(&format!("{comment}{}", read(TABLE)));
+        assert_eq!(office_with(&["pack", "-"], &table).output, office(&["pack", TABLE]).output, "{comment}");
+        let house = marked(&format!("{comment}{}", read(HOUSE)));
+        assert_eq!(office_with(&["pack", "-"], &house).output, office(&["pack", HOUSE]).output, "{comment}");
+    }
+    let sizes = scratch("marked.sizes");
+    std::fs::write(&sizes, marked("6,6,6,6,6,6,6,6,6,6,6,6")).expect("written");
+    let rated = office(&["rate", HOUSE, TABLE, &format!("@{sizes}")]);
+    assert_eq!(rated.status, 0, "{}", rated.error);
+}

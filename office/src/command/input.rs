@@ -41,7 +41,14 @@ pub fn text(bytes: &[u8]) -> Option<String> {
     let control = |byte: &u8| (*byte < 0x20 && !b"\t\n\r\x0c".contains(byte)) || *byte == 0x7f;
     let letters = bytes.iter().filter(|byte| byte.is_ascii()).count();
     let plain = std::str::from_utf8(bytes).is_ok() || letters > bytes.len() / 2;
-    (plain && !bytes.is_empty() && !bytes.iter().any(control)).then(|| String::from_utf8_lossy(bytes).into_owned())
+    (plain && !bytes.is_empty() && !bytes.iter().any(control)).then(|| unmarked(bytes))
+}
+
+/// The text without the mark that some editors put in front of UTF-8. It goes before anybody looks at the first line, or a
+/// comment there would be no comment.
+fn unmarked(bytes: &[u8]) -> String {
+    let text = String::from_utf8_lossy(bytes);
+    text.strip_prefix('\u{feff}').unwrap_or(&text).to_string()
 }
 
 /// Whether a readable file is a table: its first line that says something has cells.
