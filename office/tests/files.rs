@@ -309,3 +309,45 @@ fn mistakes_in_a_table_name_their_line() {
     assert!(table::pack("# nothing\n").expect_err("no header").wrong.contains("no header line"));
     assert!(table::pack(&format!("rows,3\n{SIZES}")).expect_err("rows").wrong.contains("says 3"));
 }
+
+/// The mistake that the own catalogue gives with semicolons and one text put for another.
+fn with_semicolons(from: &str, to: &str) -> Mistake {
+    let text = SIZES.replace(',', ";");
+    assert!(text.contains(from), "{from}");
+    table::pack(&text.replacen(from, to, 1)).expect_err(to)
+}
+
+#[test]
+fn a_file_has_one_separator() {
+    let decimal = with_semicolons("1;40;900;1000;800;40", "1;20;250;100;318,5;11");
+    assert_eq!(decimal.line.as_ref().map(|(number, _)| *number), Some(3));
+    assert_eq!(decimal.wrong, "`318,5` for `velocity mm/s` has a comma");
+    assert!(decimal.expected.starts_with("a whole number from 0 to 65535, nothing between thousands; "), "{decimal}");
+    let short = with_semicolons("1;40;900;1000;800;40", "1;20;300;100;31,8");
+    assert_eq!(short.wrong, "`31,8` for `velocity mm/s` has a comma");
+    let mixed = with_semicolons("1;40;900;1000;800;40", "1,40,900,1000,800,40");
+    assert!(mixed.wrong.contains("`size` has a comma") && mixed.expected.contains("parted by semicolons"), "{mixed}");
+    let header = with_semicolons("bore mm;price", "bore mm,price");
+    assert_eq!(header.wrong, "`bore mm,price` is no column of a table");
+    let turned = table::pack(&SIZES.replacen("1,40,900,1000,800,40", "1;40;900;1000;800;40", 1)).expect_err("mixed");
+    assert!(turned.expected.ends_with("cells are parted by commas, as in the file's first line"), "{turned}");
+}
+
+#[test]
+fn quotation_marks_hold_a_cell_together() {
+    let quoted = table::pack(&SIZES.replacen("1300", "\"1,300\"", 1)).expect_err("a comma");
+    assert_eq!(quoted.line.as_ref().map(|(number, _)| *number), Some(5));
+    assert_eq!(quoted.wrong, "`1,300` for `price` has a comma");
+    assert_eq!(quoted.expected, "a whole number from 0 to 65535, nothing between thousands");
+    let all: String = SIZES
+        .lines()
+        .map(|line| {
+            if line.starts_with('#') { format!("{line}\n") } else { format!("\"{}\"\n", line.replace(',', "\" , \"")) }
+        })
+        .collect();
+    assert_eq!(table::pack(&all), table::pack(SIZES));
+    for odd in ["\"1300", "1300\"", "13\"00"] {
+        let mistake = table::pack(&SIZES.replacen("1300", odd, 1)).expect_err(odd);
+        assert_eq!(mistake.line.as_ref().map(|(number, _)| *number), Some(5), "{mistake}");
+    }
+}

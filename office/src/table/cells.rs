@@ -7,6 +7,7 @@ use crate::mistake::Mistake;
 pub struct Cells<'a> {
     pub line: usize,
     text: &'a str,
+    separator: char,
     pub cells: Vec<String>,
 }
 
@@ -14,11 +15,40 @@ pub struct Cells<'a> {
 /// cells, so a line of nothing but separators is empty too.
 pub fn lines(text: &str) -> impl Iterator<Item = Cells<'_>> {
     let text = text.strip_prefix('\u{feff}').unwrap_or(text);
-    text.lines().enumerate().filter_map(|(place, text)| {
-        let said = text.split('#').next().unwrap_or("");
-        let cells: Vec<String> = said.split([',', ';']).map(cell).collect();
-        cells.iter().any(|cell| !cell.is_empty()).then(|| Cells { line: place + 1, text, cells })
+    let separator = separator(text);
+    text.lines().enumerate().filter_map(move |(place, text)| {
+        let cells: Vec<String> = parts(uncommented(text), separator).into_iter().map(cell).collect();
+        cells.iter().any(|cell| !cell.is_empty()).then(|| Cells { line: place + 1, text, separator, cells })
     })
+}
+
+fn uncommented(line: &str) -> &str {
+    line.split('#').next().unwrap_or("")
+}
+
+/// The one separator of a file, which its first line shows. Where it is the semicolon, a comma is part of a number, and
+/// whoever took it for a separator too would read one number as two.
+fn separator(text: &str) -> char {
+    let says = |line: &&str| line.chars().any(|c| !c.is_whitespace() && !",;\"".contains(c));
+    let first = text.lines().map(uncommented).find(says).unwrap_or("");
+    if first.contains(';') { ';' } else { ',' }
+}
+
+/// The cells of a line. A separator between quotation marks parts nothing; a quotation mark counts at a cell's start only,
+/// since elsewhere it may be an inch.
+fn parts(line: &str, separator: char) -> Vec<&str> {
+    let mut found = Vec::new();
+    let (mut start, mut quoted) = (0, false);
+    for (at, c) in line.char_indices() {
+        if c == '"' && (quoted || line[start..at].trim().is_empty()) {
+            quoted = !quoted;
+        } else if c == separator && !quoted {
+            found.push(&line[start..at]);
+            start = at + c.len_utf8();
+        }
+    }
+    found.push(&line[start..]);
+    found
 }
 
 /// A cell without the blanks and the quotation marks around it, in lower case.
@@ -40,7 +70,7 @@ impl Cells<'_> {
 
     /// For each of `COLUMNS` its place in this header line.
     pub fn columns(&self) -> Result<[usize; COLUMNS.len()], Mistake> {
-        let expected = format!("`{}`", COLUMNS.join(","));
+        let expected = format!("`{}`", COLUMNS.join(&self.separator.to_string()));
         for cell in self.cells.iter().filter(|cell| !cell.is_empty()) {
             if !COLUMNS.contains(&cell.as_str()) {
                 return Err(self.mistake(format!("`{cell}` is no column of a table"), expected));
@@ -73,11 +103,30 @@ impl Cells<'_> {
             return Err(self.mistake(format!("`{what}` is empty"), expected));
         }
         if !text.bytes().all(|b| b.is_ascii_digit()) {
-            return Err(self.mistake(format!("`{text}` is no whole number for `{what}`"), expected));
+            return Err(self.no_number(text, what, expected));
         }
         match text.parse::<u32>() {
             Ok(value) if value <= most => Ok(value),
             _ => Err(self.mistake(format!("`{what}` {text} is more than its bytes can hold"), expected)),
         }
+    }
+
+    /// A cell that is no number. A comma may part thousands or decimals, and either separator may be meant as the file's.
+    fn no_number(&self, text: &str, what: &str, mut expected: String) -> Mistake {
+        let parted = match self.separator {
+            ';' => "cells are parted by semicolons, as in the file's first line",
+            _ => "cells are parted by commas, as in the file's first line",
+        };
+        if text.contains(',') {
+            expected.push_str(", nothing between thousands");
+        }
+        if text.contains([',', ';']) && !self.text.contains('"') {
+            expected = format!("{expected}; {parted}");
+        }
+        let wrong = match text.contains(',') {
+            true => format!("`{text}` for `{what}` has a comma"),
+            false => format!("`{text}` is no whole number for `{what}`"),
+        };
+        self.mistake(wrong, expected)
     }
 }
