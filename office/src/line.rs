@@ -65,7 +65,7 @@ impl Line<'_> {
     /// The next quantity with its unit, within what the bytes hold. `keywords` are the words that begin another field: one
     /// of them where a unit should stand means that the unit is missing.
     pub fn quantity(&mut self, what: &str, measure: &Measure, keywords: &[&str]) -> Result<i64, Mistake> {
-        let example = format!("for example `{what} {}`", measure.show(example_of(measure)));
+        let example = format!("for example `{what} {}`", measure.show(example_of(what, measure)));
         let Some(word) = self.word() else {
             return Err(self.mistake(format!("`{what}` has no number"), example));
         };
@@ -77,7 +77,7 @@ impl Line<'_> {
         let power = self.unit(what, measure, number, glued, keywords)?;
         let value = whole(number, power).map_err(|fault| self.fault(fault, what, measure, &word))?;
         if value < measure.least || value > measure.most {
-            return Err(self.too_great(what, measure, value));
+            return Err(self.too_great(what, measure, value, power));
         }
         Ok(value)
     }
@@ -90,31 +90,37 @@ impl Line<'_> {
         glued: &str,
         keywords: &[&str],
     ) -> Result<u32, Mistake> {
-        if let (Some(power), true) = (measure.power(""), glued.is_empty()) {
-            return Ok(power);
-        }
         let next = if glued.is_empty() { self.peek().unwrap_or("").to_string() } else { glued.to_string() };
-        if let Some(power) = measure.power(&next).filter(|_| !next.is_empty()) {
+        if let Some(power) = measure.power("") {
+            // Another word behind a bare number is the next field's, or one too many; a percent sign belongs to the number.
+            return if glued.is_empty() && next != "%" { Ok(power) } else { Err(self.unitless(what, measure, &next)) };
+        }
+        if let Some(power) = measure.power(&next) {
             self.at += usize::from(glued.is_empty());
             return Ok(power);
         }
-        let (first, _) = measure.units[0];
-        if first.is_empty() {
-            return Err(
-                self.mistake(format!("`{what}` has no unit, but `{next}` is given"), format!("`{what} {number}`"))
-            );
-        }
         if next.is_empty() || keywords.contains(&next.as_str()) {
             let wrong = format!("the unit of `{what} {number}` is missing");
-            return Err(self.mistake(wrong, format!("`{what} {number} {first}`; units: {}", measure.named())));
+            // Which unit was meant only the writer knows: any one put behind this number may be the wrong one.
+            let ways = measure.ways(example_of(what, measure));
+            return Err(self.mistake(wrong, format!("write a unit, for example {ways}")));
         }
         Err(self.mistake(format!("`{next}` is no unit of `{what}`"), measure.named()))
+    }
+
+    /// A unit where none is taken. The number in front of it counts something else, so it is not what to write.
+    fn unitless(&self, what: &str, measure: &Measure, unit: &str) -> Mistake {
+        let expected = match measure.counts {
+            "tenths" => format!("{what} as a part of one, {TAKEN}"),
+            _ => format!("a number alone, for example `{what} {}`", measure.show(example_of(what, measure))),
+        };
+        self.mistake(format!("`{what}` has no unit, but `{unit}` is given"), expected)
     }
 
     fn fault(&self, fault: Fault, what: &str, measure: &Measure, word: &str) -> Mistake {
         match fault {
             Fault::NoNumber => {
-                let example = measure.show(example_of(measure));
+                let example = measure.show(example_of(what, measure));
                 self.mistake(format!("`{word}` is no number for `{what}`"), format!("for example `{what} {example}`"))
             }
             Fault::Comma => self.mistake(
@@ -123,17 +129,24 @@ impl Line<'_> {
             ),
             Fault::TooFine => {
                 let wrong = format!("`{what} {word}` is finer than the record keeps");
-                self.mistake(wrong, format!("a whole number of {}", measure.counts))
+                let taken = if measure.counts == "tenths" { format!(", {TAKEN}") } else { String::new() };
+                self.mistake(wrong, format!("a whole number of {}{taken}", measure.counts))
             }
         }
     }
 
-    /// A value that the bytes can't hold. An elevation read as unsigned is so common that it gets its own advice.
-    fn too_great(&self, what: &str, measure: &Measure, value: i64) -> Mistake {
+    /// A value that the bytes can't hold. An elevation read as unsigned is so common that it gets its own advice, where it
+    /// was copied in the bytes' own unit and its signed reading is an elevation that the library takes.
+    fn too_great(&self, what: &str, measure: &Measure, value: i64, power: u32) -> Mistake {
         let shown = measure.show(value);
         let mut expected = measure.bounds();
-        if measure.least < 0 && (32_768..65_536).contains(&value) {
-            let meant = measure.show(value - 65_536);
+        if measure.counts == "tenths" {
+            expected = format!("{expected} in the bytes; {TAKEN}");
+        }
+        // Two bytes hold up to 65,535, so a signed reading is below 0; document 01's elevations begin at -1,000.
+        let signed = value - 65_536;
+        if measure.least < 0 && power == 0 && (-1_000..0).contains(&signed) {
+            let meant = measure.show(signed);
             expected = format!(
                 "{expected}; those two bytes read as signed are {meant}, write `{what} {meant}` if you mean it"
             );
@@ -142,14 +155,20 @@ impl Line<'_> {
     }
 }
 
+/// The local losses that the library takes: 20 and 30 percent, in the file's way of writing.
+const TAKEN: &str = "0.2 or 0.3";
+
 /// A plausible value for a message's example.
-fn example_of(measure: &Measure) -> i64 {
-    match measure.counts {
-        "cm" => 200,
-        "dm" => 125,
-        "mm/s" => 1_500,
-        "tenths" => 3,
-        "bytes" => 50,
+pub fn example_of(what: &str, measure: &Measure) -> i64 {
+    match (what, measure.counts) {
+        ("meter loss", _) => 50,
+        ("guaranteed head", _) => 500,
+        ("delivered head", _) => 1_200,
+        (_, "cm") => 200,
+        (_, "dm") => 125,
+        (_, "mm/s") => 1_500,
+        (_, "tenths") => 3,
+        (_, "bytes") => 50,
         _ => 24,
     }
 }

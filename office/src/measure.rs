@@ -55,6 +55,16 @@ impl Measure {
         self.units.iter().map(|(name, _)| *name).collect::<Vec<_>>().join(" or ")
     }
 
+    /// The quantity in each of its units, for a message: 1200 cm or 12 m.
+    pub fn ways(&self, value: i64) -> String {
+        let way = |(unit, power): &(&str, u32)| {
+            let number = shown(value, *power);
+            let short = if *power == 0 { &number } else { number.trim_end_matches('0').trim_end_matches('.') };
+            format!("{short} {unit}")
+        };
+        self.units.iter().map(way).collect::<Vec<_>>().join(" or ")
+    }
+
     /// The bounds of the bytes for a message.
     pub fn bounds(&self) -> String {
         let (unit, power) = self.units[0];
@@ -111,6 +121,15 @@ mod tests {
         for text in ["", ".", "-", "1.2.3", "1-2", "ten", "99999999999999999999"] {
             assert_eq!(whole(text, 1), Err(Fault::NoNumber), "{text}");
         }
+    }
+
+    #[test]
+    fn a_quantity_in_each_of_its_units() {
+        assert_eq!(HEAD.ways(1_200), "1200 cm or 12 m");
+        assert_eq!(HEAD.ways(50), "50 cm or 0.5 m");
+        assert_eq!(LENGTH.ways(125), "12.5 m or 125 dm");
+        assert_eq!(VELOCITY.ways(1_500), "1500 mm/s or 1.5 m/s");
+        assert_eq!(BYTES.ways(50), "50 bytes");
     }
 
     #[test]

@@ -169,7 +169,13 @@ const SLIPS_OF_THE_HOUSE: &[Slip] = &[
     ("hours 24", "hours 2.5", 3, "finer than", "whole number"),
     ("hours 24", "hours 24\nhours 24", 4, "`hours` is given twice", "the first is line 3"),
     ("local losses 0.3", "local losses 0.35", 2, "finer than", "whole number of tenths"),
-    ("meter loss 50 cm", "meter loss 50", 4, "the unit of `meter loss 50` is missing", "`meter loss 50 cm`"),
+    ("hours 24", "hours 1440min", 3, "`hours` has no unit, but `min` is given", "for example `hours 24`"),
+    ("local losses 0.3", "local losses 20%", 2, "no unit, but `%` is given", "0.2 or 0.3"),
+    ("local losses 0.3", "local losses 20 %", 2, "no unit, but `%` is given", "0.2 or 0.3"),
+    ("local losses 0.3", "local losses 30", 2, "is not what", "0.2 or 0.3"),
+    ("meter loss 50 cm", "meter loss 7", 4, "the unit of `meter loss 7` is missing", "example 50 cm or 0.5 m"),
+    ("delivered head 1200 cm", "delivered head 12", 6, "is missing", "write a unit, for example 1200 cm or 12 m"),
+    ("velocity limit 1500 mm/s", "velocity limit 1.5", 7, "is missing", "for example 1500 mm/s or 1.5 m/s"),
     ("meter loss 50 cm", "meter loss 50 bar", 4, "`bar` is no unit", "cm or m"),
     ("1200 cm", "1,200 cm", 6, "has a comma", "1200"),
     ("residents hotel-75 71", "residents hotel 71", 8, "`hotel` is no kind", "hotel-75"),
@@ -185,7 +191,7 @@ const SLIPS_OF_A_SECTION: &[Slip] = &[
     ("from pump", "from cellar", 9, "`from cellar`", "`from pump`"),
     ("from pump", "", 9, "the section has no `from`", "section 2 from 1"),
     ("kind hotel-75 f", "kind motel f", 9, "`motel` is no kind of consumer", "hospital"),
-    ("length 10 m", "length 10", 9, "the unit of `length 10` is missing", "`length 10 m`"),
+    ("length 10 m", "length 10", 9, "the unit of `length 10` is missing", "12.5 m or 125 dm"),
     ("length 10 m", "length 10.25 m", 9, "finer than", "whole number of dm"),
     ("length 10 m", "length 6553.6 m", 9, "`length 6553.6 m`", "0.0 to 6553.5 m"),
     ("length 10 m", "length -1 m", 9, "`length -1.0 m`", "0.0 to 6553.5 m"),
@@ -206,6 +212,25 @@ fn mistakes_name_their_line_and_what_is_wrong() {
     }
     let bare = mistake(OWN.lines().last().expect("a section"), "section");
     assert_eq!((bare.line.expect("a line").0, bare.wrong.as_str()), (9, "`section` has no number"));
+}
+
+/// Advice that the library would refuse, or that changes the size of what was meant, is worse than none.
+#[test]
+fn an_elevation_is_read_as_signed_only_where_that_is_likely() {
+    for (given, advised) in [
+        ("64536 cm", true),
+        ("65535 cm", true),
+        ("64535 cm", false),
+        ("40000 cm", false),
+        ("400 m", false),
+        ("652.86 m", false),
+        ("65536 cm", false),
+        ("-40000 cm", false),
+    ] {
+        let mistake = mistake("elevation 600 cm", &format!("elevation {given}"));
+        assert!(mistake.expected.starts_with("-32768 to 32767 cm"), "{mistake}");
+        assert_eq!(mistake.expected.contains("read as signed"), advised, "{mistake}");
+    }
 }
 
 #[test]

@@ -2,7 +2,7 @@
 
 use crate::at::{At, Field, Lines};
 use crate::kinds;
-use crate::line::Line;
+use crate::line::{Line, example_of};
 use crate::measure::{self, Measure};
 use crate::mistake::Mistake;
 use crate::record::Record;
@@ -69,7 +69,7 @@ impl Head {
     pub fn record(&self) -> Result<Record, Mistake> {
         for (value, (field, measure)) in self.values.iter().zip(FIELDS).skip(2) {
             if value.is_none() {
-                let example = measure.show(example(field));
+                let example = measure.show(example_of(field.name(), measure));
                 return Err(Mistake::lacking(
                     format!("the file has no line `{}`", field.name()),
                     format!("for example `{} {example}`", field.name()),
@@ -100,17 +100,6 @@ pub fn once(line: &Line, places: &mut Lines, at: At) -> Result<(), Mistake> {
     }
     places.note(at, line.number);
     Ok(())
-}
-
-fn example(field: Field) -> i64 {
-    match field {
-        Field::Losses => 3,
-        Field::Hours => 24,
-        Field::Meter => 50,
-        Field::Guaranteed => 500,
-        Field::Delivered => 1_200,
-        _ => 1_500,
-    }
 }
 
 /// The house's lines. The stated length and the version have a line only where they are not what packing would write.
