@@ -77,7 +77,11 @@ fn jobs() {
         section,
         "m is 1840741 millionths; the fixtures it serves, 18, carry at most 1800000",
     );
-    check(of_job(&with(&own, &[(43, 70)])), 9, At::House, "the hour's sum is 7100000 millionths");
+    let few = of_job(&with(&own, &[(43, 70)]));
+    check(few.clone(), 9, At::House, "the hour's sum is 7100000 millionths");
+    check(few.clone(), 9, At::House, "at least about 71 fixtures are needed");
+    check(few, 9, At::Residents(7), "they weigh most, 7100000 of 7100000 millionths: 71 residents, 70 fixtures");
+    assert!(calls::flow(&with(&own, &[(43, 71)])).is_ok(), "71 fixtures are enough");
 }
 
 #[test]
@@ -88,7 +92,21 @@ fn nine_from_a_section_alone() {
         section 2 from pump length 1 m elevation 0 cm kind offices fixtures 200 free 0 cm\n";
     let found = of_job(&house::pack(text).expect("a house"));
     assert!(found.1.iter().all(|place| place.at != At::House), "the house itself passes");
-    check(found, 9, At::Section(2), "200, carry at most 20000000");
+    check(found.clone(), 9, At::Section(2), "200, carry at most 20000000");
+    check(found.clone(), 9, At::Section(2), "over 200 fixtures are needed, where this rule ends");
+    check(found, 9, At::Residents(11), "3200 residents, 250 fixtures of theirs in the house");
+}
+
+#[test]
+fn nine_names_the_heaviest_kinds_only() {
+    let text = "local losses 0.3\nhours 24\nmeter loss 0 cm\nguaranteed head 0 cm\ndelivered head 6000 cm\n\
+        velocity limit 3000 mm/s\nresidents offices 3\nresidents dwelling 90\nresidents hotel-25 2\n\
+        section 1 from pump length 1 m elevation 0 cm kind offices fixtures 5 free 0 cm\n\
+        section 2 from pump length 1 m elevation 0 cm kind hotel-25 fixtures 5 free 0 cm\n\
+        section 3 from pump length 1 m elevation 0 cm kind dwelling fixtures 5 free 0 cm\n";
+    let (number, found) = of_job(&house::pack(text).expect("a house"));
+    let named: Vec<At> = found.iter().map(|place| place.at).filter(|at| matches!(at, At::Residents(_))).collect();
+    assert_eq!((number, named), (9, vec![At::Residents(1)]));
 }
 
 fn rated(job: &[u8], cat: &[u8], sizes: &[u8]) -> (u32, Vec<Place>) {

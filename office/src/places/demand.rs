@@ -37,28 +37,60 @@ pub fn over_table(job: &[u8]) -> Vec<Place> {
         .collect()
 }
 
-/// 9: too few fixtures for the demand.
+/// 9: too few fixtures for the demand; behind the house's places the kinds that weigh most, whose numbers are to be changed.
 pub fn over_fixtures(job: &[u8]) -> Vec<Place> {
     let Some(demand) = Demand::of(job) else { return Vec::new() };
     let house = demand.house();
-    let mut found = Vec::new();
-    found.extend(over(At::House, "m", demand.m(&house), &house));
-    found.extend(over(At::House, "the hour's sum", demand.hour(), &house));
+    let mut sums = vec![
+        Sum { at: At::House, what: "m", shares: demand.shares(&house), served: house },
+        Sum { at: At::House, what: "the hour's sum", shares: demand.hour_shares(), served: house },
+    ];
     for (number, served) in (1..=255).zip(demand.served()) {
-        found.extend(over(At::Section(number), "m", demand.m(&served), &served));
+        sums.push(Sum { at: At::Section(number), what: "m", shares: demand.shares(&served), served });
     }
+    sums.retain(Sum::passes);
+    let (house, sections): (Vec<&Sum>, Vec<&Sum>) = sums.iter().partition(|sum| sum.at == At::House);
+    let worst = house.iter().max_by_key(|sum| sum.total()).or(sections.first());
+    let mut found: Vec<Place> = house.iter().map(|sum| sum.place()).collect();
+    found.extend(worst.map_or(Vec::new(), |sum| demand.heaviest(sum)));
+    found.extend(sections.iter().map(|sum| sum.place()));
     found
 }
 
-fn over(at: At, what: &str, sum: u64, served: &Counts) -> Option<Place> {
-    let fixtures: u64 = served.iter().sum();
-    let most = EACH * fixtures;
-    (fixtures <= FEW && sum > most).then(|| {
+/// A sum that 9 looks at: its shares by kind, and the fixtures that have to carry it.
+struct Sum {
+    at: At,
+    what: &'static str,
+    shares: Counts,
+    served: Counts,
+}
+
+impl Sum {
+    fn total(&self) -> u64 {
+        self.shares.iter().sum()
+    }
+
+    fn fixtures(&self) -> u64 {
+        self.served.iter().sum()
+    }
+
+    fn passes(&self) -> bool {
+        self.fixtures() <= FEW && self.total() > EACH * self.fixtures()
+    }
+
+    fn place(&self) -> Place {
+        let (what, sum, fixtures) = (self.what, self.total(), self.fixtures());
+        let most = EACH * fixtures;
+        // More fixtures in a section draw more of the house's demand there, so the count is a least one.
+        let needed = match sum.div_ceil(EACH) {
+            few if few <= FEW => format!("at least about {few} fixtures are needed"),
+            _ => format!("over {FEW} fixtures are needed, where this rule ends"),
+        };
         let why = format!(
-            "{what} is {sum} millionths; the fixtures it serves, {fixtures}, carry at most {most} ({EACH} each)"
+            "{what} is {sum} millionths; the fixtures it serves, {fixtures}, carry at most {most} ({EACH} each); {needed}"
         );
-        Place::new(at, why)
-    })
+        Place::new(self.at, why)
+    }
 }
 
 /// Fixtures of kinds 1 to 12.
@@ -98,22 +130,53 @@ impl Demand {
         served
     }
 
-    /// The sum of the shares, each rounded up.
-    fn m(&self, served: &Counts) -> u64 {
+    /// The shares of m by kind, each rounded up.
+    fn shares(&self, served: &Counts) -> Counts {
         let house = self.house();
-        let share = |kind: usize| match house[kind] {
+        std::array::from_fn(|kind| match house[kind] {
             0 => 0,
             all => {
                 let (q, z, _) = NORMS[kind];
                 (25_000 * q * u64::from(self.record.residents[kind]) * served[kind]).div_ceil(9 * z * all)
             }
-        };
-        (0..12).map(share).sum()
+        })
     }
 
-    /// The sum of the hour's shares, each rounded up.
+    fn m(&self, served: &Counts) -> u64 {
+        self.shares(served).iter().sum()
+    }
+
+    /// The shares of the hour's sum by kind, each rounded up.
+    fn hour_shares(&self) -> Counts {
+        std::array::from_fn(|kind| {
+            let (q, _, o) = NORMS[kind];
+            (100_000 * q * u64::from(self.record.residents[kind])).div_ceil(o)
+        })
+    }
+
     fn hour(&self) -> u64 {
-        let residents = self.record.residents.map(u64::from);
-        NORMS.iter().zip(residents).map(|((q, _, o), u)| (100_000 * q * u).div_ceil(*o)).sum()
+        self.hour_shares().iter().sum()
+    }
+
+    /// The kinds that make up more than half of a sum, the heaviest first: a smaller one alone can't mend it.
+    fn heaviest(&self, sum: &Sum) -> Vec<Place> {
+        let (total, house) = (sum.total(), self.house());
+        let mut kinds: Vec<usize> = (0..12).collect();
+        kinds.sort_by_key(|kind| std::cmp::Reverse(sum.shares[*kind]));
+        let mut found = Vec::new();
+        let mut weight = 0;
+        for kind in kinds {
+            if weight * 2 > total || sum.shares[kind] == 0 {
+                break;
+            }
+            let (share, residents, fixtures) = (sum.shares[kind], self.record.residents[kind], house[kind]);
+            weight += share;
+            let why = format!(
+                "they weigh most, {share} of {total} millionths: {residents} residents, {fixtures} fixtures of theirs in the \
+                 house; are there fewer residents, or more fixtures?"
+            );
+            found.push(Place::new(At::Residents(kind as u8 + 1), why));
+        }
+        found
     }
 }
