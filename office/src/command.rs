@@ -15,11 +15,12 @@ mod trials;
 
 use arguments::Arguments;
 use outcome::{Misuse, Outcome};
+use std::ffi::OsString;
 use std::io::{ErrorKind, Write};
 use std::process::ExitCode;
 
 /// Runs one command and gives its status.
-pub fn run(words: &[String]) -> ExitCode {
+pub fn run(words: &[OsString]) -> ExitCode {
     let outcome = match arguments::parse(words).and_then(|arguments| perform(&arguments)) {
         Ok(outcome) => outcome,
         Err(Misuse(text)) => Outcome::misuse(&text),
@@ -48,7 +49,8 @@ fn perform(arguments: &Arguments) -> Result<Outcome, Misuse> {
     match &arguments.out {
         // A refusal is no answer to keep: it is said, and the file is left alone.
         Some(file) if outcome.answered => {
-            std::fs::write(file, &outcome.output).map_err(|why| Misuse(format!("{file} can't be written: {why}")))?;
+            let name = file.to_string_lossy();
+            std::fs::write(file, &outcome.output).map_err(|why| Misuse(format!("{name} can't be written: {why}")))?;
             Ok(Outcome { output: Vec::new(), ..outcome })
         }
         _ => Ok(outcome),
@@ -69,7 +71,7 @@ fn answer(arguments: &Arguments) -> Result<Outcome, Misuse> {
         "soak" => trials::soak(arguments),
         "replay" => trials::replay(arguments),
         "bench" => trials::bench(arguments),
-        "help" => help::of(arguments.words.first().map_or("help", String::as_str)),
+        "help" => help::of(&arguments.text(0).unwrap_or("help".into())),
         other => Err(Misuse(format!("there is no command `{other}`; the commands are {}", help::names()))),
     }
 }

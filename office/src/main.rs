@@ -5,9 +5,11 @@
 
 mod command;
 
+use std::ffi::OsString;
 use std::process::ExitCode;
 
 fn main() -> ExitCode {
-    let words: Vec<String> = std::env::args_os().skip(1).map(|word| word.to_string_lossy().into_owned()).collect();
+    // A file's name need not be text, so the words stay as the system gives them.
+    let words: Vec<OsString> = std::env::args_os().skip(1).collect();
     command::run(&words)
 }

@@ -47,6 +47,28 @@ fn who_closes_the_pipe_early_has_read_enough() {
     assert_eq!((ran.status.code(), ran.stderr.as_slice()), (Some(0), &b""[..]));
 }
 
+/// A folder may hold names in an older code page than UTF-8.
+#[cfg(unix)]
+#[test]
+fn a_files_name_need_not_be_text() {
+    use std::ffi::OsStr;
+    use std::os::unix::ffi::OsStrExt;
+    let named = |name: &[u8]| [scratch("").as_bytes(), name].concat();
+    let (house, sizes, out) = (named(b"h\xf4tel.txt"), named(b"s\xefzes"), named(b"\xe9crit.txt"));
+    // Some systems take no such names.
+    if std::fs::write(OsStr::from_bytes(&house), read(HOUSE)).is_err() {
+        return;
+    }
+    std::fs::write(OsStr::from_bytes(&sizes), "6,6,6,6,6,6,6,6,6,6,6,6").expect("written");
+    let list = [b"@", sizes.as_slice()].concat();
+    let words = [b"rate", house.as_slice(), TABLE.as_bytes(), &list, b"-o", &out].map(OsStr::from_bytes);
+    let ran = Command::new(env!("CARGO_BIN_EXE_office")).args(words).current_dir(top()).output();
+    let ran = ran.expect("the command starts");
+    assert_eq!(ran.status.code(), Some(0), "{}", String::from_utf8_lossy(&ran.stderr));
+    let rated = office(&["rate", HOUSE, TABLE, "6,6,6,6,6,6,6,6,6,6,6,6"]).text();
+    assert_eq!(std::fs::read_to_string(OsStr::from_bytes(&out)).expect("written"), rated);
+}
+
 #[test]
 fn the_mark_in_front_of_utf_8_is_no_letter() {
     let marked = |text: &str| [b"\xef\xbb\xbf", text.as_bytes()].concat();

@@ -2,30 +2,35 @@
 
 use super::help;
 use super::outcome::Misuse;
+use std::borrow::Cow;
+use std::ffi::OsString;
 
 #[derive(Debug, Default)]
 pub struct Arguments {
     pub command: String,
     /// Files, size lists and numbers, in their order.
-    pub words: Vec<String>,
-    pub out: Option<String>,
+    pub words: Vec<OsString>,
+    pub out: Option<OsString>,
     pub json: bool,
     pub seed: Option<u64>,
     pub help: bool,
 }
 
 /// Options may stand anywhere; behind `--` everything is a plain word.
-pub fn parse(words: &[String]) -> Result<Arguments, Misuse> {
+pub fn parse(words: &[OsString]) -> Result<Arguments, Misuse> {
     let mut found = Arguments::default();
     let mut plain = Vec::new();
     let mut rest = words.iter();
     while let Some(word) = rest.next() {
-        match word.as_str() {
+        // What is no text is no option either.
+        match word.to_str().unwrap_or("") {
             "--" => plain.extend(rest.by_ref().cloned()),
             "--json" => found.json = true,
             "-h" | "--help" => found.help = true,
             "-o" => found.out = Some(value(rest.next(), "-o", "a file")?),
-            "--seed" => found.seed = Some(number(&value(rest.next(), "--seed", "a number")?, "--seed")?),
+            "--seed" => {
+                found.seed = Some(number(&value(rest.next(), "--seed", "a number")?.to_string_lossy(), "--seed")?)
+            }
             option if option.starts_with('-') && option != "-" => {
                 return Err(Misuse(format!("there is no option `{option}`; `office help` lists them")));
             }
@@ -33,13 +38,13 @@ pub fn parse(words: &[String]) -> Result<Arguments, Misuse> {
         }
     }
     let mut plain = plain.into_iter();
-    found.command = plain.next().unwrap_or_else(|| "help".to_string());
+    found.command = plain.next().map_or("help".to_string(), |word| word.to_string_lossy().into_owned());
     found.words = plain.collect();
     found.check()?;
     Ok(found)
 }
 
-fn value(word: Option<&String>, option: &str, what: &str) -> Result<String, Misuse> {
+fn value(word: Option<&OsString>, option: &str, what: &str) -> Result<OsString, Misuse> {
     word.cloned().ok_or_else(|| Misuse(format!("`{option}` wants {what}")))
 }
 
@@ -49,6 +54,11 @@ pub fn number(word: &str, what: &str) -> Result<u64, Misuse> {
 }
 
 impl Arguments {
+    /// A word that is no file's name.
+    pub fn text(&self, place: usize) -> Option<Cow<'_, str>> {
+        self.words.get(place).map(|word| word.to_string_lossy())
+    }
+
     /// The right count of words, and no option that the command would not heed.
     fn check(&self) -> Result<(), Misuse> {
         let Some(known) = help::COMMANDS.iter().find(|known| known.name == self.command) else { return Ok(()) };
@@ -64,7 +74,7 @@ impl Arguments {
                 return misuse(format!("`{}` has no option {option}", self.command));
             }
         }
-        if self.words.iter().filter(|word| matches!(word.as_str(), "-" | "@-")).count() > 1 {
+        if self.words.iter().filter(|word| *word == "-" || *word == "@-").count() > 1 {
             return misuse("standard input can be read only once".to_string());
         }
         Ok(())

@@ -5,6 +5,7 @@ use office::at::Lines;
 use office::catalogue::Catalogue;
 use office::record::Record;
 use office::{house, table};
+use std::ffi::{OsStr, OsString};
 use std::io::Read;
 
 /// A job or a catalogue, with the lines of its fields where it came from a readable file.
@@ -16,11 +17,11 @@ pub struct Source {
 }
 
 /// The bytes of a file; `-` is standard input.
-pub fn bytes(file: &str) -> Result<Vec<u8>, Misuse> {
+pub fn bytes(file: &OsStr) -> Result<Vec<u8>, Misuse> {
     let mut bytes = Vec::new();
-    let read = match file {
-        "-" => std::io::stdin().read_to_end(&mut bytes).map(|_| ()),
-        _ => std::fs::read(file).map(|content| bytes = content),
+    let read = match file == "-" {
+        true => std::io::stdin().read_to_end(&mut bytes).map(|_| ()),
+        false => std::fs::read(file).map(|content| bytes = content),
     };
     read.map_err(|why| Misuse(format!("{} can't be read: {why}", name(file))))?;
     // Some editors call this "Unicode". As a record it would state a length of four thousand million bytes.
@@ -30,8 +31,8 @@ pub fn bytes(file: &str) -> Result<Vec<u8>, Misuse> {
     Ok(bytes)
 }
 
-pub fn name(file: &str) -> String {
-    if file == "-" { "standard input".to_string() } else { file.to_string() }
+pub fn name(file: &OsStr) -> String {
+    if file == "-" { "standard input".to_string() } else { file.to_string_lossy().into_owned() }
 }
 
 /// The text of a readable file. A record has bytes that no text has: its length's first byte is 0. No bytes at all are no
@@ -59,7 +60,7 @@ pub fn is_table(text: &str) -> bool {
 }
 
 /// A job: a readable house is packed, a record is taken as it is.
-pub fn job(file: &str) -> Result<Source, Misuse> {
+pub fn job(file: &OsStr) -> Result<Source, Misuse> {
     let bytes = bytes(file)?;
     match text(&bytes) {
         None => Ok(Source { name: name(file), bytes, lines: Lines::default() }),
@@ -71,13 +72,13 @@ pub fn job(file: &str) -> Result<Source, Misuse> {
 }
 
 /// A readable house.
-pub fn house(file: &str, text: &str) -> Result<Source, Misuse> {
+pub fn house(file: &OsStr, text: &str) -> Result<Source, Misuse> {
     let packed = house::read(text).map_err(|mistake| Misuse(format!("{} {mistake}", name(file))))?;
     Ok(Source { name: name(file), bytes: packed.bytes, lines: packed.lines })
 }
 
 /// A catalogue: a readable table is packed, a record is taken as it is.
-pub fn catalogue(file: &str) -> Result<Source, Misuse> {
+pub fn catalogue(file: &OsStr) -> Result<Source, Misuse> {
     let bytes = bytes(file)?;
     match text(&bytes) {
         None => Ok(Source { name: name(file), bytes, lines: Lines::default() }),
@@ -87,7 +88,7 @@ pub fn catalogue(file: &str) -> Result<Source, Misuse> {
 }
 
 /// A readable table.
-pub fn table(file: &str, text: &str) -> Result<Source, Misuse> {
+pub fn table(file: &OsStr, text: &str) -> Result<Source, Misuse> {
     let packed = table::read(text).map_err(|mistake| Misuse(format!("{} {mistake}", name(file))))?;
     Ok(Source { name: name(file), bytes: packed.bytes, lines: packed.lines })
 }
@@ -109,13 +110,26 @@ pub fn binary(bytes: &[u8]) -> Binary {
 }
 
 /// A list of sizes: numbers between commas, or `@` and a file with such numbers or with the bytes themselves.
-pub fn sizes(word: &str) -> Result<Vec<u8>, Misuse> {
-    let Some(file) = word.strip_prefix('@') else { return numbers(word) };
-    let bytes = bytes(file)?;
+pub fn sizes(word: &OsStr) -> Result<Vec<u8>, Misuse> {
+    let Some(file) = behind_at(word) else { return numbers(&word.to_string_lossy()) };
+    let bytes = bytes(&file)?;
     match text(&bytes) {
         Some(text) if text.bytes().any(|byte| byte.is_ascii_digit()) => numbers(&text),
         _ => Ok(bytes),
     }
+}
+
+/// The file behind `@`, whose name need not be text.
+#[cfg(unix)]
+fn behind_at(word: &OsStr) -> Option<OsString> {
+    use std::os::unix::ffi::OsStrExt;
+    word.as_bytes().strip_prefix(b"@").map(|file| OsStr::from_bytes(file).to_os_string())
+}
+
+/// The file behind `@`. Systems of another kind have no safe way to cut a name that is no text.
+#[cfg(not(unix))]
+fn behind_at(word: &OsStr) -> Option<OsString> {
+    word.to_string_lossy().strip_prefix('@').map(OsString::from)
 }
 
 fn numbers(text: &str) -> Result<Vec<u8>, Misuse> {

@@ -8,7 +8,7 @@ use std::io::IsTerminal;
 
 /// Made-up orders. Where the two differ, the order is given in the form that `replay` takes.
 pub fn soak(arguments: &Arguments) -> Result<Outcome, Misuse> {
-    let cases = number(&arguments.words[0], "the count of orders")?;
+    let cases = number(&arguments.text(0).unwrap_or_default(), "the count of orders")?;
     let seed = arguments.seed.unwrap_or(1);
     let watched = std::io::stderr().is_terminal();
     let mut progress = |done: u64| {
