@@ -83,3 +83,22 @@ fn the_mark_in_front_of_utf_8_is_no_letter() {
     let rated = office(&["rate", HOUSE, TABLE, &format!("@{sizes}")]);
     assert_eq!(rated.status, 0, "{}", rated.error);
 }
+
+#[test]
+fn a_record_that_begins_as_utf_16_does_is_a_record() {
+    for file in [HOUSE, TABLE] {
+        for mark in [[0xff, 0xfe], [0xfe, 0xff]] {
+            let mut bytes = office(&["pack", file]).output;
+            bytes[..2].copy_from_slice(&mark);
+            let shown = office_with(&["show", "-"], &bytes);
+            assert_eq!(shown.status, 1, "{}", shown.error);
+            assert!(shown.text().contains("stated length"), "{}", shown.text());
+            assert_eq!(office_with(&["pack", "-"], &shown.output).output, bytes);
+            let longer = [bytes.as_slice(), &[0]].concat();
+            assert!(office_with(&["show", "-"], &longer).error.contains("save it as UTF-8"), "no record's length");
+        }
+    }
+    let mut job = office(&["pack", HOUSE]).output;
+    job[..2].copy_from_slice(&[0xff, 0xfe]);
+    assert!(office_with(&["flow", "-"], &job).text().starts_with("refused 1: "));
+}

@@ -24,8 +24,9 @@ pub fn bytes(file: &OsStr) -> Result<Vec<u8>, Misuse> {
         false => std::fs::read(file).map(|content| bytes = content),
     };
     read.map_err(|why| Misuse(format!("{} can't be read: {why}", name(file))))?;
-    // Some editors call this "Unicode". As a record it would state a length of four thousand million bytes.
-    if bytes.starts_with(&[0xff, 0xfe]) || bytes.starts_with(&[0xfe, 0xff]) {
+    // Some editors call this "Unicode". A damaged record may begin so too, and its length tells it from a text.
+    let marked = bytes.starts_with(&[0xff, 0xfe]) || bytes.starts_with(&[0xfe, 0xff]);
+    if marked && matches!(binary(&bytes), Binary::Neither(_)) {
         return Err(Misuse(format!("{} is text in UTF-16; save it as UTF-8", name(file))));
     }
     Ok(bytes)
