@@ -70,6 +70,18 @@ fn a_files_name_need_not_be_text() {
 }
 
 #[test]
+fn an_empty_file_is_called_empty() {
+    for command in ["pack", "show", "replay"] {
+        let ran = office_with(&[command, "-"], b"");
+        assert_eq!((ran.status, ran.error.as_str()), (2, "office: standard input: the file is empty\n"), "{command}");
+    }
+    let flow = office_with(&["flow", "-"], b"").text();
+    assert!(flow.contains("job record: the file is empty: it has 0 bytes"), "{flow}");
+    let choose = office_with(&["choose", HOUSE, "-"], b"").text();
+    assert!(choose.contains("catalogue: the file is empty: it has 0 bytes"), "{choose}");
+}
+
+#[test]
 fn the_mark_in_front_of_utf_8_is_no_letter() {
     let marked = |text: &str| [b"\xef\xbb\xbf", text.as_bytes()].concat();
     for comment in ["", "# sizes of the shop\n", "# sizes, bores; prices\n"] {

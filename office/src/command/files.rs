@@ -13,7 +13,7 @@ use std::io::IsTerminal;
 /// A readable file as a record's bytes, with the library's refusal as a warning.
 pub fn pack(arguments: &Arguments) -> Result<Outcome, Misuse> {
     let file = &arguments.words[0];
-    let bytes = input::bytes(file)?;
+    let bytes = input::content(file)?;
     let Some(text) = input::text(&bytes) else {
         return Err(Misuse(format!("{} is no readable file; `office show` shows a record", input::name(file))));
     };
@@ -41,7 +41,7 @@ pub fn pack(arguments: &Arguments) -> Result<Outcome, Misuse> {
 /// A record as a readable file, with the library's refusal as a warning.
 pub fn show(arguments: &Arguments) -> Result<Outcome, Misuse> {
     let file = &arguments.words[0];
-    let bytes = input::bytes(file)?;
+    let bytes = input::content(file)?;
     let name = input::name(file);
     if input::text(&bytes).is_some() {
         return Err(Misuse(format!("{name} is readable already; `office pack` packs it")));

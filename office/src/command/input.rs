@@ -32,6 +32,15 @@ pub fn bytes(file: &OsStr) -> Result<Vec<u8>, Misuse> {
     Ok(bytes)
 }
 
+/// The bytes of a file that no library call has a number for: there must be some.
+pub fn content(file: &OsStr) -> Result<Vec<u8>, Misuse> {
+    let bytes = bytes(file)?;
+    if bytes.is_empty() {
+        return Err(Misuse(format!("{}: the file is empty", name(file))));
+    }
+    Ok(bytes)
+}
+
 pub fn name(file: &OsStr) -> String {
     if file == "-" { "standard input".to_string() } else { file.to_string_lossy().into_owned() }
 }

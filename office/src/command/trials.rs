@@ -28,7 +28,7 @@ pub fn soak(arguments: &Arguments) -> Result<Outcome, Misuse> {
 /// One kept order.
 pub fn replay(arguments: &Arguments) -> Result<Outcome, Misuse> {
     let file = &arguments.words[0];
-    let bytes = input::bytes(file)?;
+    let bytes = input::content(file)?;
     let name = input::name(file);
     let text = input::text(&bytes).ok_or_else(|| Misuse(format!("{name} is no text")))?;
     Case::parse(&text).map_err(|why| Misuse(format!("{name} is no order to replay: {why}")))?;

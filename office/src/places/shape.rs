@@ -10,7 +10,8 @@ pub fn length(job: &[u8]) -> Vec<Place> {
     let mut found: Vec<Place> = swapped(job).into_iter().collect();
     let given = job.len();
     if given < HEAD {
-        found.push(Place::new(At::Job, format!("it has {given} bytes; the least is {HEAD}")));
+        let empty = if given == 0 { "the file is empty: " } else { "" };
+        found.push(Place::new(At::Job, format!("{empty}it has {given} bytes; the least is {HEAD}")));
     }
     if let Some(four) = job.first_chunk::<4>() {
         let stated = u32::from_be_bytes(*four);

@@ -9,7 +9,8 @@ use crate::record::Record;
 pub fn shape(cat: &[u8]) -> Vec<Place> {
     let given = cat.len();
     if given < HEAD {
-        return vec![Place::new(At::Catalogue, format!("it has {given} bytes; the least is {HEAD}"))];
+        let empty = if given == 0 { "the file is empty: " } else { "" };
+        return vec![Place::new(At::Catalogue, format!("{empty}it has {given} bytes; the least is {HEAD}"))];
     }
     let (version, sizes, rows) = (cat[4], cat[5], cat[6]);
     let stated = u32::from_be_bytes([cat[0], cat[1], cat[2], cat[3]]);
