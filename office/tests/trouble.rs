@@ -82,6 +82,27 @@ fn an_empty_file_is_called_empty() {
 }
 
 #[test]
+fn the_answer_has_one_file_that_is_not_read() {
+    let (house, sizes) = (scratch("kept-house.txt"), scratch("kept-sizes"));
+    std::fs::write(&house, read(HOUSE)).expect("written");
+    std::fs::write(&sizes, "6,6,6,6,6,6,6,6,6,6,6,6").expect("written");
+    let roundabout = scratch("./kept-house.txt");
+    let list = format!("@{sizes}");
+    let cases: [(&[&str], &str); 4] = [
+        (&["pack", &house, "-o", &house], "would overwrite the file that is read"),
+        (&["flow", "-o", &roundabout, &house], "would overwrite the file that is read"),
+        (&["rate", &house, TABLE, &list, "-o", &sizes], "would overwrite the file that is read"),
+        (&["flow", &house, "-o", &sizes, "-o", &sizes], "`-o` is given twice"),
+    ];
+    for (words, why) in cases {
+        let ran = office(words);
+        assert!(ran.status == 2 && ran.error.contains(why), "{words:?}: {}", ran.error);
+    }
+    assert_eq!(std::fs::read_to_string(&house).expect("as it was"), read(HOUSE));
+    assert_eq!(std::fs::read_to_string(&sizes).expect("as it was"), "6,6,6,6,6,6,6,6,6,6,6,6");
+}
+
+#[test]
 fn the_mark_in_front_of_utf_8_is_no_letter() {
     let marked = |text: &str| [b"\xef\xbb\xbf", text.as_bytes()].concat();
     for comment in ["", "# sizes of the shop\n", "# sizes, bores; prices\n"] {

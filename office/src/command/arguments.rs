@@ -1,9 +1,10 @@
 //! The command's words: its name, its files, its options.
 
 use super::help;
+use super::input;
 use super::outcome::Misuse;
 use std::borrow::Cow;
-use std::ffi::OsString;
+use std::ffi::{OsStr, OsString};
 
 #[derive(Debug, Default)]
 pub struct Arguments {
@@ -27,7 +28,7 @@ pub fn parse(words: &[OsString]) -> Result<Arguments, Misuse> {
             "--" => plain.extend(rest.by_ref().cloned()),
             "--json" => found.json = true,
             "-h" | "--help" => found.help = true,
-            "-o" => found.out = Some(value(rest.next(), "-o", "a file")?),
+            "-o" => found.set_out(value(rest.next(), "-o", "a file")?)?,
             "--seed" => {
                 found.seed = Some(number(&value(rest.next(), "--seed", "a number")?.to_string_lossy(), "--seed")?)
             }
@@ -54,9 +55,23 @@ pub fn number(word: &str, what: &str) -> Result<u64, Misuse> {
 }
 
 impl Arguments {
+    /// There is one answer, so it has one file.
+    fn set_out(&mut self, file: OsString) -> Result<(), Misuse> {
+        match self.out.replace(file) {
+            None => Ok(()),
+            Some(_) => Err(Misuse("`-o` is given twice; the answer goes to one file".to_string())),
+        }
+    }
+
     /// A word that is no file's name.
     pub fn text(&self, place: usize) -> Option<Cow<'_, str>> {
         self.words.get(place).map(|word| word.to_string_lossy())
+    }
+
+    /// Whether the command reads this file, itself or behind the sign `@`. The word of `soak` is a number.
+    fn reads(&self, out: &OsStr) -> bool {
+        let read = |word: &OsString| same(word, out) || input::behind_at(word).is_some_and(|file| same(&file, out));
+        self.command != "soak" && self.words.iter().any(read)
     }
 
     /// The right count of words, and no option that the command would not heed.
@@ -77,8 +92,18 @@ impl Arguments {
         if self.words.iter().filter(|word| *word == "-" || *word == "@-").count() > 1 {
             return misuse("standard input can be read only once".to_string());
         }
+        if let Some(file) = self.out.as_ref().filter(|out| self.reads(out)) {
+            let name = file.to_string_lossy();
+            return misuse(format!("`-o {name}` would overwrite the file that is read; name another"));
+        }
         Ok(())
     }
+}
+
+/// Whether two names lead to one file of the disk. A terminal may be read and written in one go.
+fn same(one: &OsStr, other: &OsStr) -> bool {
+    let way = |name: &OsStr| std::fs::canonicalize(name).ok().filter(|way| way.is_file());
+    way(one).is_some_and(|found| way(other) == Some(found))
 }
 
 fn count(known: &help::Command) -> String {

@@ -131,14 +131,14 @@ pub fn sizes(word: &OsStr) -> Result<Vec<u8>, Misuse> {
 
 /// The file behind `@`, whose name need not be text.
 #[cfg(unix)]
-fn behind_at(word: &OsStr) -> Option<OsString> {
+pub fn behind_at(word: &OsStr) -> Option<OsString> {
     use std::os::unix::ffi::OsStrExt;
     word.as_bytes().strip_prefix(b"@").map(|file| OsStr::from_bytes(file).to_os_string())
 }
 
 /// The file behind `@`. Systems of another kind have no safe way to cut a name that is no text.
 #[cfg(not(unix))]
-fn behind_at(word: &OsStr) -> Option<OsString> {
+pub fn behind_at(word: &OsStr) -> Option<OsString> {
     word.to_string_lossy().strip_prefix('@').map(OsString::from)
 }
 
