@@ -29,7 +29,8 @@ pub fn draw(record: &Record, pipes: &[Pipe], rating: &Rating, cost: Option<u32>)
     // Room for the heading over a small house.
     let width = (LEFT + columns * COLUMN + 40).max(720);
     let height = TOP + rows * ROW;
-    let mut svg = Svg::new(width, height, &format!("House network of {} sections", pipes.len()));
+    let warning = if missing(record, rating) > 0 { ": TOO LITTLE HEAD" } else { "" };
+    let mut svg = Svg::new(width, height, &format!("House network of {} sections{warning}", pipes.len()));
     heading(&mut svg, record, rating, cost);
     pump(&mut svg, record, rating);
     // Branches of one pipe leave along the same upright; the dictating one is drawn last, over the others.
@@ -44,7 +45,12 @@ pub fn draw(record: &Record, pipes: &[Pipe], rating: &Rating, cost: Option<u32>)
     svg.finish()
 }
 
-/// Three lines above the drawing.
+/// How many cm the delivered head lacks of the required one; none, or fewer than none, where it is enough.
+fn missing(record: &Record, rating: &Rating) -> i64 {
+    i64::from(rating.required) - i64::from(record.delivered)
+}
+
+/// Three lines above the drawing, and a fourth where the head is too little: an end marked SHORT may lie far from here.
 fn heading(svg: &mut Svg, record: &Record, rating: &Rating, cost: Option<u32>) {
     let (required, pump, guaranteed) = (rating.required, rating.pump, record.guaranteed);
     let heads = format!("required head {required} cm, pump head {pump} cm over the guaranteed {guaranteed} cm");
@@ -54,6 +60,12 @@ fn heading(svg: &mut Svg, record: &Record, rating: &Rating, cost: Option<u32>) {
     svg.text(20, 48, 12, FAINT, "normal", &path);
     let left = format!("left: head left at an end when {} cm are delivered; needs: its free head", record.delivered);
     svg.text(20, 65, 12, FAINT, "normal", &left);
+    let missing = missing(record, rating);
+    if missing > 0 {
+        let delivered = record.delivered;
+        let warning = format!("TOO LITTLE HEAD: {delivered} cm are delivered, {missing} cm are missing");
+        svg.text(20, 85, 13, SHORT, "bold", &warning);
+    }
 }
 
 /// The pump: a circle with its arrow, and the heads beside it.

@@ -47,7 +47,29 @@ fn houses() -> Vec<Vec<u8>> {
     one.truncate(50);
     (one[2], one[3], one[6]) = (0, 50, 1);
     let halves = great(|number| number / 2);
-    vec![hotel, one, great(|_| 0), great(|number| number - 1), halves, great(|number| number.saturating_sub(3))]
+    let low = short(&hotel);
+    vec![hotel, low, one, great(|_| 0), great(|number| number - 1), halves, great(|number| number.saturating_sub(3))]
+}
+
+/// The house with a delivered head of 0.
+fn short(job: &[u8]) -> Vec<u8> {
+    let mut low = job.to_vec();
+    (low[12], low[13]) = (0, 0);
+    low
+}
+
+#[test]
+fn too_little_head_is_said_in_the_title_and_above_the_drawing() {
+    let hotel = &houses()[0];
+    let (enough, _) = drawn(hotel);
+    assert!(!enough.contains("TOO LITTLE HEAD"));
+    let (low, sections) = drawn(&short(hotel));
+    assert!(low.contains(&format!("<title>House network of {sections} sections: TOO LITTLE HEAD</title>")));
+    let texts = elements(&low).into_iter().filter(|element| element.name == "text");
+    let said: Vec<String> = texts.map(|text| text.text).filter(|text| text.contains("TOO LITTLE HEAD")).collect();
+    let cat = table::pack(CAT).expect("a table");
+    let required = calls::rate(hotel, &cat, &vec![2; sections]).expect("rated").required;
+    assert_eq!(said, [format!("TOO LITTLE HEAD: 0 cm are delivered, {required} cm are missing")]);
 }
 
 #[test]
