@@ -71,10 +71,15 @@ fn jobs() {
     check(of_job(&with(&own, &[(17, 1)])), 7, At::Residents(1), "1 given, but no section");
     let crowd = [(28, 255), (29, 255), (42, 255), (43, 255)];
     check(of_job(&with(&own, &crowd)), 8, At::House, "over 400000000");
+}
+
+#[test]
+fn nine_says_how_many_fixtures_are_needed() {
+    let own = job();
     check(
         of_job(&with(&own, &[(43, 18)])),
         9,
-        section,
+        At::Section(1),
         "m is 1840741 millionths; the fixtures it serves, 18, carry at most 1800000",
     );
     let few = of_job(&with(&own, &[(43, 70)]));

@@ -133,8 +133,8 @@ same orders and in one run. It takes a while.",
 const COMMON: &str = "\
 Files: a readable file or a binary record, told apart by content; - is standard input; -o FILE writes the answer to a file.
 Status: 0 an answer; 1 the library refuses, in words with its number and place, on standard output, and a file of -o is left
-alone (`pack` and `show` do their work all the same and warn on standard error); 2 misuse, an unreadable file or a mistake in
-a readable file, on standard error.
+alone (`pack` and `show` do their work all the same and warn on standard error); 2 misuse, an unreadable file, a mistake in a
+readable file or an answer that can't be written, on standard error.
 ";
 
 /// The commands' names for a message.
