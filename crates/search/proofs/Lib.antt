@@ -10,3 +10,10 @@ pub mod Reading
 pub mod Workspace
 pub mod Turns
 pub mod Offers
+pub mod Keeping
+pub mod Trims
+pub mod Pruning
+pub mod Walks
+pub mod Amples
+pub mod Falling
+pub mod Column

@@ -6,35 +6,46 @@ use mathlib.Core.List.{List}
 use Prim.Native.Nat.{ℕ, _+_, _-_, _≤_, _<_, min, max}
 use native.Mathlib.Omega.{arith}
 use borrow.Author.Count.{below-more}
-use lib.ListN.{length, getD, set, replicate, length-set, length-replicate, getD-replicate}
+use lib.ListN.{length, getD, set, length-set}
 use lib.Seq.{getD-set-same, getD-set-other}
 use Rattle.basis.proofs.Split.{lt-or-ge}
-use Rattle.search.specs.Plan.{top, leastTo}
+use Rattle.search.specs.Plan.{mark, leastTo}
 use Rattle.search.specs.Shape.{optionAt, Offered}
 use Rattle.search.proofs.Least.{least-none, least-next, least-most}
 use Rattle.search.proofs.Turns.{option-met, option-short}
+
+-- one place more has the mark
+pub fresh-more : (l : List ℕ) (start h : ℕ) → h < length l → ((x : ℕ) → x < h → start ≤ x → getD l x 0 ≡ mark) →
+    (x : ℕ) → x < h + 1 → start ≤ x → getD (set l h mark) x 0 ≡ mark
+fresh-more l start h b all =
+    below-more (λ x. start ≤ x → getD (set l h mark) x 0 ≡ mark) h (λ x c d. getD-set-other l h x mark 0 (λ e. omega arith) ∙ all x c d)
+    (λ d. getD-set-same l h mark 0 b)
 
 pub offered-none : (l : List ℕ) (start : ℕ) (f : ℕ → ℕ) → Offered l l start start f
 offered-none l start f =
     record { long = refl; within = λ h a b. absurd (omega arith); below = λ h b. refl; above = λ h b. refl }
 
+pub offered-empty : (l : List ℕ) (start end : ℕ) (f : ℕ → ℕ) → end ≤ start → Offered l l start end f
+offered-empty l start end f e =
+    record { long = refl; within = λ h a b. absurd (omega arith); below = λ h b. refl; above = λ h b. refl }
+
 -- one head more
-pub offered-more : (l₀ l : List ℕ) (start h v : ℕ) (f : ℕ → ℕ) → start ≤ h → h < length l → v ≡ min (getD l h 0) (min top (f h)) →
+pub offered-more : (l₀ l : List ℕ) (start h v : ℕ) (f : ℕ → ℕ) → start ≤ h → h < length l → v ≡ min (getD l h 0) (f h) →
     Offered l₀ l start h f → Offered l₀ (set l h v) start (h + 1) f
 offered-more l₀ l start h v f a b e o =
     record {
       long = length-set l h v ∙ o .long;
-      within = λ x s m. below-more (λ y. start ≤ y → getD (set l h v) y 0 ≡ min (getD l₀ y 0) (min top (f y))) h
+      within = λ x s m. below-more (λ y. start ≤ y → getD (set l h v) y 0 ≡ min (getD l₀ y 0) (f y)) h
           (λ y k t. getD-set-other l h y v 0 (λ i. omega arith) ∙ o .within y t k)
           (λ t. getD-set-same l h v 0 b ∙ e ∙ rw (o .above h (omega arith))) x m s;
       below = λ x m. getD-set-other l h x v 0 (λ i. omega arith) ∙ o .below x m;
       above = λ x m. getD-set-other l h x v 0 (λ i. omega arith) ∙ o .above x (omega arith);
     }
 
--- the loop ends at the width, or has no turn where it starts above
-pub offered-end : (l₀ l : List ℕ) (start h width : ℕ) (f : ℕ → ℕ) → width ≤ h → h ≤ max width start →
-    Offered l₀ l start h f → Offered l₀ l start width f
-offered-end l₀ l start h width f a b o =
+-- the loop ends at the end, or has no turn where it starts above
+pub offered-end : (l₀ l : List ℕ) (start h end : ℕ) (f : ℕ → ℕ) → end ≤ h → h ≤ max end start →
+    Offered l₀ l start h f → Offered l₀ l start end f
+offered-end l₀ l start h end f a b o =
     record {
       long = o .long;
       within = λ x s m. o .within x s (omega arith);
@@ -42,30 +53,92 @@ offered-end l₀ l start h width f a b o =
       above = λ x m. ⊎-elim (o .below x) (λ s. o .above x (omega arith)) (lt-or-ge x start);
     }
 
--- the best costs of the sizes 1 to n at the heads below the width
-pub record Lowest (best : List ℕ) (width n : ℕ) (f : ℕ → ℕ → ℕ) : Type 0 where
+-- the same from elsewhere
+pub offered-same : (l l′ : List ℕ) (start end : ℕ) (f g : ℕ → ℕ) → ((h : ℕ) → start ≤ h → h < end → f h ≡ g h) → Offered l l′ start end f → Offered l l′ start end g
+offered-same l l′ start end f g e o =
+    record { long = o .long; within = λ h a b. o .within h a b ∙ rw (e h a b); below = o .below; above = o .above }
+
+-- up to mid, and from there on
+pub offered-join : (l₀ l₁ l₂ : List ℕ) (start mid m end : ℕ) (f : ℕ → ℕ) → mid ≤ end → m ≡ max start mid → Offered l₀ l₁ start mid f → Offered l₁ l₂ m end f →
+    Offered l₀ l₂ start end f
+offered-join l₀ l₁ l₂ start mid m end f b e o r =
+    record {
+      long = r .long ∙ o .long;
+      within = λ h s t.
+          ⊎-elim
+          (λ (i : h < mid). r .below h (omega arith) ∙ o .within h s i)
+          (λ (i : mid ≤ h). r .within h (omega arith) t ∙ rw (o .above h i))
+          (lt-or-ge h mid);
+      below = λ h s. r .below h (omega arith) ∙ o .below h s;
+      above = λ h s. r .above h s ∙ o .above h (omega arith);
+    }
+
+-- the best costs of the sizes 1 to n at the heads from start to end
+pub record Lowest (best : List ℕ) (start end n : ℕ) (f : ℕ → ℕ → ℕ) : Type 0 where
   pub long : length best ≡ 7001
-  pub is : (h : ℕ) → h < width → getD best h 0 ≡ leastTo n (f h)
+  pub is : (h : ℕ) → start ≤ h → h < end → getD best h 0 ≡ leastTo n (f h)
 
-pub lowest-none : (width : ℕ) (f : ℕ → ℕ → ℕ) → width ≤ 7001 → Lowest (replicate 7001 top) width 0 f
-lowest-none width f w =
-    record { long = length-replicate 7001 top; is = λ h b. getD-replicate 7001 h top 0 (omega arith) ∙ sym (least-none (f h)) }
+pub lowest-none : (best : List ℕ) (start end : ℕ) (f : ℕ → ℕ → ℕ) → length best ≡ 7001 → ((h : ℕ) → start ≤ h → h < end → getD best h 0 ≡ mark) →
+    Lowest best start end 0 f
+lowest-none best start end f l all = record { long = l; is = λ h a b. all h a b ∙ sym (least-none (f h)) }
 
--- one size more: l is its loss and k its cost
-pub lowest-more : (best best′ : List ℕ) (width n need l k : ℕ) (loss cost : ℕ → ℕ) (v : ℕ → ℕ → ℕ) → l ≡ loss (n + 1) → k ≡ cost (n + 1) →
-    Offered best best′ (l + need) width (λ h. k + v (n + 1) (h - l)) →
-    Lowest best width n (optionAt loss cost need v) → Lowest best′ width (n + 1) (optionAt loss cost need v)
-lowest-more best best′ width n need l k loss cost v el ek o p =
+-- one size more: l is its loss and k its cost; it is offered from m to stop, and costs no less than the best from there on
+pub lowest-more : (best best′ : List ℕ) (start end stop n need l k m : ℕ) (loss cost : ℕ → ℕ) (v : ℕ → ℕ → ℕ) → l ≡ loss (n + 1) → k ≡ cost (n + 1) → m ≡ max start (l + need) →
+    Offered best best′ m stop (λ h. k + v (n + 1) (h - l)) → ((h : ℕ) → stop ≤ h → start ≤ h → h < end → l + need ≤ h → getD best h 0 ≤ k + v (n + 1) (h - l)) →
+    Lowest best start end n (optionAt loss cost need v) → Lowest best′ start end (n + 1) (optionAt loss cost need v)
+lowest-more best best′ start end stop n need l k m loss cost v el ek em o cut p =
     record {
       long = o .long ∙ p .long;
-      is = λ h b.
+      is = λ h a b.
           let next = least-next n (optionAt loss cost need v h) in
           let most = least-most n (optionAt loss cost need v h) in
           ⊎-elim
-          (λ (m : h < l + need).
-          omega (arith, next, most, p .is h b, o .below h m, option-short loss cost need v h (n + 1) (omega arith)))
-          (λ (m : l + need ≤ h).
+          (λ (i : h < l + need).
+          omega (arith, next, most, p .is h a b, o .below h (omega arith), option-short loss cost need v h (n + 1) (omega arith)))
+          (λ (i : l + need ≤ h).
           let same : cost (n + 1) + v (n + 1) (h - loss (n + 1)) ≡ k + v (n + 1) (h - l) = rw (el, ek) in
-          omega (arith, next, most, p .is h b, o .within h m b, option-met loss cost need v h (n + 1) (omega arith)))
+          let met = option-met loss cost need v h (n + 1) (omega arith) in
+          ⊎-elim
+          (λ (j : h < stop). omega (arith, next, p .is h a b, o .within h (omega arith) j, met))
+          (λ (j : stop ≤ h). omega (arith, next, p .is h a b, o .above h j, cut h j a b i, met))
+          (lt-or-ge h stop))
           (lt-or-ge h (l + need));
+    }
+
+-- a size that loses too much
+pub lowest-skip : (best : List ℕ) (start end n need l : ℕ) (loss cost : ℕ → ℕ) (v : ℕ → ℕ → ℕ) → l ≡ loss (n + 1) → end ≤ l + need →
+    Lowest best start end n (optionAt loss cost need v) → Lowest best start end (n + 1) (optionAt loss cost need v)
+lowest-skip best start end n need l loss cost v el b p =
+    record {
+      long = p .long;
+      is = λ h x y.
+          omega (
+            arith,
+            least-next n (optionAt loss cost need v h),
+            least-most n (optionAt loss cost need v h),
+            p .is h x y,
+            option-short loss cost need v h (n + 1) (omega arith),
+          );
+    }
+
+-- from `flat` on the best is at most `low`
+pub record Flat (best : List ℕ) (start end flat low : ℕ) : Type 0 where
+  pub within : flat ≤ end
+  pub is : (h : ℕ) → flat ≤ h → start ≤ h → h < end → getD best h 0 ≤ low
+
+pub flat-none : (best : List ℕ) (start end low : ℕ) → Flat best start end end low
+flat-none best start end low = record { within = omega arith; is = λ h a b c. absurd (omega arith) }
+
+-- after a size whose least cost is u, from where its row has ended; it was offered to where the best is at most u
+pub flat-more : (best best′ : List ℕ) (start end flat low stop u f′ from : ℕ) (f : ℕ → ℕ) → Offered best best′ from stop f → (stop < end → (flat ≤ stop) × (low ≤ u)) → f′ ≤ end →
+    ((h : ℕ) → f′ ≤ h → start ≤ h → h < end → (from ≤ h) × (f h ≡ u)) → Flat best start end flat low → Flat best′ start end f′ u
+flat-more best best′ start end flat low stop u f′ from f o cut b all st =
+    record {
+      within = b;
+      is = λ h x y z.
+          let e = all h x y z in
+          ⊎-elim
+          (λ (j : h < stop). omega (arith, o .within h (e .0) j, e .1))
+          (λ (j : stop ≤ h). omega (arith, o .above h j, st .is h (omega (arith, cut (omega arith))) y z, cut (omega arith)))
+          (lt-or-ge h stop);
     }

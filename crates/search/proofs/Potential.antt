@@ -6,10 +6,11 @@ use mathlib.Core.Bool.{Bool, true, false, cond}
 use Prim.Native.Nat.{ℕ, zero, suc, pred, _+_, _-_, _≤_, _<_, min}
 use native.Mathlib.Nat.{eq-or-lt-of-le, sub-self}
 use native.Mathlib.Omega.{arith}
+use lib.Dec.{eqb}
 use borrow.Author.Tests.{eq-eqb, ne-eqb}
 use Rattle.basis.specs.Range.{sumTo}
 use Rattle.basis.proofs.Sum.{sum-none, sum-more, sum-ext, sum-at}
-use Rattle.search.specs.Plan.{Plan, top, option, cheapest, added, cell}
+use Rattle.search.specs.Plan.{Plan, mark, option, cheapest, added, rows, cell}
 use Rattle.search.proofs.Least.{least-le}
 use Rattle.search.proofs.Sums.{sum-nothing, sum-swap}
 
@@ -18,7 +19,7 @@ use Rattle.search.proofs.Sums.{sum-nothing, sum-swap}
 -- From s to s + 1 it never falls, whatever size section s + 1 may take, and it stays where section s + 1 takes a cheapest one.
 
 -- an option below the mark is of a size that the section may take
-option-real : (b : Bool) (v : ℕ) → cond b v top < top → b ≡ true
+option-real : (b : Bool) (v : ℕ) → cond b v mark < mark → b ≡ true
 option-real true v m = refl
 option-real false v m = absurd (omega arith)
 
@@ -41,11 +42,24 @@ module _ {X : Type 0} (P : Plan X) where
   nextLeast s x = cheapest P s (cell P s s) x
 
   pub cell-parent : (s : ℕ) (x : X) → s < P .sections →
-      cell P s (P .parent (suc s)) x ≡ min top (cell P (suc s) (P .parent (suc s)) x + nextLeast (suc s) x)
+      cell P s (P .parent (suc s)) x ≡ min mark (cell P (suc s) (P .parent (suc s)) x + nextLeast (suc s) x)
   cell-parent s x l = cell-step s (P .parent (suc s)) x l ∙ rw (eq-eqb (P .parent (suc s)) (P .parent (suc s)) refl)
 
   pub cell-other : (s p : ℕ) (x : X) → s < P .sections → (p ≡ P .parent (suc s) → ⊥) → cell P s p x ≡ cell P (suc s) p x
   cell-other s p x l n = cell-step s p x l ∙ rw (ne-eqb p (P .parent (suc s)) n)
+
+  added-most : (b : Bool) (v c : ℕ) → v ≤ mark → cond b (min mark (v + c)) v ≤ mark
+  added-most true v c m = omega arith
+  added-most false v c m = m
+
+  rows-most : (k p : ℕ) (x : X) → rows P k p x ≤ mark
+  rows-most zero p x = omega arith
+  rows-most (suc k) p x = added-most (eqb p (P .parent (P .sections - k))) (rows P k p x) (cheapest P (P .sections - k) (rows P k (P .sections - k)) x) (rows-most k p x)
+
+  -- no cell is above the mark
+  pub cell-most : (s p : ℕ) (x : X) → cell P s p x ≤ mark
+  unfolding cell
+  cell-most s p x = rows-most (P .sections - s) p x
 
   -- with the sizes z and the states x section s may take its size at its parent's state, and its own state follows from the two
   pub record Serves (z : ℕ → ℕ) (x : ℕ → X) (s : ℕ) : Type 0 where
@@ -88,7 +102,7 @@ module _ {X : Type 0} (P : Plan X) where
     cell-part = sum-at (suc s) (suc (P .parent (suc s))) (λ q. cell P s (pred q) (x (pred q))) (omega arith) q
 
     -- a sum below the mark has no cell that was capped
-    waiting-eq : waiting x s s < top → waiting x s s ≡ waiting x s (suc s) + nextLeast (suc s) (x (P .parent (suc s)))
+    waiting-eq : waiting x s s < mark → waiting x s s ≡ waiting x s (suc s) + nextLeast (suc s) (x (P .parent (suc s)))
     waiting-eq m = omega (arith, waiting-swap, cell-part, cell-parent s (x (P .parent (suc s))) l)
 
     -- the size that section s + 1 has is one of its options
@@ -113,7 +127,7 @@ module _ {X : Type 0} (P : Plan X) where
     pub high : t ≤ P .sizes
     pub least : option P s (cell P s s) x t ≡ nextLeast s x
 
-  module _ {s : ℕ} {x : X} {t : ℕ} (c : Cheap s x t) (m : nextLeast s x < top) where
+  module _ {s : ℕ} {x : X} {t : ℕ} (c : Cheap s x t) (m : nextLeast s x < mark) where
     pub cheap-ok : P .ok s t x ≡ true
     cheap-ok = option-real (P .ok s t x) (P .cost s t + cell P s s (P .next s t x)) (rw (c .least) m)
 
@@ -179,13 +193,13 @@ module _ {X : Type 0} (P : Plan X) where
         }
 
     -- where the pump's cell is below the mark, so is the least cost of the next section
-    pub good-real : (a : X) (z : ℕ → ℕ) (x : ℕ → X) (s : ℕ) → s < P .sections → cell P 0 0 a < top → Good a z x s →
-        nextLeast (suc s) (x (P .parent (suc s))) < top
+    pub good-real : (a : X) (z : ℕ → ℕ) (x : ℕ → X) (s : ℕ) → s < P .sections → cell P 0 0 a < mark → Good a z x s →
+        nextLeast (suc s) (x (P .parent (suc s))) < mark
     good-real a z x s l c g =
         omega (arith, g .same, waiting-eq z x s l (lower (suc s) (omega arith) l) (omega (arith, g .same)))
 
     -- the next section takes a cheapest size
-    pub good-more : (a : X) (z : ℕ → ℕ) (x : ℕ → X) (s : ℕ) → s < P .sections → cell P 0 0 a < top → Good a z x s →
+    pub good-more : (a : X) (z : ℕ → ℕ) (x : ℕ → X) (s : ℕ) → s < P .sections → cell P 0 0 a < mark → Good a z x s →
         Cheap (suc s) (x (P .parent (suc s))) (z (suc s)) → x (suc s) ≡ P .next (suc s) (z (suc s)) (x (P .parent (suc s))) →
         Good a z x (suc s)
     good-more a z x s l c g t e =

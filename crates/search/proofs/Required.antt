@@ -16,9 +16,12 @@ module _ (N : Net) (z : List ℕ) where
   unfolding requiredOf
   required-attained p = greatest-attained (N .sections) (λ s. pathLoss N (sizeOf z) s + N .need s) p
 
-  pub suits-required : (a : ℕ) → Suits N a z → requiredOf N z ≤ a
+  pub required-least : (b : ℕ) → ((s : ℕ) → 0 < s → s ≤ N .sections → pathLoss N (sizeOf z) s + N .need s ≤ b) → requiredOf N z ≤ b
   unfolding requiredOf
-  suits-required a u = greatest-le (N .sections) a (λ s. pathLoss N (sizeOf z) s + N .need s) (u .met)
+  required-least b h = greatest-le (N .sections) b (λ s. pathLoss N (sizeOf z) s + N .need s) h
+
+  pub suits-required : (a : ℕ) → Suits N a z → requiredOf N z ≤ a
+  suits-required a u = required-least a (u .met)
 
   pub required-suits : (a b : ℕ) → Suits N a z → requiredOf N z ≤ b → Suits N b z
   required-suits a b u l =

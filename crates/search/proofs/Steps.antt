@@ -1,22 +1,25 @@
 -- The rows of the workspace hold what the plan says, one section more at a time, and a size that is picked from them is a cheapest one.
 -- Assumes nothing.
-use mathlib.Core.Path.{_≡_, sym, ap, _∙_}
+use mathlib.Core.Path.{_≡_, refl, sym, ap, _∙_}
 use mathlib.Core.Logic.{⊎-elim}
-use mathlib.Core.Bool.{_&&_}
+use mathlib.Core.Bool.{Bool, true, false, _&&_}
 use mathlib.Core.List.{List}
-use Prim.Native.Nat.{ℕ, zero, suc, _+_, _-_, _*_, _≤_, _<_}
-use native.Mathlib.Nat.{mul-le-mul-right, suc-mul}
+use Prim.Native.Nat.{ℕ, zero, suc, _+_, _-_, _*_, _≤_, _<_, min}
+use native.Mathlib.Nat.{mul-le-mul-right, suc-mul, eq-zero-or-pos}
 use native.Mathlib.Omega.{arith}
 use lib.Dec.{leb, ltb}
+use lib.ListN.{length, getD, set, replicate, length-set, length-replicate, getD-replicate}
+use lib.Seq.{getD-set-same, getD-set-other}
 use borrow.Author.Tests.{leb-true, lt-ltb}
-use Rattle.basis.proofs.Split.{lt-or-ge, eq-or-ne}
-use Rattle.basis.proofs.Bools.{same, right}
+use Rattle.basis.proofs.Split.{either, lt-or-ge, eq-or-ne}
+use Rattle.basis.proofs.Bools.{apart, same, right}
 use Rattle.search.specs.Net.{Net}
-use Rattle.search.specs.Plan.{top, leastTo, option, cell, planOf}
+use Rattle.search.specs.Plan.{top, mark, leastTo, option, cell, planOf}
 use Rattle.search.specs.Cells.{cellAt}
-use Rattle.search.specs.Shape.{Sound, optionAt, rowAt, Picked, Raised, Holds}
+use Rattle.search.specs.Shape.{Sound, Ample, optionAt, rowAt, Picked, Filled, standing, Moderate, Holds}
 use Rattle.search.proofs.Least.{least-ext}
-use Rattle.search.proofs.Potential.{cell-last, cell-parent, cell-other, nextLeast, Cheap}
+use Rattle.search.proofs.Falling.{cell-falls}
+use Rattle.search.proofs.Potential.{cell-last, cell-most, cell-parent, cell-other, nextLeast, Cheap}
 
 -- rows do not overlap, and none ends above the last
 pub rows-apart : (p q w : ℕ) → p < q → p * w + w ≤ q * w
@@ -25,14 +28,27 @@ rows-apart p q w l = omega (arith, mul-le-mul-right w l, suc-mul p w)
 pub row-fits : (p n w : ℕ) → p ≤ n → p * w + w ≤ (n + 1) * w
 row-fits p n w l = rows-apart p (n + 1) w (omega arith)
 
--- after no section all cells are 0
-pub holds-none : (N : Net) (w : ℕ) (ws : List ℕ) → ((k : ℕ) → k < (N .sections + 1) * w → cellAt ws k ≡ 0) → Holds N w ws (N .sections)
-holds-none N w ws z =
-    record { at = λ p h l b. z (p * w + h) (omega (arith, row-fits p (N .sections) w l)) ∙ sym (cell-last (planOf N) p h) }
+-- From its end's need on each row that is begun holds what the plan says after all sections of higher numbers than s, and the plan says 0 of the others.
+pub record Filling (N : Net) (high : ℕ → ℕ) (w : ℕ) (ws : List ℕ) (begun : List Bool) (s : ℕ) : Type 0 where
+  pub long : length begun ≡ 64
+  pub at : (p h : ℕ) → p ≤ N .sections → getD begun p false ≡ true → N .need p ≤ h → h ≤ high p → cellAt ws (p * w + h) ≡ cell (planOf N high) s p h
+  pub new : (p h : ℕ) → p ≤ N .sections → getD begun p false ≡ false → cell (planOf N high) s p h ≡ 0
+  pub done : (p : ℕ) → s < p → p ≤ N .sections → getD begun p false ≡ true
+
+-- after no section
+pub filling-none : (N : Net) (high : ℕ → ℕ) (w : ℕ) (ws : List ℕ) → N .sections ≤ 63 → Filling N high w ws (replicate 64 false) (N .sections)
+filling-none N high w ws few =
+    let no : (p : ℕ) → p ≤ N .sections → getD (replicate 64 false) p false ≡ false = λ p l. getD-replicate 64 p false false (omega arith) in
+    record {
+      long = length-replicate 64 false;
+      at = λ p h l e. absurd (apart e (no p l));
+      new = λ p h l e. cell-last (planOf N high) p h;
+      done = λ p l m. absurd (omega arith);
+    }
 
 -- the pump's row is the first
-pub pump-cell : (N : Net) (w : ℕ) (ws : List ℕ) (a : ℕ) → a < w → Holds N w ws 0 → cellAt ws a ≡ cell (planOf N) 0 0 a
-pump-cell N w ws a b hold = let e : a ≡ 0 * w + a = omega arith in ap (cellAt ws) e ∙ hold .at 0 a (omega arith) b
+pub pump-cell : (N : Net) (high : ℕ → ℕ) (w : ℕ) (ws : List ℕ) → N .need 0 ≤ high 0 → Holds N high w ws → cellAt ws (high 0) ≡ cell (planOf N high) 0 0 (high 0)
+pump-cell N high w ws n hold = let e : high 0 ≡ 0 * w + high 0 = omega arith in ap (cellAt ws) e ∙ hold .at 0 (high 0) (omega arith) n (omega arith)
 
 -- at a head below the mark the need alone says whether a size will do
 marked-fits : (l need h : ℕ) → h < top → (ltb l top && leb (l + need) h) ≡ leb (l + need) h
@@ -41,75 +57,163 @@ marked-fits l need h b =
     (λ e. right (ltb l top) (leb (l + need) h) e)
     (λ e. rw (lt-ltb l top (omega (arith, leb-true (l + need) h e)), e))
 
--- `marked` says how the tables tell an allowed size
-module _ (N : Net) (marked : (s t : ℕ) → N .allowed s t ≡ ltb (N .loss s t) top) (w : ℕ) where
-  -- the option of a size, where the section's row holds what the plan says up to the head h
-  option-row : (ws : List ℕ) (s h : ℕ) → h < top → ((x : ℕ) → x ≤ h → cellAt ws (s * w + x) ≡ cell (planOf N) s s x) → (t : ℕ) →
-      optionAt (N .loss s) (N .cost s) (N .need s) (rowAt ws (s * w) 0) h t ≡ option (planOf N) s (cell (planOf N) s s) h t
-  option-row ws s h b row t =
-      let e : s * w + t * 0 + (h - N .loss s t) ≡ s * w + (h - N .loss s t) = omega arith in
-      rw (e, row (h - N .loss s t) (omega arith), marked s t, marked-fits (N .loss s t) (N .need s) h b)
+-- two rows
+module _ (w : ℕ) (ws ws′ : List ℕ) (q need end : ℕ) (f : ℕ → ℕ) (inside : end ≤ w) (r : Filled ws ws′ (q * w) need end f) where
+  -- the others are as they were
+  row-kept : (p h : ℕ) → h < w → (p ≡ q → ⊥) → cellAt ws′ (p * w + h) ≡ cellAt ws (p * w + h)
+  row-kept p h b n =
+      ⊎-elim
+      (λ m. r .below (p * w + h) (omega (arith, rows-apart p q w m)))
+      (λ m. r .above (p * w + h) (omega (arith, rows-apart q p w (omega arith))))
+      (lt-or-ge p q)
 
-  least-row : (ws : List ℕ) (s h : ℕ) → h < top → ((x : ℕ) → x ≤ h → cellAt ws (s * w + x) ≡ cell (planOf N) s s x) →
-      leastTo (N .sizes) (optionAt (N .loss s) (N .cost s) (N .need s) (rowAt ws (s * w) 0) h) ≡ nextLeast (planOf N) s h
-  least-row ws s h b row = least-ext (N .sizes) _ _ (λ t p l. option-row ws s h b row t)
+-- `marked` says how the tables tell an allowed size
+module _ (N : Net) (marked : (s t : ℕ) → N .allowed s t ≡ ltb (N .loss s t) top) (a : ℕ) (high : ℕ → ℕ) (ample : Ample N a high) (w : ℕ) (wide : a < w) (narrow : w ≤ top) where
+  -- the option of a size, where the section's row holds what the plan says
+  option-row : (ws : List ℕ) (s h : ℕ) → s ≤ N .sections → h ≤ a → ((x : ℕ) → N .need s ≤ x → x ≤ high s → cellAt ws (s * w + x) ≡ cell (planOf N high) s s x) → (t : ℕ) →
+      optionAt (N .loss s) (N .cost s) (N .need s) (rowAt ws (s * w) 0 (high s)) h t ≡ option (planOf N high) s (cell (planOf N high) s s) h t
+  option-row ws s h l b row t =
+      let e : s * w + t * 0 + min (h - N .loss s t) (high s) ≡ s * w + min (h - N .loss s t) (high s) = omega arith in
+      rw (e, marked s t, marked-fits (N .loss s t) (N .need s) h (omega arith))
+      (⊎-elim
+      (λ m. rw (row (min (h - N .loss s t) (high s)) (omega (arith, leb-true (N .loss s t + N .need s) h m, ample .own s l)) (omega arith)))
+      (λ m. rw m)
+      (either (leb (N .loss s t + N .need s) h)))
+
+  least-row : (ws : List ℕ) (s h : ℕ) → s ≤ N .sections → h ≤ a → ((x : ℕ) → N .need s ≤ x → x ≤ high s → cellAt ws (s * w + x) ≡ cell (planOf N high) s s x) →
+      leastTo (N .sizes) (optionAt (N .loss s) (N .cost s) (N .need s) (rowAt ws (s * w) 0 (high s)) h) ≡ nextLeast (planOf N high) s h
+  least-row ws s h l b row = least-ext (N .sizes) _ _ (λ t p m. option-row ws s h l b row t)
 
   module _ (sound : Sound N) where
-    -- section s + 1 is added to its parent's row
-    module _ (ws ws′ : List ℕ) (s : ℕ) (l : s < N .sections) (k : w ≤ top) (hold : Holds N w ws (suc s))
-        (r : Raised ws ws′ (N .parent (suc s) * w) w
-        (λ h. leastTo (N .sizes) (optionAt (N .loss (suc s)) (N .cost (suc s)) (N .need (suc s)) (rowAt ws (suc s * w) 0) h))) where
-      parent-holds : (h : ℕ) → h < w → cellAt ws′ (N .parent (suc s) * w + h) ≡ cell (planOf N) s (N .parent (suc s)) h
-      parent-holds h b =
-          r .within h b ∙
-          rw (
-            hold .at (N .parent (suc s)) h (omega (arith, sound .lower (suc s) (omega arith) l)) b,
-            least-row ws (suc s) h (omega arith) (λ x m. hold .at (suc s) x l (omega arith)),
-          )
-          (sym (cell-parent (planOf N) s h l))
+    -- what stands in a row is what the plan says
+    stands : (ws : List ℕ) (begun : List Bool) (s p h : ℕ) → Filling N high w ws begun s → p ≤ N .sections → N .need p ≤ h → h ≤ high p →
+        standing (getD begun p false) ws (p * w) h ≡ cell (planOf N high) s p h
+    stands ws begun s p h fill l n b =
+        ⊎-elim
+        (λ e. rw e (fill .at p h l e n b))
+        (λ e. rw e (sym (fill .new p h l e)))
+        (either (getD begun p false))
 
-      other-holds : (p h : ℕ) → p ≤ N .sections → h < w → (p ≡ N .parent (suc s) → ⊥) → cellAt ws′ (p * w + h) ≡ cell (planOf N) s p h
-      other-holds p h a b n =
-          ⊎-elim
-          (λ m. r .below (p * w + h) (omega (arith, rows-apart p (N .parent (suc s)) w m)))
-          (λ m. r .above (p * w + h) (omega (arith, rows-apart (N .parent (suc s)) p w (omega arith))))
-          (lt-or-ge p (N .parent (suc s))) ∙
-          hold .at p h a b ∙
-          sym (cell-other (planOf N) s p h l n)
+    -- row p is written, with what the plan says after the sections above s′
+    module _ (ws ws′ : List ℕ) (begun : List Bool) (s s′ p : ℕ) (f : ℕ → ℕ) (l : p ≤ N .sections) (fill : Filling N high w ws begun s)
+        (r : Filled ws ws′ (p * w) (N .need p) (high p + 1) f) (is : (h : ℕ) → N .need p ≤ h → h ≤ high p → f h ≡ cell (planOf N high) s′ p h)
+        (others : (q h : ℕ) → (q ≡ p → ⊥) → cell (planOf N high) s′ q h ≡ cell (planOf N high) s q h)
+        (done : (q : ℕ) → s′ < q → q ≤ N .sections → (q ≡ p → ⊥) → getD begun q false ≡ true) where
+      here : getD (set begun p true) p false ≡ true
+      here = getD-set-same begun p true false (omega (arith, fill .long, sound .few))
 
-      holds-more : Holds N w ws′ s
-      holds-more =
+      there : (q : ℕ) → (q ≡ p → ⊥) → getD (set begun p true) q false ≡ getD begun q false
+      there q n = getD-set-other begun p q true false n
+
+      filling-row : Filling N high w ws′ (set begun p true) s′
+      filling-row =
           record {
-            at = λ p h a b. ⊎-elim (λ e. rw e (parent-holds h b)) (other-holds p h a b) (eq-or-ne p (N .parent (suc s)));
+            long = length-set begun p true ∙ fill .long;
+            at = λ q h m e n b.
+                ⊎-elim
+                (λ (i : q ≡ p).
+                let c : h ≤ high p = rw i at b in
+                rw i (r .within h (rw i at n) (omega arith) ∙ is h (rw i at n) c))
+                (λ i. row-kept w ws ws′ p (N .need p) (high p + 1) f (omega (arith, ample .most p l)) r q h (omega (arith, ample .most q m)) i ∙ fill .at q h m (sym (there q i) ∙ e) n b ∙ sym (others q h i))
+                (eq-or-ne q p);
+            new = λ q h m e.
+                ⊎-elim
+                (λ (i : q ≡ p). absurd (apart here (rw i at e)))
+                (λ i. others q h i ∙ fill .new q h m (sym (there q i) ∙ e))
+                (eq-or-ne q p);
+            done = λ q m k.
+                ⊎-elim (λ (i : q ≡ p). rw i here) (λ i. there q i ∙ done q m k i) (eq-or-ne q p);
           }
 
-    -- the same with the section's number as the code has it
-    pub fill-turn : (ws ws′ : List ℕ) (s p need : ℕ) → 0 < s → s ≤ N .sections → w ≤ top → p ≡ N .parent s → need ≡ N .need s →
-        Holds N w ws s →
-        Raised ws ws′ (p * w) w (λ h. leastTo (N .sizes) (optionAt (N .loss s) (N .cost s) need (rowAt ws (s * w) 0) h)) →
-        Holds N w ws′ (s - 1)
-    fill-turn ws ws′ zero p need a b k ep en hold r = absurd (omega arith)
-    fill-turn ws ws′ (suc s) p need a b k ep en hold r =
-        let e : suc s - 1 ≡ s = omega arith in rw e (holds-more ws ws′ s b k hold (rw (ep, en) at r))
+    -- nothing is added to row s any more
+    pub fill-settle : (ws ws′ : List ℕ) (begun : List Bool) (s need up end : ℕ) → s ≤ N .sections → need ≡ N .need s → up ≡ s * w → end ≡ high s + 1 → Filling N high w ws begun s →
+        Filled ws ws′ up need end (standing (getD begun s false) ws up) → Filling N high w ws′ (set begun s true) s
+    fill-settle ws ws′ begun s need up end l e i j fill r =
+        filling-row ws ws′ begun s s s (standing (getD begun s false) ws (s * w)) l fill (rw (e, i, j) at r) (λ h n b. stands ws begun s s h fill l n b)
+        (λ q h n. refl) (λ q m k n. fill .done q m k)
+
+    pub settled : (begun : List Bool) (s : ℕ) → s ≤ N .sections → length begun ≡ 64 → getD (set begun s true) s false ≡ true
+    settled begun s l e = getD-set-same begun s true false (omega (arith, e, sound .few))
+
+    -- section s + 1 is added to its parent's row
+    module _ (ws ws′ : List ℕ) (begun : List Bool) (s : ℕ) (l : s < N .sections) (fill : Filling N high w ws begun (suc s))
+        (own : getD begun (suc s) false ≡ true)
+        (r : Filled ws ws′ (N .parent (suc s) * w) (N .need (N .parent (suc s))) (high (N .parent (suc s)) + 1)
+        (λ h. min mark (standing (getD begun (N .parent (suc s)) false) ws (N .parent (suc s) * w) h +
+        leastTo (N .sizes) (optionAt (N .loss (suc s)) (N .cost (suc s)) (N .need (suc s)) (rowAt ws (suc s * w) 0 (high (suc s))) h)))) where
+      filling-more : Filling N high w ws′ (set begun (N .parent (suc s)) true) s
+      filling-more =
+          let low = sound .lower (suc s) (omega arith) l in
+          filling-row ws ws′ begun (suc s) s (N .parent (suc s)) _ (omega arith) fill r
+          (λ h n b.
+          rw (
+            stands ws begun (suc s) (N .parent (suc s)) h fill (omega arith) n b,
+            least-row ws (suc s) h l (omega (arith, ample .most (N .parent (suc s)) (omega arith))) (λ x m y. fill .at (suc s) x l own m y),
+          )
+          (sym (cell-parent (planOf N high) s h l)))
+          (λ q h n. cell-other (planOf N high) s q h l n)
+          (λ q m z n. ⊎-elim (λ (e : q ≡ suc s). rw e own) (λ e. fill .done q (omega arith) z) (eq-or-ne q (suc s)))
+
+    -- the same with the numbers as the code has them
+    pub fill-turn : (ws ws′ : List ℕ) (begun : List Bool) (s p need low up end : ℕ) → 0 < s → s ≤ N .sections → p ≡ N .parent s → need ≡ N .need s → low ≡ N .need p → up ≡ high s → end ≡ high p + 1 →
+        Filling N high w ws begun s → getD begun s false ≡ true →
+        Filled ws ws′ (p * w) low end
+        (λ h. min mark (standing (getD begun p false) ws (p * w) h + leastTo (N .sizes) (optionAt (N .loss s) (N .cost s) need (rowAt ws (s * w) 0 up) h))) →
+        Filling N high w ws′ (set begun p true) (s - 1)
+    fill-turn ws ws′ begun zero p need low up end z b ep en el eu ee fill own r = absurd (omega arith)
+    fill-turn ws ws′ begun (suc s) p need low up end z b ep en el eu ee fill own r =
+        let e : suc s - 1 ≡ s = omega arith in
+        let i : low ≡ N .need (N .parent (suc s)) = rw ep at el in
+        let j : end ≡ high (N .parent (suc s)) + 1 = rw ep at ee in
+        rw (e, ep) (filling-more ws ws′ begun s b fill own (rw (ep, en, i, eu, j) at r))
+
+    -- what section s reads is at most the mark, and no less than the row's last
+    pub fill-moderate : (ws : List ℕ) (begun : List Bool) (s need up end : ℕ) → 0 < s → s ≤ N .sections → need ≡ N .need s → up ≡ high s → end ≤ a + 1 →
+        Filling N high w ws begun s → getD begun s false ≡ true → Moderate (N .sizes) end need up (N .cost s) (rowAt ws (s * w) 0 up)
+    fill-moderate ws begun s need up end p l e i b fill own =
+        let own-most = ample .own s l in
+        let is : (t x : ℕ) → need ≤ x → need ≤ a → rowAt ws (s * w) 0 up t x ≡ cell (planOf N high) s s (min x (high s)) =
+        λ t x m k.
+        let j : s * w + t * 0 + min x up ≡ s * w + min x (high s) = rw i (omega arith) in
+        rw j (fill .at s (min x (high s)) l own (omega arith) (omega arith)) in
+        record {
+          costs = λ t m n. sound .cheap s t p l m n;
+          cells = λ t x m n. omega (arith, is t x m (omega arith), cell-most (planOf N high) s s (min x (high s)));
+          last = λ t n. omega (arith, is t up (omega arith) (omega arith), cell-most (planOf N high) s s (min up (high s)));
+          room = λ n. omega arith;
+          falls = λ t x m n. omega (arith, is t x m (omega arith), is t up (omega arith) (omega arith), cell-falls N high s s (min x (high s)) (min up (high s)) (omega arith));
+        }
+
+    -- a row to which something was added holds at most the mark
+    pub fill-most : (ws : List ℕ) (begun : List Bool) (s p : ℕ) → p ≤ N .sections → Filling N high w ws begun s → getD begun p false ≡ true →
+        (h : ℕ) → N .need p ≤ h → h ≤ high p → cellAt ws (p * w + h) ≤ mark
+    fill-most ws begun s p l fill own h n b = omega (arith, fill .at p h l own n b, cell-most (planOf N high) s p h)
+
+    -- after all sections
+    pub fill-done : (ws : List ℕ) (begun : List Bool) → Filling N high w ws begun 0 → getD begun 0 false ≡ true → Holds N high w ws
+    fill-done ws begun fill own =
+        record {
+          at = λ p h l n b. ⊎-elim (λ (e : p ≡ 0). rw e (fill .at 0 h (omega arith) own (rw e at n) (rw e at b))) (λ m. fill .at p h l (fill .done p m l) n b) (eq-zero-or-pos p);
+        }
 
     -- only sections with higher numbers raise a section's row, so that it is complete after these
-    row-done : (d s q x : ℕ) → s + d ≡ q → q ≤ N .sections → cell (planOf N) s q x ≡ cell (planOf N) q q x
+    row-done : (d s q x : ℕ) → s + d ≡ q → q ≤ N .sections → cell (planOf N high) s q x ≡ cell (planOf N high) q q x
     row-done zero s q x e l = let e′ : s ≡ q = omega arith in rw e′
     row-done (suc d) s q x e l =
-        cell-other (planOf N) s q x (omega arith) (λ z. omega (arith, sound .lower (suc s) (omega arith) (omega arith))) ∙
+        cell-other (planOf N high) s q x (omega arith) (λ z. omega (arith, sound .lower (suc s) (omega arith) (omega arith))) ∙
         row-done d (suc s) q x (omega arith) l
 
-    row-final : (ws : List ℕ) → Holds N w ws 0 → (q x : ℕ) → q ≤ N .sections → x < w → cellAt ws (q * w + x) ≡ cell (planOf N) q q x
-    row-final ws hold q x l b = hold .at q x l b ∙ row-done q 0 q x (omega arith) l
+    row-final : (ws : List ℕ) → Holds N high w ws → (q x : ℕ) → q ≤ N .sections → N .need q ≤ x → x ≤ high q → cellAt ws (q * w + x) ≡ cell (planOf N high) q q x
+    row-final ws hold q x l n b = hold .at q x l n b ∙ row-done q 0 q x (omega arith) l
 
     -- the size that is picked from the rows is a cheapest one
-    pub picked-cheap : (ws : List ℕ) → Holds N w ws 0 → (q h c t : ℕ) → q ≤ N .sections → h < w → w ≤ top → nextLeast (planOf N) q h < top →
-        Picked (N .sizes) (optionAt (N .loss q) (N .cost q) (N .need q) (rowAt ws (q * w) 0) h) c t → Cheap (planOf N) q h t
-    picked-cheap ws hold q h c t l b k m p =
-        let row : (x : ℕ) → x ≤ h → cellAt ws (q * w + x) ≡ cell (planOf N) q q x = λ x y. row-final ws hold q x l (omega arith) in
-        let e : c ≡ nextLeast (planOf N) q h = p .is ∙ least-row ws q h (omega arith) row in
+    pub picked-cheap : (ws : List ℕ) → Holds N high w ws → (q h c t : ℕ) → q ≤ N .sections → h ≤ a → nextLeast (planOf N high) q h < mark →
+        Picked (N .sizes) (optionAt (N .loss q) (N .cost q) (N .need q) (rowAt ws (q * w) 0 (high q)) h) c t → Cheap (planOf N high) q h t
+    picked-cheap ws hold q h c t l b m p =
+        let row : (x : ℕ) → N .need q ≤ x → x ≤ high q → cellAt ws (q * w + x) ≡ cell (planOf N high) q q x = λ x n y. row-final ws hold q x l n y in
+        let e : c ≡ nextLeast (planOf N high) q h = p .is ∙ least-row ws q h l b row in
         record {
           low = p .low (omega arith);
           high = p .high;
-          least = sym (option-row ws q h (omega arith) row t) ∙ p .at (omega arith) ∙ e;
+          least = sym (option-row ws q h l b row t) ∙ p .at (omega arith) ∙ e;
         }

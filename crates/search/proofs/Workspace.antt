@@ -1,10 +1,9 @@
--- The cells of a workspace: one that is written, and cells of bytes that are 0.
+-- A cell of a workspace that is written.
 -- Assumes nothing.
 use mathlib.Core.Path.{_≡_, _∙_}
 use mathlib.Core.List.{List}
 use Prim.Native.Nat.{ℕ, _+_, _*_, _/_, _%_, _≤_, _<_}
 use native.Mathlib.Omega.{arith}
-use borrow.Author.Count.{below-more}
 use lib.ListN.{length, getD, set, length-set}
 use lib.Seq.{getD-set-same, getD-set-other}
 use Rattle.search.specs.Cells.{cellAt, Written}
@@ -65,13 +64,3 @@ module _ (ws : List ℕ) (k v : ℕ) where
             other (4 * j + 3) (λ a b. n (omega arith)),
           );
         }
-
--- one byte more is 0
-pub zero-more : (ws : List ℕ) (i : ℕ) → i < length ws → ((k : ℕ) → k < i → getD ws k 0 ≡ 0) → (k : ℕ) → k < i + 1 → getD (set ws i 0) k 0 ≡ 0
-zero-more ws i h all =
-    below-more (λ k. getD (set ws i 0) k 0 ≡ 0) i (λ k b. getD-set-other ws i k 0 0 (λ e. omega arith) ∙ all k b) (getD-set-same ws i 0 0 h)
-
--- a cell of bytes that are 0
-pub cell-zero : (ws : List ℕ) (k : ℕ) → ((i : ℕ) → i < 4 * k + 4 → getD ws i 0 ≡ 0) → cellAt ws k ≡ 0
-unfolding cellAt
-cell-zero ws k all = rw (all (4 * k) (omega arith), all (4 * k + 1) (omega arith), all (4 * k + 2) (omega arith), all (4 * k + 3) (omega arith))

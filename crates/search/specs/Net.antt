@@ -57,3 +57,8 @@ requiredOf N z = greatestTo (N .sections) (λ s. pathLoss N (sizeOf z) s + N .ne
 pub record Best (N : Net) (a : ℕ) (z : List ℕ) : Type 0 where
   pub suits : Suits N a z
   pub least : (y : List ℕ) → Suits N a y → costOf N z ≤ costOf N y
+
+-- at the head a the net M keeps what counts of N: its lists suit N too, alike in cost and required head, and for each list that suits N it has one that is as good
+pub record Keeps (a : ℕ) (N M : Net) : Type 0 where
+  pub back : (z : List ℕ) → Suits M a z → Suits N a z × (costOf M z ≡ costOf N z) × (requiredOf M z ≡ requiredOf N z)
+  pub forth : (z : List ℕ) → Suits N a z → (y : List ℕ) × Suits M a y × (costOf M y ≤ costOf N z) × (requiredOf M y ≤ requiredOf N z)

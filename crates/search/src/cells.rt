@@ -1,6 +1,6 @@
 // The workspace as cells of four bytes each, the low byte first: so that compiled code reads and writes several cells at once.
 ghost use mathlib.Core.Path.{_≡_};
-ghost use Prim.Native.Nat.{ℕ, _+_, _*_, _≤_, _<_};
+ghost use Prim.Native.Nat.{_+_, _*_, _≤_, _<_};
 ghost use lib.ListN.{length};
 ghost use Rattle.search.specs.Plan.{top};
 ghost use Rattle.search.specs.Cells.{cellAt, Written};
@@ -39,16 +39,4 @@ pub fn put(ws: &mut [u8], k: usize, v: u32)
     ws[4 * k + 1] = (v / 256 % 256) as u8;
     ws[4 * k + 2] = (v / 65536 % 256) as u8;
     ws[4 * k + 3] = (v / 16777216) as u8;
-}
-
-// Writes 0 to the first n cells.
-pub fn clear(ws: &mut [u8], n: usize)
-    requires { ⌜ 4 * n ≤ length (now ws) ⌝ }
-    ensures { λ _. ⌜ (length (now (ws .exit)) ≡ length (now (ws .entry))) × ((k : ℕ) → k < n → cellAt (now (ws .exit)) k ≡ 0) ⌝ }
-{
-    let mut i: usize = 0;
-    while i < 4 * n {
-        ws[i] = 0;
-        i += 1;
-    }
 }

@@ -1,61 +1,56 @@
--- `search::choose` meets its contract: the pump's cell says whether a list suits, and the list is read back where one does.
+-- `search::choose` meets its contract: what is found in the pruned tables holds of those that were given.
 -- Assumes nothing.
-use mathlib.Core.Path.{_≡_, refl, _∙_}
+use mathlib.Core.Path.{_≡_, refl}
+use mathlib.Core.Bool.{true}
+use native.Mathlib.Nat.{mul-le-mul}
 use native.Mathlib.Omega.{arith}
+use Prim.Native.Nat.{_+_}
 use borrow.Author.Needs.{needs}
-use lib.ListN.{take}
+use borrow.Author.Tests.{not-true, not-false}
 use Rattle.basis.proofs.Bools.{apart}
-use Rattle.search.specs.Net.{Net}
-use Rattle.search.specs.Plan.{cell, planOf}
-use Rattle.search.specs.Shape.{netOf}
-use Rattle.search.proofs.Optimum.{none-suits}
-use Rattle.search.proofs.Required.{suits-required}
-use Rattle.search.proofs.Steps.{pump-cell}
+use Rattle.search.specs.Shape.{Pruned}
+use Rattle.search.proofs.Keeping.{keeps-found, keeps-none}
+use Rattle.search.proofs.Trims.{sound-like}
 use Rattle.search.proofs.choose.Statement.{statement}
 use Rattle.search.proofs.choose.Tie as tie
 
--- the net of the arguments
-abbrev net : tie.Start → Net
-net b = netOf (b .args .sections) (b .args .sizes) (b .args .parents .now) (b .args .needs .now) (b .args .losses .now) (b .args .costs .now)
-
--- what is read is the pump's cell
-pump : (c : tie.After-cell) →
-    let b = c .before .before .before .before .before .before .before in
-    c .cell .result ≡ cell (planOf (net b)) 0 0 (b .args .head)
-pump c =
-    let f = c .before .before .before .before in
-    let b = f .before .before .before in
-    c .cell .ensures .0 ∙ pump-cell (net b) (b .args .width) (f .fill .last .0) (b .args .head) (b .pre .1 .column) (f .fill .ensures .1)
+prune-requires : tie.Need-prune-requires
+prune-requires c κs = let b = c .before .before .before in (b .pre .0, omega (arith, b .pre .1 .column, b .pre .1 .narrow))
 
 returns : tie.Need-returns
 returns c =
-    let b = c .before .before .before .before .before .before .before .before in
-    ((λ e. none-suits (net b) (b .pre .0) (b .args .head) (omega (arith, pump (c .before)))), λ e. absurd (apart e refl))
-
-recover-requires : tie.Need-recover-requires
-recover-requires c κs =
     let k = c .before .before in
-    let f = k .before .before .before .before in
-    let b = f .before .before .before in (
-      (b .pre .0, record { rows = omega arith; column = b .pre .1 .column; narrow = b .pre .1 .narrow }),
-      (f .fill .ensures .1, omega (arith, pump k)),
-    )
+    ((λ e. k .prune .ensures .0 (not-true (k .prune .result .some) (c .if1 .taken))), λ e. absurd (apart e refl))
 
-cast-t23 : tie.Need-cast-t23
-cast-t23 c =
-    let r = c .before .before in
-    let b = r .before .before .before .before .before .before .before .before .before .before in
-    let found = r .recover .ensures in
-    omega (arith, suits-required (net b) (take (b .args .sections) (r .recover .result .sizes)) (b .args .head) (found .best .suits))
+pruned : (c : tie.Else1) →
+    let k = c .before .before in
+    let b = k .before .before .before .before in
+    let a = b .args in
+    Pruned (a .sections) (a .sizes) (a .parents .now) (a .needs .now) (a .losses .now) (a .costs .now) (a .head) (k .prune .result .needs) (k .prune .result .losses)
+pruned c = let k = c .before .before in k .prune .ensures .1 (not-false (k .prune .result .some) (c .if1 .left))
+
+over-rows-requires : tie.Need-over-rows-requires
+over-rows-requires c κs =
+    let k = c .before .before .before .before .before .before .before in
+    let b = k .before .before .before .before in
+    let a = b .args in
+    let r = k .prune .result in (
+      sound-like (a .sections) (a .sizes) (a .parents .now) (a .needs .now) (r .needs) (a .losses .now) (r .losses) (a .costs .now) (b .pre .0),
+      record {
+        rows = omega (arith, b .pre .1 .rows, mul-le-mul {n₁ = a .sections + 1} {m₁ = a .head + 1} {n₂ = a .sections + 1} {m₂ = a .width} (omega arith) (omega (arith, b .pre .1 .column)));
+        column = omega arith;
+        narrow = omega (arith, b .pre .1 .column, b .pre .1 .narrow);
+      },
+      pruned (c .before .before .before .before .before) .pump,
+    )
 
 returns-2 : tie.Need-returns-2
 returns-2 c =
-    let r = c .before .before in
-    let found = r .recover .ensures in
-    ((λ e. absurd (apart refl e)), λ e. record { best = found .best; cost = rw (pump (r .before .before .before)) (found .cost); head = found .head })
+    let d = c .before .before in
+    let p = pruned (c .before .before .before .before .before .before .before .before) in
+    let b = c .before .before .before .before .before .before .before .before .before .before .before .before .before .before in
+    let f = d .over-rows .ensures in
+    ((λ e. keeps-none (b .args .head) (p .keeps) (f .0 e)), λ e. keeps-found (b .args .head) (p .keeps) (f .1 e))
 
 pub choose-spec : {M : Type 1} → statement M
-choose-spec =
-    tie.close
-    (tie.spec (λ c κs. search needs) (λ c κs. search needs) (λ c. search needs) returns recover-requires (λ c. search needs) cast-t23
-    (λ c. search needs) returns-2)
+choose-spec = tie.close (tie.spec prune-requires returns over-rows-requires (λ c. search needs) returns-2)
