@@ -101,6 +101,20 @@ sum-two n i j f a b c d ne =
     (λ x. rw (ne-eqb k i x) (omega (arith, cond-le (eqb k j) (f k))))
     (eq-or-ne k i)))
 
+-- terms that are all 0
+pub sum-nothing : (n : ℕ) (f : ℕ → ℕ) → ((j : ℕ) → 0 < j → j ≤ n → f j ≡ 0) → sumTo n f ≡ 0
+sum-nothing n f h = omega (arith, sum-le n 0 f (λ j p q. omega (arith, h j p q)))
+
+-- f and g agree but at q: each sum with the other's term there is the same
+pub sum-swap : (n q : ℕ) (f g : ℕ → ℕ) → 0 < q → q ≤ n → ((j : ℕ) → 0 < j → j ≤ n → (j ≡ q → ⊥) → f j ≡ g j) →
+    sumTo n f + g q ≡ sumTo n g + f q
+sum-swap n q f g a b h =
+    rw (← sum-one n q g a b, ← sum-one n q f a b, ← sum-add n f (λ j. cond (eqb j q) (g j) 0), ← sum-add n g (λ j. cond (eqb j q) (f j) 0))
+    (sum-ext n _ _ (λ j p r. ⊎-elim
+    (λ e. rw (eq-eqb j q e) (omega arith))
+    (λ ne. rw (ne-eqb j q ne, h j p r ne))
+    (eq-or-ne j q)))
+
 -- the powers of 2
 pub sum-pow : (n : ℕ) → sumTo n (λ j. 2 ^ j) < 2 ^ suc n
 sum-pow zero = rw (sum-none (λ j. 2 ^ j)) (pow-pos 1)

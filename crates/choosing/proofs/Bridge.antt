@@ -28,9 +28,9 @@ use Rattle.heads.proofs.Signed.{le-trans}
 use Rattle.heads.proofs.Maximum.{Reached, greatest-bound, greatest-reached}
 use Rattle.rating.specs.Losses.{sizeOf, listOk, overAt, overAny, lossesOf}
 use Rattle.rating.proofs.Named.{list-all, list-long, list-names}
-use Rattle.search.specs.Net.{Net, pathLoss, Suits}
-use Rattle.search.specs.Net as net
-use Rattle.search.proofs.Paths as tree
+use Rattle.nets.specs.Net.{Net, pathLoss, Suits}
+use Rattle.nets.specs.Net as net
+use Rattle.nets.proofs.Paths as tree
 use Rattle.choosing.specs.Suitable.{Suitable, priceAt, costOf}
 use Rattle.choosing.specs.Shape.{headOf, Drawn}
 use Rattle.choosing.proofs.Shifted.{met-reach, reach-met, add-mono}

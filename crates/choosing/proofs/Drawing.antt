@@ -20,8 +20,7 @@ use Rattle.catalogue.specs.Shape.{Listed}
 use Rattle.catalogue.proofs.Listed.{listed-counts}
 use Rattle.rating.specs.Losses.{overAt, lossAt}
 use Rattle.rating.proofs.LossBounds.{loss-top}
-use Rattle.search.specs.Plan.{top}
-use Rattle.search.specs.Shape.{netOf, Sound}
+use Rattle.nets.specs.Tables.{top, netOf, Sound}
 use Rattle.choosing.specs.Suitable.{priceAt}
 use Rattle.choosing.specs.Shape.{lossEntry, Pair, Tabled, Ended, Drawn}
 use Rattle.choosing.proofs.Entries.{entry-over, entry-under, pair-section, pair-head, price-top, slope-top}
@@ -70,4 +69,5 @@ module _ {job : Job} {cat parents needs losses costs : List ℕ} (a : Accepted j
         sizes = listed-counts l .0 .high;
         lower = λ s h k. rw (e .parent s h k) (ruled-rooted (a .ruled) .lower s h k);
         cheap = λ i s h k m n. price-held i s h k m n;
+        marked = λ i s. refl;
       }

@@ -18,7 +18,7 @@ use Rattle.catalogue.specs.Layout.{sizesOf, rowsOf, sizeFrom, priceOf, partOf}
 use Rattle.catalogue.proofs.Listed.{listed-counts, listed-price, listed-rows}
 use Rattle.catalogue.proofs.Readings.{reading-top}
 use Rattle.rating.specs.Losses.{readingOf, overAt, lossAt}
-use Rattle.search.specs.Plan.{top}
+use Rattle.nets.specs.Tables.{top}
 use Rattle.choosing.specs.Suitable.{priceAt}
 use Rattle.choosing.specs.Shape.{lossEntry, Pair}
 

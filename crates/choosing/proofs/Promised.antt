@@ -11,8 +11,7 @@ use Rattle.wire.specs.Wire.{bytesOf}
 use Rattle.record.specs.Record.{decode}
 use Rattle.fields.specs.declared.Job.{Job}
 use Rattle.demand.specs.Demand.{Ruled}
-use Rattle.search.specs.Net.{Net}
-use Rattle.search.specs.Shape.{Found, None}
+use Rattle.nets.specs.Net.{Net, Found, None}
 use Rattle.choosing.specs.Suitable.{Suitable, costOf}
 use Rattle.choosing.specs.Calls.{chooseNo, chooseBytes, Chosen}
 use Rattle.choosing.specs.Shape.{headOf, Drawn, Least}
@@ -22,8 +21,8 @@ module _ {job : Job} {cat : List ℕ} {N : Net} (d : Drawn job cat N) (ruled : R
   pub none-suitable : None N (headOf job) → (y : List ℕ) → Suitable job cat y → ⊥
   none-suitable n y s = n .none y (suits-net job cat N d ruled y s)
 
-  pub least-suitable : {c h : ℕ} {list : List ℕ} → Found N (headOf job) c h list → Least job cat c list
-  least-suitable {c} {h} {list} f =
+  pub least-suitable : {c : ℕ} {list : List ℕ} → Found N (headOf job) c list → Least job cat c list
+  least-suitable {c} {list} f =
       let mine = net-suits job cat N d ruled list (f .best .suits) in
       let cost = cost-net job cat N d ruled list (mine .sizes) in
       record {

@@ -12,8 +12,8 @@ use Rattle.demand.specs.Demand.{Accepted}
 use Rattle.catalogue.specs.Layout.{sizesOf}
 use Rattle.catalogue.specs.Shape.{Listed}
 use Rattle.rating.specs.Losses.{overAt, lossAt}
-use Rattle.search.specs.Net.{Net}
-use Rattle.search.specs.Plan.{top}
+use Rattle.nets.specs.Net.{Net}
+use Rattle.nets.specs.Tables.{top}
 use Rattle.choosing.specs.Suitable.{Suitable, priceAt, costOf}
 
 -- heads of the search are 1,000 cm more than those of document 01, so that none is negative

@@ -39,7 +39,6 @@ pub fn cheapest(job: Job, cat: &[u8], work: &mut [u8]) -> Choice
         &costs,
         count,
         sizes,
-        delivered + 1001,
         delivered + 1000 - meter,
     )
 }

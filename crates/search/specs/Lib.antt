@@ -1,4 +1,1 @@
-pub mod Net
-pub mod Plan
-pub mod Cells
-pub mod Shape
+pub mod Contracts

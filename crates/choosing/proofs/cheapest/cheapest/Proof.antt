@@ -3,6 +3,7 @@
 use mathlib.Core.Path.{_≡_, refl}
 use mathlib.Core.List.{List}
 use Prim.Native.Nat.{ℕ, _+_, _≤_, _<_}
+use native.Mathlib.Nat.{mul-le-mul}
 use native.Mathlib.Omega.{arith}
 use borrow.Author.Needs.{needs}
 use lib.ListN.{length}
@@ -13,9 +14,9 @@ use Rattle.rules.proofs.HeadBounds.{HeadIn, head-in}
 use Rattle.catalogue.specs.Layout.{sizesOf}
 use Rattle.catalogue.proofs.Listed.{listed-counts}
 use Rattle.catalogue.proofs.ShapeBounds.{shape-in}
-use Rattle.search.specs.Net.{Net}
-use Rattle.search.specs.Shape.{netOf, Sound, Spacious}
-use Rattle.choosing.specs.Shape.{Drawn}
+use Rattle.nets.specs.Net.{Net}
+use Rattle.nets.specs.Tables.{netOf, Sound}
+use Rattle.choosing.specs.Shape.{headOf, Drawn}
 use Rattle.choosing.proofs.Drawing.{drawn, sound}
 use Rattle.choosing.proofs.Promised.{none-suitable, least-suitable}
 use Rattle.choosing.proofs.cheapest.cheapest.Statement.{statement}
@@ -55,7 +56,13 @@ choose-requires : tie.Need-choose-requires
 choose-requires c κs =
     let options = c .before .before .before .before .before in
     let p = start options .pre in
-    (taken options, record { rows = p .2; column = omega arith; narrow = omega (arith, head (start options) .delivered) })
+    let j = start options .args .job in (
+      taken options,
+      (
+        omega (arith, head (start options) .delivered),
+        omega (arith, p .2, mul-le-mul {n₁ = countOf j + 1} {m₁ = headOf j + 1} {n₂ = countOf j + 1} {m₂ = j .head .delivered + 1001} (omega arith) (omega arith)),
+      ),
+    )
 
 returns : tie.Need-returns
 returns c =
@@ -68,5 +75,5 @@ pub cheapest-spec : {M : Type 1} → statement M
 cheapest-spec =
     tie.close
     (tie.spec (λ c. search needs) shared-slice-read-sizes cast-sizes (λ c. search needs) (λ c. search needs) (λ c κs. search needs) put-options-requires
-    (λ c. omega (arith, head (c .before .before .before .before .before .before .before .before .before .before .before .before .before .before .before .before .before) .delivered)) (λ c. omega (arith, head (c .before .before .before .before .before .before .before .before .before .before .before .before .before .before .before .before .before) .delivered)) (λ c. omega (arith, head (c .before .before .before .before .before .before .before .before .before .before .before .before .before .before .before .before .before) .meter))
+    (λ c. omega (arith, head (c .before .before .before .before .before .before .before .before .before .before .before .before .before .before .before .before .before) .delivered)) (λ c. omega (arith, head (c .before .before .before .before .before .before .before .before .before .before .before .before .before .before .before .before .before) .meter))
     choose-requires (λ c. search needs) returns)

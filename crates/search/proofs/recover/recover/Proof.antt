@@ -5,19 +5,19 @@ use Prim.Native.Nat.{ℕ, _+_, _-_, _*_, _≤_, _<_}
 use native.Mathlib.Omega.{arith}
 use borrow.Author.Needs.{needs}
 use lib.ListN.{getD}
-use Rattle.search.specs.Net.{Net}
-use Rattle.search.specs.Shape.{netOf}
-use Rattle.search.proofs.Steps.{row-fits}
-use Rattle.search.proofs.Reading.{Stands, stands-none, stands-all, Taken, stands-take, stands-turn}
+use Rattle.nets.specs.Net.{Net}
+use Rattle.nets.specs.Tables.{netOf}
+use Rattle.rows.proofs.Fillings.{row-fits}
+use Rattle.search.proofs.Reading.{ReadBack, Taken, read-none, read-turn, read-all, row-room, row-take}
 use Rattle.search.proofs.recover.recover.Statement.{statement}
 use Rattle.search.proofs.recover.recover.Tie as tie
 
 abbrev Inv-loop : tie.InvT-loop
-Inv-loop ws parents needs highs losses costs sections sizes head width heads₀ list₀ s₀ heads list s =
-    (s ≤ sections) × Stands (netOf sections sizes parents needs losses costs) (λ s. getD highs s 0) list heads s
+Inv-loop ws parents needs highs losses costs sections sizes head heads₀ list₀ s₀ heads list s =
+    (s ≤ sections) × ReadBack (netOf sections sizes parents needs losses costs) (λ s. getD highs s 0) list heads s
 
 abbrev μ-loop : tie.MeasureT-loop
-μ-loop ws parents needs highs losses costs sections sizes head width heads₀ list₀ s₀ heads list s = sections - s
+μ-loop ws parents needs highs losses costs sections sizes head heads₀ list₀ s₀ heads list s = sections - s
 
 -- the net of the arguments, and what its ends can use
 abbrev net : tie.Start Inv-loop μ-loop → Net
@@ -27,73 +27,64 @@ abbrev high : tie.Start Inv-loop μ-loop → ℕ → ℕ
 high b s = getD (b .args .highs .now) s 0
 
 loop-holds : tie.Need-loop-holds Inv-loop μ-loop
-loop-holds c =
-    let b = c .before .before in (omega arith, stands-none (net b) (b .pre .0 .0) (high b) _ _ refl refl refl)
+loop-holds c = let b = c .before .before in (omega arith, read-none (net b) (high b) _ _ refl refl refl)
 
 -- the parent's number is less
-parent-low : (c : tie.After-wide8 Inv-loop μ-loop) → c .wide8 .result ≤ c .before .before .before .before .before .before .loop .s
+parent-low : (c : tie.After-wide8 Inv-loop μ-loop) → c .wide8 .result ≤ c .before .before .before .before .loop .s
 parent-low c =
-    let g = c .before .before .before .before .before .before in
+    let g = c .before .before .before .before in
     let b = g .before .before .before in
-    omega (arith, c .wide8 .ensures .0, b .pre .0 .0 .lower (g .loop .s + 1) (omega arith) (omega arith))
-
--- the section's row is within the workspace
-fits : (c : tie.At-loop Inv-loop μ-loop) → c .loop .s < c .before .before .before .args .sections →
-    let a = c .before .before .before .args in
-    ((c .loop .s + 1) * (a .head + 1) + (a .head + 1) ≤ (a .sections + 1) * (a .head + 1)) × (getD (a .highs .now) (c .loop .s + 1) 0 ≤ a .head)
-fits c l =
-    let b = c .before .before .before in
-    (row-fits (c .loop .s + 1) (b .args .sections) (b .args .head + 1) (omega arith), b .pre .0 .1 .most (c .loop .s + 1) (omega arith))
-
-mul-wide32-2 : tie.Need-mul-wide32-2 Inv-loop μ-loop
-mul-wide32-2 c = let g = c .before .before .before .before .before .before in omega (arith, fits g (omega arith), g .before .before .before .pre .0 .2 .rows)
+    omega (arith, c .wide8 .ensures .0, b .pre .0 .sound .lower (g .loop .s + 1) (omega arith) (omega arith))
 
 cheapest-requires : tie.Need-cheapest-requires Inv-loop μ-loop
 cheapest-requires c κs =
-    let g = c .before .before .before .before .before .before in
+    let r = c .before .before .row-of in
+    let g = c .before .before .before .before in
     let b = g .before .before .before in
-    omega (arith, fits g (omega arith), b .pre .0 .2 .rows, b .pre .0 .0 .few, b .pre .0 .0 .sizes, c .before .before .wide32 .ensures .1)
+    let a = b .args in
+    row-room (a .sections) (a .sizes) (a .parents .now) (a .needs .now) (a .losses .now) (a .costs .now) (a .highs .now) (a .head) (b .pre .0) (g .loop .s + 1) (omega arith) (r .ensures .1)
+    (r .result) (r .ensures .0)
 
 -- the size picked
-taken : (c : tie.After-cheapest Inv-loop μ-loop) →
-    let d = c .before in
-    let g = d .before .before .before .before .before .before in
-    let b = g .before .before .before in
-    Taken (net b) (high b) (g .loop .s + 1) (getD (g .loop .heads) (d .wide8 .result) 0) (c .cheapest .result .size)
-taken c =
-    let d = c .before in
-    let g = d .before .before .before .before .before .before in
-    let b = g .before .before .before in
-    stands-take (net b) (b .pre .0 .0) (high b) (g .loop .inv .1) (b .args .head) (b .pre .0 .1) (λ s t. refl) (b .args .ws .now) (b .args .head + 1)
-    (c .cheapest .result .cost) (c .cheapest .result .size) (d .wide8 .result) (d .before .before .wide32 .result) (high b (g .loop .s + 1))
-    (b .pre .1 .0) (omega arith) (omega (arith, b .pre .0 .2 .narrow)) (d .before .before .before .before .before .loop-test .taken) (b .pre .1 .1) (d .wide8 .ensures .0) (d .before .before .wide32 .ensures .0) refl (c .cheapest .ensures)
+module _ (c : tie.After-cheapest Inv-loop μ-loop) where
+  abbrev g : tie.At-loop Inv-loop μ-loop
+  g = c .before .before .before .before .before
+
+  abbrev b : tie.Start Inv-loop μ-loop
+  b = g .before .before .before
+
+  abbrev p : ℕ
+  p = c .before .wide8 .result
+
+  more : g .loop .s < b .args .sections
+  more = c .before .before .before .before .loop-test .taken
+
+  taken : Taken (net b) (high b) (g .loop .s + 1) (getD (g .loop .heads) p 0) (c .cheapest .result)
+  taken =
+      let r = c .before .before .before .row-of in
+      let a = b .args in
+      row-take (a .sections) (a .sizes) (a .parents .now) (a .needs .now) (a .losses .now) (a .costs .now) (a .highs .now) (a .head) (b .pre .0) (g .loop .inv .1) (a .ws .now)
+      (c .cheapest .result) p (b .pre .1 .0) more (b .pre .1 .1) (c .before .wide8 .ensures .0) (r .result) (r .ensures .0) (c .cheapest .ensures)
+
+  size-low : c .cheapest .result ≤ 12
+  size-low = omega (arith, taken .few, b .pre .0 .sound .sizes)
 
 loop-again : tie.Need-loop-again Inv-loop μ-loop
 loop-again c =
-    let k = c .before .before .before in
-    let d = k .before in
-    let g = d .before .before .before .before .before .before in
-    let b = g .before .before .before in
-    let test = d .before .before .before .before .before .loop-test .taken in (
-      omega (arith, test),
-      stands-turn (net b) (b .pre .0 .0) (high b) (g .loop .inv .1) (k .cheapest .result .size) (d .wide8 .result) (c .before .wide322 .result) (high b (g .loop .s + 1))
-          (c .lesser .result) test (b .pre .1 .1) (taken k) (d .wide8 .ensures .0) (c .before .wide322 .ensures .0) refl (c .lesser .ensures),
+    let w = c .before .before in
+    let k = w .before .before in (
+      omega (arith, more k),
+      read-turn (b k .pre .0) (g k .loop .inv .1) (k .cheapest .result) (p k) (w .wide32 .result) (c .lesser .result) (more k) (b k .pre .1 .1) (taken k)
+          (k .before .wide8 .ensures .0) (w .wide32 .ensures .0) (c .lesser .ensures),
     )
 
 returns : tie.Need-returns Inv-loop μ-loop
-returns c =
-    let g = c .before in
-    let b = g .before .before .before in
-    stands-all (net b) (b .pre .0 .0) (high b) (g .loop .inv .1) (b .args .head) (b .pre .0 .1) (g .loop .inv .0) (omega arith)
-
--- a size is at most 12
-size-low : (c : tie.After-cheapest Inv-loop μ-loop) → c .cheapest .result .size ≤ 12
-size-low c = let b = c .before .before .before .before .before .before .before .before .before .before in omega (arith, c .cheapest .ensures .high, b .pre .0 .0 .sizes)
+returns c = let g = c .before in let b = g .before .before .before in read-all (b .pre .0) (g .loop .inv .1) (g .loop .inv .0) (omega arith)
 
 pub recover-spec : {M : Type 1} → statement M
 recover-spec =
     tie.close
-    (tie.spec Inv-loop μ-loop (λ c. search needs) (λ c. search needs) (λ c. search needs) loop-holds (λ c. omega arith) (λ c. omega arith) (λ c. omega arith) (λ c. omega arith)
-    (λ c. omega arith) (λ c. omega arith) (λ c κs. search needs) (λ c. omega arith) (λ c κs. search needs) (λ c. search needs) (λ c. omega (arith, parent-low c)) mul-wide32-2 cheapest-requires
-    (λ c. omega (arith, size-low c)) (λ c. omega arith) (λ c. omega (arith, size-low c)) (λ c. omega (arith, size-low c)) (λ c. omega (arith, size-low c)) (λ c κs. search needs)
-    (λ c. omega (arith, taken (c .before .before) .fits)) (λ c κs. search needs) (λ c. omega arith) (λ c. omega arith) (λ c. omega arith) loop-again returns)
+    (tie.spec Inv-loop μ-loop (λ c. search needs) (λ c. search needs) loop-holds (λ c. omega arith) (λ c κs. let b = c .before .before .before .before in omega (arith, b .pre .0 .sound .few, b .pre .0 .narrow)) (λ c. search needs) (λ c κs. search needs) (λ c. search needs) (λ c. omega (arith, parent-low c))
+    cheapest-requires (λ c. omega (arith, size-low c)) (λ c. omega arith) (λ c. search needs) (λ c. omega (arith, size-low c)) (λ c. omega (arith, size-low c)) (λ c. omega (arith, size-low c)) (λ c κs. search needs)
+    (λ c. omega (arith, taken (c .before .before) .fits))
+    (λ c. search needs) (λ c. search needs) (λ c κs. search needs) (λ c. search needs) (λ c. search needs) (λ c. omega arith) loop-again returns)

@@ -1,0 +1,3 @@
+pub mod Greatest
+pub mod Paths
+pub mod Required

@@ -1,0 +1,4 @@
+pub mod Least
+pub mod Potential
+pub mod Optimum
+pub mod Falling

@@ -1,0 +1,4 @@
+pub mod Workspace
+pub mod Writes
+pub mod Offers
+pub mod Fillings

@@ -1,0 +1,18 @@
+-- `rows::cells::get` meets its contract.
+-- Assumes nothing.
+use borrow.Author.Needs.{needs}
+use Rattle.rows.specs.Cells.{cellAt}
+use Rattle.rows.proofs.cells.get.Statement.{statement}
+use Rattle.rows.proofs.cells.get.Tie as tie
+
+returns : tie.Need-returns
+unfolding cellAt
+returns c = search needs
+
+pub get-spec : {M : Type 1} → statement M
+get-spec =
+    tie.close
+    (tie.spec (λ c. search needs) (λ c. search needs) (λ c κs. search needs) (λ c. search needs) (λ c. search needs) (λ c. search needs)
+    (λ c κs. search needs) (λ c. search needs) (λ c. search needs) (λ c. search needs) (λ c. search needs) (λ c. search needs)
+    (λ c κs. search needs) (λ c. search needs) (λ c. search needs) (λ c. search needs) (λ c. search needs) (λ c. search needs)
+    (λ c κs. search needs) (λ c. search needs) (λ c. search needs) returns)

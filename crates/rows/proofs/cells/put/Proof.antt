@@ -1,0 +1,18 @@
+-- `rows::cells::put` meets its contract.
+-- Assumes nothing.
+use borrow.Author.Needs.{needs}
+use native.Mathlib.Omega.{arith}
+use lib.ListN.{length-set}
+use Rattle.rows.proofs.Workspace.{written}
+use Rattle.rows.proofs.cells.put.Statement.{statement}
+use Rattle.rows.proofs.cells.put.Tie as tie
+
+returns : tie.Need-returns
+returns c = written (c .args .ws .now) (c .args .k) (c .args .v) (omega arith)
+
+pub put-spec : {M : Type 1} → statement M
+put-spec =
+    tie.close
+    (tie.spec (λ c. search needs) (λ c. search needs) (λ c. search needs) (λ c. search needs) (λ c. search needs) (λ c. search needs)
+    (λ c. simp length-set (omega arith)) (λ c. search needs) (λ c. search needs) (λ c. search needs) (λ c. simp length-set (omega arith)) (λ c. search needs) (λ c. search needs)
+    (λ c. search needs) (λ c. simp length-set (omega arith)) (λ c. search needs) returns)
