@@ -80,16 +80,10 @@ fn choosing(load: &Load) -> String {
     let tree = &Tree::of(&judged.order());
     let (mut cells, mut rows) = (Dense::default(), Dense::default());
     let (mut ranges, mut fronts) = (Ranges::default(), Fronts::default());
-    let searches: [Search; 4] = [
-        &mut || cells.choose(black_box(tree), Form::CellByCell),
-        &mut || rows.choose(black_box(tree), Form::RowByRow),
-        &mut || ranges.choose(black_box(tree)),
-        &mut || fronts.choose(black_box(tree)),
-    ];
-    let [mut cell_by_cell, mut row_by_row, mut dropped, mut dropped_fronts] = searches.map(|search| {
-        assert_eq!(search().map(|(cost, _)| i128::from(cost)), Some(cost), "the rivals find the same cost");
-        move || drop(black_box(search()))
-    });
+    let mut cell_by_cell = side(cost, || cells.choose(black_box(tree), Form::CellByCell));
+    let mut row_by_row = side(cost, || rows.choose(black_box(tree), Form::RowByRow));
+    let mut dropped = side(cost, || ranges.choose(black_box(tree)));
+    let mut dropped_fronts = side(cost, || fronts.choose(black_box(tree)));
     let (mut work, mut out) = (vec![0; case.work.length], vec![0; case.out.length]);
     ffi::choose(&case.job, &case.cat, &mut work, &mut out);
     assert_eq!(out[..4], (cost as u32).to_be_bytes(), "the library finds the same cost");
@@ -105,8 +99,11 @@ fn choosing(load: &Load) -> String {
     format!("|{pipes}|{sections}|{head}|{}|{}\n", micros(&times[0]), over.collect::<String>())
 }
 
-/// A rival's search for the same list.
-type Search<'a> = &'a mut dyn FnMut() -> Found;
+/// A rival's search, once it has found the least cost, without its result.
+fn side(cost: i128, mut search: impl FnMut() -> Found) -> impl FnMut() {
+    assert_eq!(search().map(|(cost, _)| i128::from(cost)), Some(cost), "the rivals find the same cost");
+    move || drop(black_box(search()))
+}
 
 fn other(call: Call, sections: usize) -> String {
     let mut case = Load { sections, head: 3_000, sizes: 12, pipes: Pipes::AllServe }.case();

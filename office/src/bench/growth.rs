@@ -2,7 +2,7 @@
 
 use super::Load;
 use super::houses::Pipes;
-use super::timing::{median, micros, race};
+use super::timing::{Spread, micros, race};
 use crate::ffi;
 use crate::model::judge;
 use crate::rivals::ranges::{Ranges, offer};
@@ -22,7 +22,7 @@ pub fn table() -> String {
     };
     [1, 8, 16, 32, 63].iter().for_each(|sections| put(*sections, 6_000, 12, Pipes::WorstChain));
     [1_000, 2_000, 4_000].iter().for_each(|head| put(63, *head, 12, Pipes::WorstChain));
-    [1, 3, 6].iter().for_each(|sizes| put(63, 6_000, *sizes, Pipes::WorstChain));
+    [3, 6].iter().for_each(|sizes| put(63, 6_000, *sizes, Pipes::WorstChain));
     for pipes in [Pipes::Real, Pipes::AllServe] {
         [8, 32, 63].iter().for_each(|sections| put(*sections, 6_000, 12, pipes));
     }
@@ -45,8 +45,8 @@ fn growth(load: &Load) -> String {
     let times = race(&mut [&mut library, &mut limit]);
     let Load { sections, head, sizes, pipes } = load;
     let (own, least) = (micros(&times[0]), micros(&times[1]));
-    let over = median(&times[0]) / median(&times[1]);
-    format!("|{pipes}|{sections}|{head}|{sizes}|{own}|{cells}|{visits}|{least}|{over:.1}|")
+    let over = Spread::of_ratios(&times[0], &times[1]);
+    format!("|{pipes}|{sections}|{head}|{sizes}|{own}|{cells}|{visits}|{least}|{over}|")
 }
 
 /// As many cells as the nearest cache holds of two rows.
