@@ -1,14 +1,18 @@
-//! The library against its rivals, on the same inputs and in one run: flow, rate and choose of the independent model, and the
-//! dense search in safe Rust. Nobody clears a buffer between calls. Ratios are the library's time over the rival's, taken
-//! round by round with the sides in turn, so that a slow moment of the machine falls on all of them.
+//! The library against its rivals, on the same inputs and in one run: flow, rate and choose of the independent model, and
+//! searches in safe Rust. Nobody clears a buffer between calls. Ratios are the library's time over the rival's, taken round
+//! by round with the sides in turn, so that a slow moment of the machine falls on all of them.
 
+mod growth;
 mod houses;
 mod timing;
 
 use crate::case::{Buffer, Call, Case};
-use crate::dense::{Form, Rows, Tree};
 use crate::ffi;
 use crate::model::{Expected, judge, result_bytes, work_bytes};
+use crate::rivals::dense::{Dense, Form};
+use crate::rivals::fronts::Fronts;
+use crate::rivals::ranges::Ranges;
+use crate::rivals::tree::{Found, Tree};
 use houses::{Pipes, catalogue, house};
 use std::fmt::Write;
 use std::hint::black_box;
@@ -19,9 +23,8 @@ pub fn bench() -> String {
     let mut text = String::new();
     let _ = writeln!(
         text,
-        "choosing: library's whole call against the dense search alone and the model's call (12 sizes of 64 rows)"
+        "choosing: library's whole call against searches alone and the model's call (12 sizes of 64 rows)\n{CHOOSING}"
     );
-    let _ = writeln!(text, "{CHOOSING}");
     for pipes in [Pipes::Real, Pipes::AllServe] {
         for sections in [8, 32, 63] {
             for head in [1_000, 3_000, 6_000] {
@@ -29,33 +32,25 @@ pub fn bench() -> String {
             }
         }
     }
+    for pipes in [Pipes::WorstChain, Pipes::WorstBinary] {
+        for sections in [32, 63] {
+            text += &choosing(&Load { sections, head: 6_000, sizes: 12, pipes });
+        }
+    }
     let _ = writeln!(text, "\nflow and rating: library against the model (12 sizes of 64 rows)\n{OTHERS}");
     for sections in [8, 32, 63] {
         text += &other(Call::Flow, sections);
         text += &other(Call::Rate, sections);
     }
-    let _ = writeln!(text, "\nhow the library's choosing grows, every size serving every section\n{GROWTH}");
-    for sections in [1, 8, 16, 32, 63] {
-        text += &growth(&Load { sections, head: 6_000, sizes: 12, pipes: Pipes::AllServe });
-    }
-    for head in [1_000, 2_000, 4_000] {
-        text += &growth(&Load { sections: 63, head, sizes: 12, pipes: Pipes::AllServe });
-    }
-    for sizes in [1, 3, 6] {
-        text += &growth(&Load { sections: 63, head: 6_000, sizes, pipes: Pipes::AllServe });
-    }
-    text
+    text + &growth::table()
 }
 
 const CHOOSING: &str = "\
-|pipes|S|H|library µs|over dense, cell by cell|over dense, row by row|over model (fronts)|
-|-|-|-|-|-|-|-|";
+|pipes|S|H|library µs|over dense, cell by cell|over dense, row by row|over dense, row by row, sizes dropped|over model (fronts)|over fronts, sizes dropped|
+|-|-|-|-|-|-|-|-|-|";
 const OTHERS: &str = "\
 |call|S|library µs|over model|
 |-|-|-|-|";
-const GROWTH: &str = "\
-|S|H|sizes|library µs|ns for each cell and size|
-|-|-|-|-|-|";
 
 /// What a search is made to do.
 struct Load {
@@ -69,7 +64,7 @@ impl Load {
     fn case(&self) -> Case {
         Case {
             call: Call::Choose,
-            job: house(self.sections, self.head),
+            job: house(self.sections, self.head, self.pipes),
             cat: catalogue(self.sizes, 64, self.pipes),
             sizes: Vec::new(),
             work: Buffer { length: work_bytes(self.sections, self.head), pattern: Vec::new() },
@@ -82,25 +77,32 @@ fn choosing(load: &Load) -> String {
     let case = load.case();
     let judged = judge(&case);
     let Expected::Chosen { cost, .. } = judged.result else { panic!("the benchmark's house has a suitable list") };
-    let tree = Tree::of(&judged.order());
+    let tree = &Tree::of(&judged.order());
+    let (mut cells, mut rows) = (Dense::default(), Dense::default());
+    let (mut ranges, mut fronts) = (Ranges::default(), Fronts::default());
+    let mut cell_by_cell = side(cost, || cells.choose(black_box(tree), Form::CellByCell));
+    let mut row_by_row = side(cost, || rows.choose(black_box(tree), Form::RowByRow));
+    let mut dropped = side(cost, || ranges.choose(black_box(tree)));
+    let mut dropped_fronts = side(cost, || fronts.choose(black_box(tree)));
     let (mut work, mut out) = (vec![0; case.work.length], vec![0; case.out.length]);
-    let (mut cells, mut rows) = (Rows::default(), Rows::default());
-    for form in [Form::CellByCell, Form::RowByRow] {
-        let found = tree.choose(&mut cells, form).map(|(cost, _)| i128::from(cost));
-        assert_eq!(found, Some(cost), "the rivals find the same cost");
-    }
+    ffi::choose(&case.job, &case.cat, &mut work, &mut out);
+    assert_eq!(out[..4], (cost as u32).to_be_bytes(), "the library finds the same cost");
     let mut library = || {
         black_box(ffi::choose(black_box(&case.job), &case.cat, &mut work, &mut out));
     };
-    let mut cell_by_cell = || drop(black_box(black_box(&tree).choose(&mut cells, Form::CellByCell)));
-    let mut row_by_row = || drop(black_box(black_box(&tree).choose(&mut rows, Form::RowByRow)));
     let mut model = || drop(black_box(judge(black_box(&case))));
-    let sides: &mut [Side] = &mut [&mut library, &mut cell_by_cell, &mut row_by_row, &mut model];
+    let sides: &mut [Side] =
+        &mut [&mut library, &mut cell_by_cell, &mut row_by_row, &mut dropped, &mut model, &mut dropped_fronts];
     let times = race(sides);
-    assert_eq!(out[..4], (cost as u32).to_be_bytes(), "the library finds the same cost");
-    let over = |rival: usize| Spread::of_ratios(&times[0], &times[rival]);
+    let over = (1..times.len()).map(|rival| format!("{}|", Spread::of_ratios(&times[0], &times[rival])));
     let Load { sections, head, pipes, .. } = load;
-    format!("|{pipes}|{sections}|{head}|{}|{}|{}|{}|\n", micros(&times[0]), over(1), over(2), over(3))
+    format!("|{pipes}|{sections}|{head}|{}|{}\n", micros(&times[0]), over.collect::<String>())
+}
+
+/// A rival's search, once it has found the least cost, without its result.
+fn side(cost: i128, mut search: impl FnMut() -> Found) -> impl FnMut() {
+    assert_eq!(search().map(|(cost, _)| i128::from(cost)), Some(cost), "the rivals find the same cost");
+    move || drop(black_box(search()))
 }
 
 fn other(call: Call, sections: usize) -> String {
@@ -127,27 +129,14 @@ fn other(call: Call, sections: usize) -> String {
     format!("|{}|{sections}|{}|{}|\n", call.name(), micros(&times[0]), Spread::of_ratios(&times[0], &times[1]))
 }
 
-fn growth(load: &Load) -> String {
-    let case = load.case();
-    let (mut work, mut out) = (vec![0; case.work.length], vec![0; case.out.length]);
-    let mut library = || {
-        black_box(ffi::choose(black_box(&case.job), &case.cat, &mut work, &mut out));
-    };
-    let sides: &mut [Side] = &mut [&mut library];
-    let times = race(sides);
-    let visits = (load.sections * load.sizes * (load.head + 1_001)) as f64;
-    let Load { sections, head, sizes, .. } = load;
-    let each = timing::median(&times[0]) / visits;
-    format!("|{sections}|{head}|{sizes}|{}|{each:.2}|\n", micros(&times[0]))
-}
-
 #[cfg(test)]
 mod tests {
     use super::*;
+    use crate::rivals::trim::Trim;
 
     #[test]
     fn the_houses_have_suitable_lists() {
-        for pipes in [Pipes::Real, Pipes::AllServe] {
+        for pipes in Pipes::ALL {
             for sections in 1..=63 {
                 for head in [1_000, 6_000] {
                     let case = Load { sections, head, sizes: 12, pipes }.case();
@@ -155,5 +144,18 @@ mod tests {
                 }
             }
         }
+    }
+
+    #[test]
+    fn next_to_nothing_can_be_left_out_of_the_worst_chain() {
+        let case = Load { sections: 63, head: 6_000, sizes: 12, pipes: Pipes::WorstChain }.case();
+        let tree = Tree::of(&judge(&case).order());
+        assert_eq!(tree.head, 7_000);
+        assert!(tree.parts.iter().all(|part| part.need == 0));
+        let mut trim = Trim::default();
+        assert!(trim.trim(&tree));
+        assert!((1..=63).all(|section| trim.fits(section).len() == 12));
+        let cells: usize = (0..=63).map(|row| trim.cells(row)).sum();
+        assert!(cells > 64 * 7_001 * 17 / 20, "{cells} cells");
     }
 }

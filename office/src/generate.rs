@@ -45,8 +45,8 @@ pub fn case(seed: u64, index: u64) -> Case {
 
 /// A case that is accepted, most of the time.
 fn sound(rng: &Rng, call: Call) -> Case {
-    // Choosing for many sections takes milliseconds, so it is rarer.
-    let large_once_in = if call == Call::Choose { 100 } else { 12 };
+    // Choosing for many sections takes the model a millisecond, and its workspace is long, so it is rarer.
+    let large_once_in = if call == Call::Choose { 40 } else { 12 };
     let extreme = rng.once_in(if call == Call::Choose { 100 } else { 30 });
     let mut draft = match rng.below(8) {
         _ if extreme => extremes::longest(rng),

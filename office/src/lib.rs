@@ -3,7 +3,7 @@
 //! - [`flow`], [`rate`], [`choose`] and [`copy`] call the proved library and give typed results or a [`Refusal`].
 //! - `ffi` has the same calls on lent buffers, and the only unsafe code.
 //! - `model` is document 01 once more, written independently; [`soak`] and [`replay`] compare the two.
-//! - [`bench()`] times the library against the model and against `dense`, a plain search in safe Rust.
+//! - [`bench()`] times the library against the model and against `rivals`, searches in safe Rust.
 //! - [`house`] and [`table`] are the readable files, [`places`] says where a refusal lies, [`draw`] draws a house; the command
 //!   `office` puts them before people.
 
@@ -13,11 +13,11 @@ mod bench;
 pub mod calls;
 pub mod case;
 pub mod compare;
-pub mod dense;
 pub mod ffi;
 pub mod generate;
 pub mod model;
 pub mod refusal;
+pub mod rivals;
 pub mod situations;
 
 pub use bench::bench;

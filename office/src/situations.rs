@@ -1,6 +1,7 @@
 //! What the generated cases reached, counted, so that a generator that goes dull is noticed.
 
 mod notes;
+mod searches;
 
 use crate::case::Call;
 use crate::model;
@@ -58,12 +59,23 @@ situations! {
     TiesInCost: "several cheapest lists",
     Tried: "a least cost found by brute force too",
     TriedNone: "no suitable list by brute force too",
+    SizeTooLong: "a list chosen where a size loses more than a section has",
+    SizeNoBetter: "a list chosen where a size neither loses nor costs less than a narrower one",
+    OneSizeLeft: "a list chosen where one size alone is left of several that serve a section",
+    EqualSizes: "a list chosen where two sizes lose the same and cost the same at a section",
+    OneHeadAtPump: "a list chosen where one head alone is of use at the pump",
+    OneHeadAtParent: "a list chosen where one head alone is of use at the end of a section that is a parent",
+    HeadToSpare: "a list chosen where the pump has more head than is of use",
+    HeadAllUsed: "a list chosen where the greatest losses would use more head than the pump has",
+    SizeNotOffered: "a list chosen where a size is not worth offering from some head on",
+    RefusedTogether: "no suitable list, though each section alone could be served from the pump",
     OutExact: "a result in a buffer of exactly its length",
     OutLonger: "a result in a longer buffer",
     OutOneShort: "14 with a buffer one byte short",
     OutEmpty: "14 with an empty buffer",
     WorkExact: "a list chosen in a workspace of exactly its length",
     WorkLonger: "a list chosen in a longer workspace",
+    WorkOnes: "a list chosen in a workspace of nothing but ones",
     WorkOneShort: "15 with a workspace one byte short",
     WorkEmpty: "15 with an empty workspace",
     WorkKept: "a refusal under 16 that had a workspace to leave alone",

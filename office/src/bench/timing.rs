@@ -40,7 +40,7 @@ fn calls_in_a_try(side: &mut Side) -> u32 {
     calls
 }
 
-pub fn median(times: &[f64]) -> f64 {
+fn median(times: &[f64]) -> f64 {
     let mut sorted = times.to_vec();
     sorted.sort_by(f64::total_cmp);
     sorted[sorted.len() / 2]
@@ -49,7 +49,14 @@ pub fn median(times: &[f64]) -> f64 {
 /// The median in microseconds, as text.
 pub fn micros(times: &[f64]) -> String {
     let micros = median(times) / 1_000.0;
-    if micros < 100.0 { format!("{micros:.1}") } else { format!("{micros:.0}") }
+    let places = if micros < 1.0 {
+        2
+    } else if micros < 100.0 {
+        1
+    } else {
+        0
+    };
+    format!("{micros:.places$}")
 }
 
 /// The least, the middle and the greatest ratio of the rounds.

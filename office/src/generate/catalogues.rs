@@ -20,9 +20,16 @@ pub fn catalogue(rng: &Rng, measure: &Measure) -> Vec<DraftSize> {
     let real = !rng.once_in(4);
     let price = rng.scaled(20, 1_500);
     let one_price = rng.once_in(8);
+    let twins = rng.once_in(8);
     let mut bore = rng.between(1, 60);
-    let mut sizes = Vec::new();
+    let mut sizes: Vec<DraftSize> = Vec::new();
     for place in 0..count {
+        if let Some(twin) = sizes.last().filter(|_| twins && rng.once_in(2)).cloned() {
+            // The same pipe under another bore, so that two sizes lose the same and cost the same.
+            sizes.push(DraftSize { bore: bore as u16, ..twin });
+            bore += rng.scaled(1, 1_000);
+            continue;
+        }
         let last = if real && !rng.once_in(8) { most + rng.between(0, most) } else { rng.between(rows, 2 * most) };
         let share = if real { count - place } else { rng.between(1, count) };
         let velocity = (measure.limit * share * 3 / (2 * count)).clamp(1, 65_535);

@@ -19,7 +19,10 @@ impl Counters {
         }
         match &judged.result {
             Expected::Rated(rating) => self.note_rating(judged, rating),
-            Expected::Chosen { cost, list } => self.note_choice(judged, *cost, list),
+            Expected::Chosen { cost, list } => {
+                self.note_choice(judged, *cost, list);
+                self.note_search(judged);
+            }
             _ => {}
         }
         if matches!(case.call, Call::Rate | Call::Choose) && (1..=12).all(|number| !judged.faults.has(number)) {
@@ -27,6 +30,7 @@ impl Counters {
         }
         if judged.number == 16 {
             self.note_none(judged);
+            self.note_refused_together(judged);
         }
     }
 
@@ -42,6 +46,8 @@ impl Counters {
         self.saw(OutEmpty, judged.number == 14 && case.out.length == 0);
         self.saw(WorkExact, chosen && case.work.length == work);
         self.saw(WorkLonger, chosen && case.work.length > work);
+        let ones = !case.work.pattern.is_empty() && case.work.pattern.iter().all(|byte| *byte == 0xff);
+        self.saw(WorkOnes, chosen && ones);
         self.saw(WorkOneShort, judged.number == 15 && case.work.length + 1 == work);
         self.saw(WorkEmpty, judged.number == 15 && case.work.length == 0);
         self.saw(WorkKept, (1..=15).contains(&judged.number) && case.work.length > 0);
