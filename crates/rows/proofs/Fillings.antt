@@ -16,9 +16,10 @@ use Rattle.basis.proofs.Bools.{apart, same, right}
 use Rattle.nets.specs.Net.{Net}
 use Rattle.nets.specs.Tables.{top, netOf}
 use Rattle.plan.specs.Plan.{mark, leastTo, option, cell, planOf}
-use Rattle.rows.specs.Cells.{cellAt}
+use Rattle.cells.specs.Cells.{cellAt}
 use Rattle.rows.specs.declared.raise.Row.{Row}
-use Rattle.rows.specs.Contracts.{optionAt, rowAt, rowOf, optionsOf, Filled, standing, Moderate, Offerable, Fillable, Filling, Holds}
+use Rattle.rows.specs.Contracts.{optionAt, rowAt, rowOf, optionsOf, Moderate, Offerable, Fillable, Filling, Holds}
+use Rattle.cells.specs.Contracts.{Filled, standing}
 use Rattle.plan.proofs.Least.{least-ext}
 use Rattle.plan.proofs.Falling.{cell-falls}
 use Rattle.plan.proofs.Potential.{cell-last, cell-most, cell-parent, cell-other, nextLeast}

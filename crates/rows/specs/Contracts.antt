@@ -10,7 +10,7 @@ use Rattle.nets.specs.Net.{Net}
 use Rattle.nets.specs.Tables.{top, Sound}
 use Rattle.plan.specs.Plan.{mark, leastTo, cell, planOf, Usable}
 use Rattle.rows.specs.declared.raise.Row.{Row}
-use Rattle.rows.specs.Cells.{cellAt}
+use Rattle.cells.specs.Cells.{cellAt}
 
 -- the cost of a size at the head h: `v t x` is the cost of all below the section's end with size t and the head x there
 abbrev pub optionAt : (ℕ → ℕ) → (ℕ → ℕ) → ℕ → (ℕ → ℕ → ℕ) → ℕ → ℕ → ℕ
@@ -31,24 +31,6 @@ rowOf needs highs a s = record { need = getD needs s 0; high = getD highs s 0; a
 -- the options of a section, by head and size
 abbrev pub optionsOf : Row → List ℕ → List ℕ → List ℕ → ℕ → ℕ → ℕ
 optionsOf s losses costs ws = optionAt («from» losses (s .at)) («from» costs (s .at)) (s .need) (rowAt ws (s .first) (s .stride) (s .high))
-
--- f is offered to the places from `start` to `end`: each keeps the least, and no other changes
-pub record Offered (before after : List ℕ) (start end : ℕ) (f : ℕ → ℕ) : Type 0 where
-  pub long : length after ≡ length before
-  pub within : (h : ℕ) → start ≤ h → h < end → getD after h 0 ≡ min (getD before h 0) (f h)
-  pub below : (h : ℕ) → h < start → getD after h 0 ≡ getD before h 0
-  pub above : (h : ℕ) → end ≤ h → getD after h 0 ≡ getD before h 0
-
--- f is written to the cells from up + start to up + end, and no other cell changes
-pub record Filled (before after : List ℕ) (up start end : ℕ) (f : ℕ → ℕ) : Type 0 where
-  pub long : length after ≡ length before
-  pub within : (h : ℕ) → start ≤ h → h < end → cellAt after (up + h) ≡ f h
-  pub below : (j : ℕ) → j < up + start → cellAt after j ≡ cellAt before j
-  pub above : (j : ℕ) → up + end ≤ j → cellAt after j ≡ cellAt before j
-
--- what stands in the cells from up on, 0 where nothing does yet
-abbrev pub standing : Bool → List ℕ → ℕ → ℕ → ℕ
-standing begun ws up h = cond begun (cellAt ws (up + h)) 0
 
 -- a section's costs, and the cells that its sizes read, add up within four bytes; no cell is below the row's last
 pub record Moderate (n end need high : ℕ) (cost : ℕ → ℕ) (v : ℕ → ℕ → ℕ) : Type 0 where

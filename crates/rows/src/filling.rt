@@ -1,7 +1,7 @@
 // All rows, from the last section to the first.
 use crate::raise::raise;
 use crate::raise::row_of;
-use crate::write::settle;
+use cells::settle;
 use numbers::wide8;
 use numbers::wide32;
 use plan::MARK;
@@ -10,7 +10,8 @@ ghost use mathlib.Core.Bool.{true, false};
 ghost use Prim.Native.Nat.{ℕ, _+_, _-_, _*_, _≤_, _<_};
 ghost use lib.ListN.{length, getD, set};
 ghost use Rattle.nets.specs.Tables.{netOf};
-ghost use Rattle.rows.specs.Contracts.{Filled, standing, Fillable, Filling, Holds};
+ghost use Rattle.cells.specs.Contracts.{Filled, standing};
+ghost use Rattle.rows.specs.Contracts.{Fillable, Filling, Holds};
 
 // All sections below have been added to row s: it is 0 where there are none.
 fn complete(

@@ -1,9 +1,9 @@
 // A section is added to its parent's row.
-use crate::best::fresh;
-use crate::best::offer;
-use crate::cells::get;
-use crate::write::add;
-use crate::write::place;
+use cells::add;
+use cells::fresh;
+use cells::get;
+use cells::offer;
+use cells::place;
 use numbers::greater;
 use numbers::lesser;
 use numbers::wide32;
@@ -13,8 +13,9 @@ ghost use mathlib.Core.Bool.{true};
 ghost use Prim.Native.Nat.{ℕ, _+_, _*_, _≤_, _<_, min};
 ghost use lib.ListN.{length, getD};
 ghost use Rattle.plan.specs.Plan.{mark, leastTo};
-ghost use Rattle.rows.specs.Cells.{cellAt};
-ghost use Rattle.rows.specs.Contracts.{rowOf, optionsOf, Offerable, Lowest, Flat, Filled, standing};
+ghost use Rattle.cells.specs.Cells.{cellAt};
+ghost use Rattle.rows.specs.Contracts.{rowOf, optionsOf, Offerable, Lowest, Flat};
+ghost use Rattle.cells.specs.Contracts.{Filled, standing};
 
 // A section's row: from what its end needs to the most that it can use; where its sizes stand in the tables, and where the row starts in the workspace. The stride lays a row for each size apart (L9); at 0 the sizes share one row.
 pub struct Row {

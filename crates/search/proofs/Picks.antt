@@ -8,10 +8,10 @@ use Rattle.nets.specs.Net.{Net}
 use Rattle.plan.specs.Plan.{mark, leastTo, cell, planOf}
 use Rattle.plan.proofs.Least.{least-none, least-next}
 use Rattle.plan.proofs.Potential.{nextLeast, Cheap}
-use Rattle.rows.specs.Cells.{cellAt}
+use Rattle.cells.specs.Cells.{cellAt}
 use Rattle.rows.specs.declared.raise.Row.{Row}
 use Rattle.rows.specs.Contracts.{optionAt, rowAt, «from», optionsOf, Fillable, Holds}
-use Rattle.rows.proofs.Offers.{option-met, option-short}
+use Rattle.rows.proofs.Bests.{option-met, option-short}
 use Rattle.rows.proofs.Fillings.{option-row, least-row, row-final}
 use Rattle.search.specs.Contracts.{Picked}
 

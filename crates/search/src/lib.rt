@@ -3,11 +3,11 @@ mod pick;
 mod recover;
 mod usable;
 
+use cells::get;
 use plan::MARK;
 use pruning::prune;
 use recover::recover;
 use rows::fill;
-use rows::get;
 use usable::high_of;
 ghost use mathlib.Core.Path.{_≡_};
 ghost use mathlib.Core.Bool.{true, false};

@@ -1,9 +1,9 @@
 // A cheapest size for a section, read from its row.
+use cells::get;
 use numbers::lesser;
 use numbers::wide32;
 use plan::MARK;
 use rows::Row;
-use rows::get;
 ghost use mathlib.Core.Path.{_≡_};
 ghost use Prim.Native.Nat.{_+_, _*_, _≤_, _<_};
 ghost use lib.ListN.{length};

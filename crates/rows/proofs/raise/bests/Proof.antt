@@ -4,7 +4,7 @@ use mathlib.Core.Path.{_≡_}
 use Prim.Native.Nat.{_+_, _-_, _≤_}
 use native.Mathlib.Omega.{arith}
 use Rattle.rows.specs.Contracts.{optionsOf, Lowest, Flat}
-use Rattle.rows.proofs.Offers.{lowest-none, flat-none, offerable-less}
+use Rattle.rows.proofs.Bests.{lowest-none, flat-none, offerable-less}
 use borrow.Author.Needs.{needs}
 use Rattle.rows.proofs.raise.bests.Statement.{statement}
 use Rattle.rows.proofs.raise.bests.Tie as tie

@@ -2,7 +2,7 @@
 -- Assumes nothing.
 use native.Mathlib.Omega.{arith}
 use borrow.Author.Needs.{needs}
-use Rattle.rows.proofs.Writes.{filled-same}
+use Rattle.cells.proofs.Writes.{filled-same}
 use Rattle.rows.proofs.raise.hand_up.Statement.{statement}
 use Rattle.rows.proofs.raise.hand_up.Tie as tie
 

@@ -5,7 +5,7 @@ use native.Mathlib.Omega.{arith}
 use borrow.Author.Needs.{needs}
 use lib.ListN.{getD}
 use Rattle.plan.specs.Plan.{mark}
-use Rattle.rows.proofs.Offers.{next-skip, last-most, next-moderate, next-lowest, next-flat}
+use Rattle.rows.proofs.Bests.{next-skip, last-most, next-moderate, next-lowest, next-flat}
 use Rattle.rows.proofs.raise.offer_next.Statement.{statement}
 use Rattle.rows.proofs.raise.offer_next.Tie as tie
 

@@ -4,7 +4,7 @@ use Prim.Native.Nat.{ℕ}
 use native.Mathlib.Omega.{arith}
 use borrow.Author.Needs.{needs}
 use Rattle.rows.specs.Contracts.{optionsOf}
-use Rattle.rows.proofs.Offers.{lowest-most, lowest-filled}
+use Rattle.rows.proofs.Bests.{lowest-most, lowest-filled}
 use Rattle.rows.proofs.raise.raise.Statement.{statement}
 use Rattle.rows.proofs.raise.raise.Tie as tie
 

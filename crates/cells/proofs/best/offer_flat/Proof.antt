@@ -1,13 +1,13 @@
--- `rows::best::offer_flat` meets its contract: each turn offers the cost at one head more.
+-- `cells::best::offer_flat` meets its contract: each turn offers the cost at one head more.
 -- Assumes nothing.
 use mathlib.Core.Path.{_≡_}
 use Prim.Native.Nat.{_-_, _≤_, max}
 use native.Mathlib.Omega.{arith}
 use borrow.Author.Needs.{needs}
-use Rattle.rows.specs.Contracts.{Offered}
-use Rattle.rows.proofs.Offers.{offered-none, offered-more, offered-end}
-use Rattle.rows.proofs.best.offer_flat.Statement.{statement}
-use Rattle.rows.proofs.best.offer_flat.Tie as tie
+use Rattle.cells.specs.Contracts.{Offered}
+use Rattle.cells.proofs.Offers.{offered-none, offered-more, offered-end}
+use Rattle.cells.proofs.best.offer_flat.Statement.{statement}
+use Rattle.cells.proofs.best.offer_flat.Tie as tie
 
 abbrev Inv-loop : tie.InvT-loop
 Inv-loop best₀ cost start end h₀ best h = (start ≤ h) × (h ≤ max end start) × Offered best₀ best start h (λ x. cost)

@@ -1,5 +1,5 @@
 // A row of best costs at each head, to which the sizes of a section are offered one after another.
-use crate::cells::get;
+use crate::cell::get;
 use numbers::greater;
 use numbers::lesser;
 use plan::MARK;
@@ -8,8 +8,8 @@ ghost use Prim.Native.Nat.{ℕ, _+_, _-_, _*_, _≤_, _<_, min};
 ghost use lib.ListN.{length, getD};
 ghost use Rattle.nets.specs.Tables.{top};
 ghost use Rattle.plan.specs.Plan.{mark};
-ghost use Rattle.rows.specs.Cells.{cellAt};
-ghost use Rattle.rows.specs.Contracts.{Offered, Filled, standing};
+ghost use Rattle.cells.specs.Cells.{cellAt};
+ghost use Rattle.cells.specs.Contracts.{Offered, Filled, standing};
 
 pub fn least(a: u32, b: u32) -> u32
     ensures { λ r. ⌜ r ≡ min a b ⌝ }

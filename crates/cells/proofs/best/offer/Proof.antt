@@ -1,4 +1,4 @@
--- `rows::best::offer` meets its contract: the row up to its end, and its last cell from there on.
+-- `cells::best::offer` meets its contract: the row up to its end, and its last cell from there on.
 -- Assumes nothing.
 use mathlib.Core.Path.{_≡_, refl, _∙_}
 use mathlib.Core.List.{List}
@@ -6,10 +6,10 @@ use Prim.Native.Nat.{ℕ, _+_, _-_, _≤_, _<_, min, max}
 use native.Mathlib.Omega.{arith}
 use borrow.Author.Needs.{needs}
 use Rattle.plan.specs.Plan.{mark}
-use Rattle.rows.specs.Cells.{cellAt}
-use Rattle.rows.proofs.Offers.{offered-empty, offered-same, offered-join}
-use Rattle.rows.proofs.best.offer.Statement.{statement}
-use Rattle.rows.proofs.best.offer.Tie as tie
+use Rattle.cells.specs.Cells.{cellAt}
+use Rattle.cells.proofs.Offers.{offered-empty, offered-same, offered-join}
+use Rattle.cells.proofs.best.offer.Statement.{statement}
+use Rattle.cells.proofs.best.offer.Tie as tie
 
 -- the row's own cell, and its last
 in-row : (ws : List ℕ) (row loss high h : ℕ) → h < loss + high + 1 → cellAt ws (row + (h - loss)) ≡ cellAt ws (row + min (h - loss) high)

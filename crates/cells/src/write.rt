@@ -1,14 +1,14 @@
 // The cells of a row, written from what its end needs to what it can use.
 use crate::best::least;
-use crate::cells::get;
-use crate::cells::put;
+use crate::cell::get;
+use crate::cell::put;
 use plan::MARK;
 ghost use mathlib.Core.Path.{_≡_};
 ghost use Prim.Native.Nat.{ℕ, _+_, _*_, _≤_, _<_, min};
 ghost use lib.ListN.{length, getD};
 ghost use Rattle.plan.specs.Plan.{mark};
-ghost use Rattle.rows.specs.Cells.{cellAt};
-ghost use Rattle.rows.specs.Contracts.{Filled, standing};
+ghost use Rattle.cells.specs.Cells.{cellAt};
+ghost use Rattle.cells.specs.Contracts.{Filled, standing};
 
 // Adds the best costs to the cells from up + start to up + end. A sum with the mark stops at the mark.
 pub fn add(ws: &mut [u8], best: &[u32; 7001], up: usize, start: usize, end: usize)

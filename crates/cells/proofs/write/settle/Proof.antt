@@ -1,13 +1,13 @@
--- `rows::write::settle` meets its contract: a row to which something was added is left as it is, and each turn writes 0 to one cell of another.
+-- `cells::write::settle` meets its contract: a row to which something was added is left as it is, and each turn writes 0 to one cell of another.
 -- Assumes nothing.
 use mathlib.Core.Path.{_≡_, refl, sym, _∙_}
 use Prim.Native.Nat.{_+_, _-_, _≤_, max}
 use native.Mathlib.Omega.{arith}
 use borrow.Author.Needs.{needs}
-use Rattle.rows.specs.Contracts.{Filled}
-use Rattle.rows.proofs.Writes.{filled-none, filled-more, filled-end, filled-same, filled-standing}
-use Rattle.rows.proofs.write.settle.Statement.{statement}
-use Rattle.rows.proofs.write.settle.Tie as tie
+use Rattle.cells.specs.Contracts.{Filled}
+use Rattle.cells.proofs.Writes.{filled-none, filled-more, filled-end, filled-same, filled-standing}
+use Rattle.cells.proofs.write.settle.Statement.{statement}
+use Rattle.cells.proofs.write.settle.Tie as tie
 
 abbrev Inv-loop : tie.InvT-loop
 Inv-loop ws₀ begun up start end h₀ ws h = (start ≤ h) × (h ≤ max end start) × Filled ws₀ ws up start h (λ x. 0)

@@ -3,7 +3,7 @@ ghost use mathlib.Core.Path.{_≡_};
 ghost use Prim.Native.Nat.{_+_, _*_, _≤_, _<_};
 ghost use lib.ListN.{length};
 ghost use Rattle.nets.specs.Tables.{top};
-ghost use Rattle.rows.specs.Cells.{cellAt, Written};
+ghost use Rattle.cells.specs.Cells.{cellAt, Written};
 
 fn wide(x: u8) -> u32
     ensures { λ r. ⌜ (r ≡ x) × (r < 256) ⌝ }

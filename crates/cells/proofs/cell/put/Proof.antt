@@ -1,11 +1,11 @@
--- `rows::cells::put` meets its contract.
+-- `cells::cell::put` meets its contract.
 -- Assumes nothing.
 use borrow.Author.Needs.{needs}
 use native.Mathlib.Omega.{arith}
 use lib.ListN.{length-set}
-use Rattle.rows.proofs.Workspace.{written}
-use Rattle.rows.proofs.cells.put.Statement.{statement}
-use Rattle.rows.proofs.cells.put.Tie as tie
+use Rattle.cells.proofs.Workspace.{written}
+use Rattle.cells.proofs.cell.put.Statement.{statement}
+use Rattle.cells.proofs.cell.put.Tie as tie
 
 returns : tie.Need-returns
 returns c = written (c .args .ws .now) (c .args .k) (c .args .v) (omega arith)

@@ -1,4 +1,4 @@
--- `rows::best::fresh` meets its contract: after each turn one place more has the mark.
+-- `cells::best::fresh` meets its contract: after each turn one place more has the mark.
 -- Assumes nothing.
 use mathlib.Core.Path.{_≡_, _∙_}
 use Prim.Native.Nat.{ℕ, _-_, _≤_, _<_}
@@ -6,9 +6,9 @@ use native.Mathlib.Omega.{arith}
 use borrow.Author.Needs.{needs}
 use lib.ListN.{length, getD, length-set}
 use Rattle.plan.specs.Plan.{mark}
-use Rattle.rows.proofs.Offers.{fresh-more}
-use Rattle.rows.proofs.best.fresh.Statement.{statement}
-use Rattle.rows.proofs.best.fresh.Tie as tie
+use Rattle.cells.proofs.Offers.{fresh-more}
+use Rattle.cells.proofs.best.fresh.Statement.{statement}
+use Rattle.cells.proofs.best.fresh.Tie as tie
 
 abbrev Inv-loop : tie.InvT-loop
 Inv-loop best₀ start end h₀ best h = (start ≤ h) × (length best ≡ 7001) × ((x : ℕ) → x < h → start ≤ x → getD best x 0 ≡ mark)

@@ -1,13 +1,13 @@
--- `rows::best::offer_row` meets its contract: each turn offers the size at one head more.
+-- `cells::best::offer_row` meets its contract: each turn offers the size at one head more.
 -- Assumes nothing.
 use Prim.Native.Nat.{_+_, _-_, _≤_, max}
 use native.Mathlib.Omega.{arith}
 use borrow.Author.Needs.{needs}
-use Rattle.rows.specs.Cells.{cellAt}
-use Rattle.rows.specs.Contracts.{Offered}
-use Rattle.rows.proofs.Offers.{offered-none, offered-more, offered-end}
-use Rattle.rows.proofs.best.offer_row.Statement.{statement}
-use Rattle.rows.proofs.best.offer_row.Tie as tie
+use Rattle.cells.specs.Cells.{cellAt}
+use Rattle.cells.specs.Contracts.{Offered}
+use Rattle.cells.proofs.Offers.{offered-none, offered-more, offered-end}
+use Rattle.cells.proofs.best.offer_row.Statement.{statement}
+use Rattle.cells.proofs.best.offer_row.Tie as tie
 
 abbrev Inv-loop : tie.InvT-loop
 Inv-loop ws best₀ row loss cost start end h₀ best h =

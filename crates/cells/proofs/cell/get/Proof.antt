@@ -1,9 +1,9 @@
--- `rows::cells::get` meets its contract.
+-- `cells::cell::get` meets its contract.
 -- Assumes nothing.
 use borrow.Author.Needs.{needs}
-use Rattle.rows.specs.Cells.{cellAt}
-use Rattle.rows.proofs.cells.get.Statement.{statement}
-use Rattle.rows.proofs.cells.get.Tie as tie
+use Rattle.cells.specs.Cells.{cellAt}
+use Rattle.cells.proofs.cell.get.Statement.{statement}
+use Rattle.cells.proofs.cell.get.Tie as tie
 
 returns : tie.Need-returns
 unfolding cellAt

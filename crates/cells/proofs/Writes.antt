@@ -7,8 +7,8 @@ use Prim.Native.Nat.{ℕ, _+_, _≤_, _<_, max}
 use native.Mathlib.Omega.{arith}
 use borrow.Author.Count.{below-more}
 use Rattle.basis.proofs.Split.{lt-or-ge}
-use Rattle.rows.specs.Cells.{cellAt, Written}
-use Rattle.rows.specs.Contracts.{Filled}
+use Rattle.cells.specs.Cells.{cellAt, Written}
+use Rattle.cells.specs.Contracts.{Filled}
 
 pub filled-none : (ws : List ℕ) (up start : ℕ) (f : ℕ → ℕ) → Filled ws ws up start start f
 filled-none ws up start f =

@@ -6,7 +6,7 @@ use Prim.Native.Nat.{ℕ, _+_, _*_, _/_, _%_, _≤_, _<_}
 use native.Mathlib.Omega.{arith}
 use lib.ListN.{length, getD, set, length-set}
 use lib.Seq.{getD-set-same, getD-set-other}
-use Rattle.rows.specs.Cells.{cellAt, Written}
+use Rattle.cells.specs.Cells.{cellAt, Written}
 
 -- the bytes of v written to cell k, from the low one on
 module _ (ws : List ℕ) (k v : ℕ) where
