@@ -35,12 +35,13 @@ fn wide32(x: u32) -> u64
     x as u64
 }
 
-// A kind's share of n of its fixtures, of which the house has so many. Everything is multiplied before it is divided.
+// A kind's share of n of its fixtures, of which the house has so many. Most sections serve few kinds, and without fixtures nothing is
+// divided. Everything is multiplied before it is divided.
 fn share(kind: usize, residents: u64, n: u64, house: u64) -> u64
-    requires { ⌜ (1 ≤ kind) × (kind ≤ 12) × (residents < 65536) × (n ≤ 4128705) × (house ≤ 4128705) ⌝ }
+    requires { ⌜ (1 ≤ kind) × (kind ≤ 12) × (residents < 65536) × (n ≤ house) × (house ≤ 4128705) ⌝ }
     ensures { λ r. ⌜ (r ≡ cond (eqb house 0) 0 (up (25000 * normOf 0 kind .hour * residents * n) (9 * normOf 0 kind .tap * house))) × (r ≤ 16105635843750000) ⌝ }
 {
-    if house == 0 {
+    if n == 0 {
         return 0;
     }
     let norm = norms::norm_of(kind);
