@@ -1,11 +1,13 @@
 -- An entry of the tables: section i of an accepted job with size s of an accepted catalogue.
 -- Assumes nothing.
-use mathlib.Core.Path.{_≡_}
-use mathlib.Core.Bool.{true, false}
+use mathlib.Core.Path.{_≡_, sym}
+use mathlib.Core.Bool.{true, false, cond}
+use mathlib.Core.Logic.{⊎-elim}
 use mathlib.Core.List.{List}
 use Prim.Native.Nat.{ℕ, _+_, _*_, _≤_, _<_}
 use native.Mathlib.Nat.{mul-le-mul}
 use native.Mathlib.Omega.{arith}
+use Rattle.basis.proofs.Split.{either}
 use Rattle.basis.proofs.Part.{part-below}
 use Rattle.fields.specs.declared.Job.{Job}
 use Rattle.fields.specs.Fields.{countOf, sectionOf}
@@ -18,6 +20,8 @@ use Rattle.catalogue.specs.Layout.{sizesOf, rowsOf, sizeFrom, priceOf, partOf}
 use Rattle.catalogue.proofs.Listed.{listed-counts, listed-price, listed-rows}
 use Rattle.catalogue.proofs.Readings.{reading-top}
 use Rattle.rating.specs.Losses.{readingOf, overAt, lossAt}
+use Rattle.rating.specs.Shape.{triedAt}
+use Rattle.rating.proofs.Trying.{tried-over, tried-not}
 use Rattle.search.specs.Plan.{top}
 use Rattle.choosing.specs.Suitable.{priceAt}
 use Rattle.choosing.specs.Shape.{lossEntry, Pair}
@@ -29,6 +33,14 @@ entry-over job cat i s e = rw e
 pub entry-under : (job : Job) (cat : List ℕ) (i s : ℕ) → overAt job cat s i ≡ false → lossEntry job cat i s ≡ lossAt job cat s i
 unfolding lossEntry
 entry-under job cat i s e = rw e
+
+-- what the section has with the size is the entry
+pub entry-tried : (job : Job) (cat : List ℕ) (i s : ℕ) → cond (triedAt job cat s i .over) top (triedAt job cat s i .loss) ≡ lossEntry job cat i s
+entry-tried job cat i s =
+    ⊎-elim
+    (λ (o : overAt job cat s i ≡ true). rw (tried-over job cat s i o) (entry-over job cat i s o))
+    (λ (o : overAt job cat s i ≡ false). rw (tried-not job cat s i o) (sym (entry-under job cat i s o)))
+    (either (overAt job cat s i))
 
 module _ {job : Job} {cat : List ℕ} {i s : ℕ} (p : Pair job cat i s) where
   pub pair-few : i < 64

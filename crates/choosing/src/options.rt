@@ -1,40 +1,26 @@
 // What each section may have: loss and cost with each size of the catalogue.
 use fields::Job;
+use rating::Tried;
 ghost use mathlib.Core.Path.{_≡_};
+ghost use mathlib.Core.Bool.{cond};
 ghost use Prim.Native.Nat.{_+_, _≤_, _<_};
 ghost use lib.ListN.{length};
 ghost use Rattle.fields.specs.Fields.{countOf};
 ghost use Rattle.demand.specs.Demand.{Accepted, sectionFlow};
 ghost use Rattle.catalogue.specs.Layout.{sizesOf};
 ghost use Rattle.catalogue.specs.Shape.{Listed};
+ghost use Rattle.search.specs.Plan.{top};
 ghost use Rattle.choosing.specs.Suitable.{priceAt};
-ghost use Rattle.choosing.specs.Shape.{lossEntry, Pair, Entered, Tabled};
+ghost use Rattle.choosing.specs.Shape.{lossEntry, Entered, Tabled};
 
 // Marks a size that a section may not have, in place of its loss.
 const TOP: u32 = 4294967295;
 
-// A section with a size: its loss in cm, or the mark, and its cost.
-struct Priced {
-    loss: u32,
-    cost: u32,
-}
-
-// Section i, at its flow, with size s.
-fn price_of(job: Job, cat: &[u8], i: usize, flow: u32, s: usize) -> Priced
-    requires { ⌜ Pair job (now cat) i s × (flow ≡ sectionFlow job i) ⌝ }
-    ensures { λ r. ⌜ (r .loss ≡ lossEntry job (now (cat .entry)) i s) × (r .cost ≡ priceAt job (now (cat .entry)) s i) ⌝ }
+// The loss of a section with a size, or the mark where the section may not have it.
+fn entry(t: Tried) -> u32
+    ensures { λ r. ⌜ r ≡ cond (t .over) top (t .loss) ⌝ }
 {
-    let section = job.sections[i];
-    let cost = (catalogue::price(cat, s) as u32) * (section.decimetres as u32);
-    let r = catalogue::read_size(cat, s, flow);
-    if !r.serves {
-        return Priced { loss: TOP, cost };
-    }
-    if (job.head.limit as u32) < r.velocity {
-        return Priced { loss: TOP, cost };
-    }
-    let loss = rating::loss(r.slope, section.decimetres, job.head.tenths);
-    Priced { loss, cost }
+    if t.over { TOP } else { t.loss }
 }
 
 // The row of section i in both tables.
@@ -54,9 +40,10 @@ fn put_row(
     let sizes = cat[5] as usize;
     let mut s: usize = 1;
     while s <= sizes {
-        let p = price_of(job, cat, i, flow, s);
-        losses[i * 13 + s] = p.loss;
-        costs[i * 13 + s] = p.cost;
+        let decimetres = job.sections[i].decimetres;
+        let t = rating::try_size(cat, s, flow, job.head.limit, decimetres, job.head.tenths);
+        losses[i * 13 + s] = entry(t);
+        costs[i * 13 + s] = (catalogue::price(cat, s) as u32) * (decimetres as u32);
         s += 1;
     }
 }
