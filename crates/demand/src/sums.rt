@@ -48,7 +48,7 @@ fn share(kind: usize, residents: u64, n: u64, house: u64) -> u64
     round::divide_up(25000 * norm.hour * residents * n, 9 * norm.tap * house)
 }
 
-// The sums of row i of the counts: section i's, or the house's where i is 0.
+// The sums of row i of the counts: section i's, or the house's where i is 0. An index into a job's own array would copy the whole job.
 pub fn sums_of(job: Job, counts: &[u32; 768], i: usize) -> Sums
     requires { ⌜ Rooted job × Counted job (now counts) × (i < 64) ⌝ }
     ensures { λ r. ⌜ (r .m ≡ mOf job (servedOf job i)) × (r .taps ≡ tapSumOf job (servedOf job i)) × (r .fixtures ≡ fixturesOf (servedOf job i)) ⌝ }
@@ -59,8 +59,9 @@ pub fn sums_of(job: Job, counts: &[u32; 768], i: usize) -> Sums
     let mut kind: usize = 1;
     while kind <= 12 {
         let c = kind - 1;
+        let residents = job.residents;
         let n = wide32(counts[i * 12 + c]);
-        let part = share(kind, wide16(job.residents[c]), n, wide32(counts[c]));
+        let part = share(kind, wide16(residents[c]), n, wide32(counts[c]));
         let norm = norms::norm_of(kind);
         m = m + part;
         taps = taps + part * norm.tap;
