@@ -1,28 +1,19 @@
 -- `rating::tried::try_size` meets its contract.
 -- Assumes nothing.
-use mathlib.Core.Path.{_≡_, sym, ap, _∙_}
-use Prim.Native.Nat.{_+_, _*_, _≤_}
+use mathlib.Core.Path.{sym, _∙_}
+use Prim.Native.Nat.{_≤_}
 use native.Mathlib.Omega.{arith}
 use borrow.Author.Needs.{needs}
 use borrow.Author.Tests.{not-true, not-false}
-use Rattle.basis.proofs.Part.{part-below}
-use Rattle.catalogue.specs.declared.reading.Reading.{Reading}
-use Rattle.catalogue.specs.Layout.{rowsOf, sizeFrom, partOf}
-use Rattle.catalogue.proofs.Listed.{listed-rows}
-use Rattle.catalogue.proofs.Readings.{reading-top}
-use Rattle.rating.proofs.Trying.{tried-row, tried-limit, tried-under}
+use Rattle.rating.proofs.Trying.{read-top, tried-row, tried-limit, tried-under}
 use Rattle.rating.proofs.tried.try_size.Statement.{statement}
 use Rattle.rating.proofs.tried.try_size.Tie as tie
 
--- velocities and slopes are two bytes
+-- what was read is of two bytes
 two : (c : tie.After-read-size) → (c .read-size .result .velocity ≤ 65535) × (c .read-size .result .slope ≤ 65535)
-unfolding partOf
 two c =
-    let start = c .before .before in
-    let cat = start .args .cat .now in
-    let s = start .pre .1 in
-    rw (c .read-size .ensures)
-    (reading-top (listed-rows (start .pre .0) (start .args .s) (s .0) (s .1)) (part-below cat (sizeFrom cat (start .args .s) + 4) (8 * rowsOf cat) 256 (omega arith) (λ k. omega (arith, c .before .shared-slice-known .given k))) _)
+    let p = c .before .before .pre in
+    rw (c .read-size .ensures) (read-top (p .0) _ (p .1 .0) (p .1 .1) (λ k. omega (arith, c .before .shared-slice-known .given k)) _)
 
 returns : tie.Need-returns
 returns c =
