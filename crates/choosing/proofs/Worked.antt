@@ -49,7 +49,7 @@ use Rattle.catalogue.specs.Rules.{shapeOk, rowOk, risesAt, rowsOk, sizeOk, size
 use Rattle.catalogue.specs.Reading.{between, servesAt, readRows}
 use Rattle.heads.specs.Signed.{greater, clamped}
 use Rattle.heads.specs.Heads.{pathFrom, pathOf, reachOf, greatestTo, requiredOf, pumpOf, lowestTo, dictatingOf}
-use Rattle.rating.specs.Losses.{listOk, readingOf, overAt, overAny, lossOf, lossAt, lossesOf}
+use Rattle.rating.specs.Losses.{listOk, readingOf, overBy, overAt, overAny, lossOf, lossAt, lossesOf}
 use Rattle.rating.specs.Calls.{inputChecks, rateChecks, rateNo}
 use Rattle.rating.proofs.Named.{list-long, list-names}
 use Rattle.rating.proofs.Both.{input-cat}
@@ -63,7 +63,7 @@ over-one : (high low : ℕ) → overAny (decode (jobOf high low)) ownCat (1 ∷ 
 unfolding
     sumTo anyTo up line tabulate slots beAt headAt residentsAt sectionFrom decode
     parentOf reaches below ownOf servedOf houseOf hourNorms tapNorms normOf along table alphaOf shareOf mOf tapSumOf flowOf
-    partOf flowAt velocityAt between servesAt readRows readingOf overAt overAny
+    partOf flowAt velocityAt between servesAt readRows readingOf overBy overAt overAny
 over-one high low = refl
 
 -- so a list that suits is size 2 alone

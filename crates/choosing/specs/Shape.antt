@@ -6,14 +6,19 @@ use mathlib.Core.List.{List}
 use Prim.Native.Nat.{ℕ, _+_, _-_, _*_, _≤_, _<_}
 use lib.IntN.{pos, _+ℤ_}
 use lib.ListN.{length, getD}
+use Rattle.fields.specs.declared.Head.{Head}
 use Rattle.fields.specs.declared.Job.{Job}
+use Rattle.fields.specs.declared.Section.{Section}
 use Rattle.fields.specs.Fields.{countOf, sectionOf}
-use Rattle.demand.specs.Demand.{Accepted}
-use Rattle.catalogue.specs.Layout.{sizesOf}
+use Rattle.demand.specs.Demand.{Accepted, sectionFlow}
+use Rattle.catalogue.specs.Layout.{sizesOf, rowsOf, partOf}
+use Rattle.catalogue.specs.Reading.{readRows}
 use Rattle.catalogue.specs.Shape.{Listed}
+use Rattle.rating.specs.declared.tried.Tried.{Tried}
 use Rattle.rating.specs.Losses.{overAt, lossAt}
 use Rattle.nets.specs.Net.{Net}
 use Rattle.nets.specs.Tables.{top}
+use Rattle.rating.specs.Shape.{triedOf}
 use Rattle.choosing.specs.Suitable.{Suitable, priceAt, costOf}
 
 -- heads of the search are 1,000 cm more than those of document 01, so that none is negative
@@ -34,9 +39,17 @@ pub record Drawn (job : Job) (cat : List ℕ) (N : Net) : Type 0 where
   pub loss : (i s : ℕ) → 0 < i → i ≤ countOf job → 0 < s → s ≤ sizesOf cat → overAt job cat s i ≡ false → N .loss i s ≡ lossAt job cat s i
   pub cost : (i s : ℕ) → 0 < i → i ≤ countOf job → 0 < s → s ≤ sizesOf cat → N .cost i s ≡ priceAt job cat s i
 
--- what the table of losses holds for section i with size s: its loss, or the mark where it is over its last row or the limit
+-- what the table of losses holds of a section with a size: its loss, or the mark where it is over its last row or the limit
+abbrev pub entryOf : Tried → ℕ
+entryOf t = cond (t .over) top (t .loss)
+
+-- of a section at flow q with size s
+abbrev pub lossBy : Head → Section → List ℕ → ℕ → ℕ → ℕ
+lossBy head section cat q s = entryOf (triedOf (readRows (partOf cat s) (rowsOf cat) q) (head .limit) (section .decimetres) (head .tenths))
+
+-- of section i with size s
 unfoldable pub lossEntry : Job → List ℕ → ℕ → ℕ → ℕ
-lossEntry job cat i s = cond (overAt job cat s i) top (lossAt job cat s i)
+lossEntry job cat i s = lossBy (job .head) (sectionOf job i) cat (sectionFlow job i) s
 
 -- section i of an accepted job and size s of an accepted catalogue
 pub record Pair (job : Job) (cat : List ℕ) (i s : ℕ) : Type 0 where

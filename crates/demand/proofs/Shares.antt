@@ -24,7 +24,7 @@ module _ (norm : Norm) (u : ℕ) where
   unfolding shareBy
   by-some n house h = rw (ne-eqb house 0 (λ e. omega arith))
 
-  by-zero : (house : ℕ) → shareBy norm u 0 house ≡ 0
+  pub by-zero : (house : ℕ) → shareBy norm u 0 house ≡ 0
   by-zero zero = by-none 0
   by-zero (suc house) =
       rw (by-some 0 (suc house) (omega arith), mul-zero (rateBy norm u)) (up-zero (baseBy norm * suc house))

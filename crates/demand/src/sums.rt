@@ -35,19 +35,20 @@ fn wide32(x: u32) -> u64
     x as u64
 }
 
-// A kind's share of n of its fixtures, of which the house has so many. Everything is multiplied before it is divided.
+// A kind's share of n of its fixtures, of which the house has so many. Most sections serve few kinds, and without fixtures nothing is
+// divided. Everything is multiplied before it is divided.
 fn share(kind: usize, residents: u64, n: u64, house: u64) -> u64
-    requires { ⌜ (1 ≤ kind) × (kind ≤ 12) × (residents < 65536) × (n ≤ 4128705) × (house ≤ 4128705) ⌝ }
+    requires { ⌜ (1 ≤ kind) × (kind ≤ 12) × (residents < 65536) × (n ≤ house) × (house ≤ 4128705) ⌝ }
     ensures { λ r. ⌜ (r ≡ cond (eqb house 0) 0 (up (25000 * normOf 0 kind .hour * residents * n) (9 * normOf 0 kind .tap * house))) × (r ≤ 16105635843750000) ⌝ }
 {
-    if house == 0 {
+    if n == 0 {
         return 0;
     }
     let norm = norms::norm_of(kind);
     round::divide_up(25000 * norm.hour * residents * n, 9 * norm.tap * house)
 }
 
-// The sums of row i of the counts: section i's, or the house's where i is 0.
+// The sums of row i of the counts: section i's, or the house's where i is 0. An index into a job's own array would copy the whole job.
 pub fn sums_of(job: Job, counts: &[u32; 768], i: usize) -> Sums
     requires { ⌜ Rooted job × Counted job (now counts) × (i < 64) ⌝ }
     ensures { λ r. ⌜ (r .m ≡ mOf job (servedOf job i)) × (r .taps ≡ tapSumOf job (servedOf job i)) × (r .fixtures ≡ fixturesOf (servedOf job i)) ⌝ }
@@ -58,8 +59,9 @@ pub fn sums_of(job: Job, counts: &[u32; 768], i: usize) -> Sums
     let mut kind: usize = 1;
     while kind <= 12 {
         let c = kind - 1;
+        let residents = job.residents;
         let n = wide32(counts[i * 12 + c]);
-        let part = share(kind, wide16(job.residents[c]), n, wide32(counts[c]));
+        let part = share(kind, wide16(residents[c]), n, wide32(counts[c]));
         let norm = norms::norm_of(kind);
         m = m + part;
         taps = taps + part * norm.tap;

@@ -7,7 +7,6 @@ use Prim.Native.Nat.{ℕ, _+_, _-_, _≤_, _<_}
 use native.Mathlib.Nat.{add-sub-cancel}
 use native.Mathlib.Omega.{arith}
 use lib.ListN.{set, replicate}
-use borrow.Author.Tests.{lt-ltb, le-ltb}
 use Rattle.basis.specs.Range.{anyTo}
 use Rattle.basis.specs.Slots.{slots}
 use mathlib.Core.Logic.{⊎-elim}
@@ -50,16 +49,3 @@ module _ (job : Job) (cat list : List ℕ) where
   upto-end {i} u e =
       let n : i - 1 ≡ countOf job = omega arith in
       (rw n at (u .none), record { velocities = rw e at (u .velocities); losses = rw e at (u .losses); small = rw e at (u .small) })
-
-  -- the two tests of a section
-  pub over-row : (s i : ℕ) → readingOf job cat s i .serves ≡ false → overAt job cat s i ≡ true
-  unfolding overAt
-  over-row s i e = rw e
-
-  pub over-limit : (s i : ℕ) → readingOf job cat s i .serves ≡ true → job .head .limit < readingOf job cat s i .velocity → overAt job cat s i ≡ true
-  unfolding overAt
-  over-limit s i e h = rw (e, lt-ltb (job .head .limit) (readingOf job cat s i .velocity) h)
-
-  pub not-over : (s i : ℕ) → readingOf job cat s i .serves ≡ true → readingOf job cat s i .velocity ≤ job .head .limit → overAt job cat s i ≡ false
-  unfolding overAt
-  not-over s i e h = rw (e, le-ltb (job .head .limit) (readingOf job cat s i .velocity) h)

@@ -27,9 +27,13 @@ listOk job cat list = eqb (length list) (countOf job) && allTo (countOf job) (λ
 unfoldable pub readingOf : Job → List ℕ → ℕ → ℕ → Reading
 readingOf job cat s i = readRows (partOf cat s) (rowsOf cat) (sectionFlow job i)
 
--- over its last row or the limit
+-- a size read so is over its last row or the limit
+unfoldable pub overBy : ℕ → Reading → Bool
+overBy limit r = not (r .serves) || ltb limit (r .velocity)
+
+-- section i with size s
 unfoldable pub overAt : Job → List ℕ → ℕ → ℕ → Bool
-overAt job cat s i = not (readingOf job cat s i .serves) || ltb (job .head .limit) (readingOf job cat s i .velocity)
+overAt job cat s i = overBy (job .head .limit) (readingOf job cat s i)
 
 -- 13: a section over its last row or the limit
 unfoldable pub overAny : Job → List ℕ → List ℕ → Bool

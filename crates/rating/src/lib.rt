@@ -4,9 +4,11 @@ mod inputs;
 mod refusal;
 mod result;
 mod sections;
+mod tried;
 
 pub use call::outcome;
 pub use call::rate;
 pub use inputs::accept_both;
 pub use refusal::Outcome;
-pub use sections::loss;
+pub use tried::Tried;
+pub use tried::try_size;

@@ -1,10 +1,11 @@
 // Velocity and loss of each section.
+use crate::tried::try_size;
 use fields::Job;
 ghost use mathlib.Core.Path.{_≡_};
 ghost use mathlib.Core.Bool.{true, false};
-ghost use Prim.Native.Nat.{_+_, _≤_, _<_};
+ghost use Prim.Native.Nat.{_≤_};
 ghost use lib.ListN.{length};
-ghost use Rattle.rating.specs.Losses.{lossOf, listOk, overAny};
+ghost use Rattle.rating.specs.Losses.{listOk, overAny};
 ghost use Rattle.rating.specs.Shape.{Rateable, RatedAt};
 
 // The velocities and losses at the sections' places, and whether a section is over its last row or the limit.
@@ -18,15 +19,6 @@ fn wide(x: u8) -> usize
     ensures { λ r. ⌜ r ≡ x ⌝ }
 {
     x as usize
-}
-
-// slope × length × (10 + k) / 1,000, up.
-pub fn loss(slope: u32, decimetres: u16, tenths: u8) -> u32
-    requires { ⌜ (slope ≤ 65535) × (decimetres ≤ 5000) × (tenths ≤ 3) ⌝ }
-    ensures { λ r. ⌜ (r ≡ lossOf slope decimetres tenths) × (r ≤ 4259775) ⌝ }
-{
-    let product = (slope as u64) * (decimetres as u64) * (10 + (tenths as u64));
-    round::divide_up(product, 1000) as u32
 }
 
 // 12: the list is S long and names sizes.
@@ -52,37 +44,37 @@ pub fn list_ok(job: Job, cat: &[u8], list: &[u8]) -> bool
     true
 }
 
-// Each section read at its flow.
+// Each section with its size.
 pub fn rate_sections(job: Job, cat: &[u8], list: &[u8]) -> Rated
     requires { ⌜ Rateable job (now cat) (now list) ⌝ }
     ensures over { λ r. ⌜ r .over ≡ overAny job (now (cat .entry)) (now (list .entry)) ⌝ }
     ensures at { λ r. ⌜ (r .over ≡ false → RatedAt job (now (cat .entry)) (now (list .entry)) (r .velocities) (r .losses)) ⌝ }
 {
     let count = job.head.sections as usize;
-    let limit = job.head.limit as u32;
+    let limit = job.head.limit;
     let tenths = job.head.tenths;
     let flows = demand::flows(job);
     let mut velocities = [0u32; 64];
     let mut losses = [0u32; 64];
     let mut i: usize = 1;
     while i <= count {
-        let r = catalogue::read_size(cat, wide(list[i - 1]), flows[i]);
-        if !r.serves {
+        let t = try_size(
+            cat,
+            wide(list[i - 1]),
+            flows[i],
+            limit,
+            job.sections[i].decimetres,
+            tenths,
+        );
+        if t.over {
             return Rated {
                 over: true,
                 velocities,
                 losses,
             };
         }
-        if limit < r.velocity {
-            return Rated {
-                over: true,
-                velocities,
-                losses,
-            };
-        }
-        velocities[i] = r.velocity;
-        losses[i] = loss(r.slope, job.sections[i].decimetres, tenths);
+        velocities[i] = t.velocity;
+        losses[i] = t.loss;
         i += 1;
     }
     Rated {

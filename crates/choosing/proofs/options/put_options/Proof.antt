@@ -4,10 +4,13 @@ use mathlib.Core.Path.{_≡_}
 use Prim.Native.Nat.{_+_, _-_, _≤_, _<_}
 use native.Mathlib.Omega.{arith}
 use borrow.Author.Needs.{needs}
+use lib.ListN.{getD}
 use Rattle.basis.proofs.Slots.{slots-in}
 use Rattle.fields.specs.Fields.{countOf}
+use Rattle.rules.proofs.HeadBounds.{head-in}
+use Rattle.rules.proofs.Kept.{sections-in}
 use Rattle.demand.specs.Demand.{sectionFlow}
-use Rattle.demand.proofs.Ruling.{ruled-count}
+use Rattle.demand.proofs.Ruling.{ruled-count, ruled-sections}
 use Rattle.catalogue.specs.Layout.{sizesOf}
 use Rattle.catalogue.proofs.Listed.{listed-counts}
 use Rattle.choosing.specs.Suitable.{priceAt}
@@ -17,43 +20,50 @@ use Rattle.choosing.proofs.options.put_options.Statement.{statement}
 use Rattle.choosing.proofs.options.put_options.Tie as tie
 
 abbrev Inv-loop : tie.InvT-loop
-Inv-loop job cat losses₀ costs₀ count flows i₀ losses costs i =
+Inv-loop cat losses₀ costs₀ job count flows i₀ losses costs i =
     (0 < i) × (i ≤ countOf job + 1) × Tabled (lossEntry job cat) (i - 1) (sizesOf cat) losses × Tabled (λ j s. priceAt job cat s j) (i - 1) (sizesOf cat) costs
 
 abbrev μ-loop : tie.MeasureT-loop
-μ-loop job cat losses₀ costs₀ count flows i₀ losses costs i = countOf job + 1 - i
+μ-loop cat losses₀ costs₀ job count flows i₀ losses costs i = countOf job + 1 - i
 
-few : (c : tie.Start Inv-loop μ-loop) → countOf (c .args .job) ≤ 63
+few : (c : tie.Start Inv-loop μ-loop) → countOf (c .args .t1) ≤ 63
 few c = ruled-count (c .pre .0 .ruled) .high
 
 loop-holds : tie.Need-loop-holds Inv-loop μ-loop
-loop-holds c = let e = c .before .before .before .pre .2 in (omega arith, omega arith, tabled-start _ _ _ (e .0), tabled-start _ _ _ (e .1))
+loop-holds c = let e = c .before .before .pre .2 in (omega arith, omega arith, tabled-start _ _ _ (e .0), tabled-start _ _ _ (e .1))
 
 place : (c : tie.In-loop Inv-loop μ-loop) → c .before .loop .i < 64
-place c = omega (arith, few (c .before .before .before .before .before))
+place c = omega (arith, few (c .before .before .before .before))
 
 put-row-requires : tie.Need-put-row-requires Inv-loop μ-loop
 put-row-requires c κs =
-    let at = c .before .before .before in
-    let start = at .before .before .before .before in
-    let p = start .pre in (
+    let at = c .before .before .before .before .before in
+    let start = at .before .before .before in
+    let ruled = start .pre .0 .ruled in (
       (
-        p .0,
-        p .1,
-        (omega arith, omega arith),
-        rw (at .before .flows .ensures)
-            (slots-in 64 1 (countOf (start .args .job) + 1) 0 (sectionFlow (start .args .job)) (at .loop .i) 0 (omega arith) (omega arith) (omega (arith, few start))),
+        start .pre .1,
+        omega (arith, few start),
+        (
+          sections-in (start .args .t1) (ruled-sections ruled) (at .loop .i) (omega arith) (omega arith) .decimetres .high,
+          head-in (start .args .t1 .head) (ruled .head) .tenths .high,
+        ),
       ),
       (at .loop .inv .2 .long, at .loop .inv .3 .long),
     )
 
 loop-again : tie.Need-loop-again Inv-loop μ-loop
+unfolding lossEntry priceAt
 loop-again c =
-    let at = c .before .before .before .before in
-    let thin = listed-counts (at .before .before .before .before .pre .1) .0 .high in (
+    let at = c .before .before .before .before .before .before in
+    let start = at .before .before .before in
+    let job = start .args .t1 in
+    let i = at .loop .i in
+    let thin = listed-counts (start .pre .1) .0 .high in
+    let flow : getD (at .before .flows .result) i 0 ≡ sectionFlow job i =
+    rw (at .before .flows .ensures) (slots-in 64 1 (countOf job + 1) 0 (sectionFlow job) i 0 (omega arith) (omega arith) (omega (arith, few start))) in (
       omega arith,
       omega arith,
-      tabled-more _ _ _ _ _ (omega (arith, thin)) (omega arith) (at .loop .inv .2) (c .put-row .ensures .0),
+      tabled-more _ _ _ _ _ (omega (arith, thin)) (omega arith) (at .loop .inv .2) (rw flow at (c .put-row .ensures .0)),
       tabled-more _ _ _ _ _ (omega (arith, thin)) (omega arith) (at .loop .inv .3) (c .put-row .ensures .1),
     )
 
@@ -65,5 +75,6 @@ returns c =
 pub put-options-spec : {M : Type 1} → statement M
 put-options-spec =
     tie.close
-    (tie.spec Inv-loop μ-loop (λ c. search needs) (λ c κs. search needs) loop-holds (λ c. omega (arith, place c)) place put-row-requires
+    (tie.spec Inv-loop μ-loop (λ c. search needs) (λ c κs. search needs) loop-holds (λ c. omega (arith, place (c .before))) (λ c. place (c .before))
+    (λ c. omega (arith, place (c .before .before))) (λ c. place (c .before .before)) put-row-requires
     (λ c. search needs) (λ c. search needs) loop-again returns)

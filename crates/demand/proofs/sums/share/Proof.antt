@@ -1,8 +1,12 @@
--- `demand::sums::share` meets its contract: a kind that the house does not have gives 0, and else the products fit, by the bounds of the norms.
+-- `demand::sums::share` meets its contract: a kind without fixtures gives 0, and else the products fit, by the bounds of the norms.
 -- Assumes nothing.
+use mathlib.Core.Path.{_≡_, sym}
 use native.Mathlib.Omega.{arith}
-use borrow.Author.Tests.{eq-eqb, ne-eqb}
+use borrow.Author.Tests.{ne-eqb}
 use borrow.Author.Needs.{needs}
+use Rattle.norms.specs.Norms.{normOf}
+use Rattle.demand.proofs.Equations.{shareBy}
+use Rattle.demand.proofs.Shares.{by-zero}
 use Rattle.demand.proofs.Tops.{ShareFits, share-fits, share-top}
 use Rattle.demand.proofs.sums.share.Statement.{statement}
 use Rattle.demand.proofs.sums.share.Tie as tie
@@ -12,11 +16,16 @@ fits : (c : tie.After-norm-of) →
 fits c = share-fits (c .norm-of .ensures) (omega arith) (omega arith) (omega arith) (omega arith) (omega arith)
 
 returns : tie.Need-returns
-returns c = (rw (eq-eqb _ _ (c .if1 .taken)), omega arith)
+unfolding shareBy
+returns c = let a = c .before .args in (rw (c .if1 .taken) (sym (by-zero (normOf 0 (a .kind)) (a .residents) (a .house))), omega arith)
+
+-- the house has some where a section has some
+some : (c : tie.Else1) → c .before .args .house ≡ 0 → ⊥
+some c e = omega arith
 
 returns-2 : tie.Need-returns-2
 returns-2 c = (
-  rw (ne-eqb _ _ (c .before .before .before .before .if1 .left), ← c .before .before .before .norm-of .ensures) (c .divide-up .ensures),
+  rw (ne-eqb _ _ (some (c .before .before .before .before)), ← c .before .before .before .norm-of .ensures) (c .divide-up .ensures),
   rw (c .divide-up .ensures) (share-top (fits (c .before .before .before))),
 )
 

@@ -14,27 +14,27 @@ use Rattle.demand.proofs.sums.sums_of.Statement.{statement}
 use Rattle.demand.proofs.sums.sums_of.Tie as tie
 
 abbrev Inv-loop : tie.InvT-loop
-Inv-loop counts i job m₀ taps₀ fixtures₀ kind₀ m taps fixtures kind =
+Inv-loop job counts i m₀ taps₀ fixtures₀ kind₀ m taps fixtures kind =
     Within 1 13 kind ×
     SoFar (λ k. shareOf job (servedOf job i) k) 16105635843750000 kind m ×
     SoFar (λ k. shareOf job (servedOf job i) k * normAt job k .tap) 483169075312500000 kind taps ×
     SoFar (servedOf job i) 4128705 kind fixtures
 
 abbrev μ-loop : tie.MeasureT-loop
-μ-loop counts i job m₀ taps₀ fixtures₀ kind₀ m taps fixtures kind = 13 - kind
+μ-loop job counts i m₀ taps₀ fixtures₀ kind₀ m taps fixtures kind = 13 - kind
 
 known : (c : tie.In-loop Inv-loop μ-loop) →
-    KindCounts (c .before .before .args .t1) (c .before .before .args .counts .now) (c .before .before .args .i) (c .before .loop .kind)
+    KindCounts (c .before .before .args .job) (c .before .before .args .counts .now) (c .before .before .args .i) (c .before .loop .kind)
 known c = kind-counts (c .before .before .pre .0) (c .before .before .pre .1) (omega arith) (omega arith)
 
 abbrev wanted : tie.In-loop Inv-loop μ-loop → ℕ
-wanted c = shareOf (c .before .before .args .t1) (servedOf (c .before .before .args .t1) (c .before .before .args .i)) (c .before .loop .kind)
+wanted c = shareOf (c .before .before .args .job) (servedOf (c .before .before .args .job) (c .before .before .args .i)) (c .before .loop .kind)
 
 is : (c : tie.After-share Inv-loop μ-loop) → c .share .result ≡ wanted (c .before .before .before .before .before .before .before)
 unfolding shareOf
 is c =
     let k = known (c .before .before .before .before .before .before .before) in
-    let n = c .before .before .before .before .before in
+    let n = c .before .before .before .before in
     rw (← c .before .before .before .wide16 .ensures .0, ← k .served, ← k .house, ← n .wide32 .ensures, ← c .before .wide322 .ensures)
     (c .share .ensures .0)
 
@@ -48,7 +48,7 @@ loop-again : tie.Need-loop-again Inv-loop μ-loop
 loop-again c =
     let d = c .before .before .before .before .before .before .before .before .before in
     let k = known d in
-    let n = c .before .before .before .before .before .before .before in (
+    let n = c .before .before .before .before .before .before in (
       omega arith,
       sum-turn (d .before .loop .inv .1) (omega arith) (is (c .before .before)) (omega arith),
       sum-turn (d .before .loop .inv .2) (omega arith) (rw (is (c .before .before), c .before .norm-of .ensures)) (tap (c .before)),

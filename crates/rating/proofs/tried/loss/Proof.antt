@@ -1,4 +1,4 @@
--- `rating::sections::loss` meets its contract.
+-- `rating::tried::loss` meets its contract.
 -- Assumes nothing.
 use mathlib.Core.Path.{_≡_}
 use Prim.Native.Nat.{_+_, _*_, _≤_}
@@ -6,8 +6,8 @@ use native.Mathlib.Omega.{arith}
 use borrow.Author.Needs.{needs}
 use Rattle.rating.specs.Losses.{lossOf}
 use Rattle.rating.proofs.LossBounds.{run-top, product-top, loss-top}
-use Rattle.rating.proofs.sections.loss.Statement.{statement}
-use Rattle.rating.proofs.sections.loss.Tie as tie
+use Rattle.rating.proofs.tried.loss.Statement.{statement}
+use Rattle.rating.proofs.tried.loss.Tie as tie
 
 run : (c : tie.Start) → c .args .slope * c .args .decimetres ≤ 327675000
 run c = run-top (c .args .slope) (c .args .decimetres) (c .args .tenths) (c .pre .0) (c .pre .1) (c .pre .2)
