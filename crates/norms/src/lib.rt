@@ -3,8 +3,19 @@ ghost use mathlib.Core.Path.{_≡_};
 ghost use Prim.Native.Nat.{_≤_};
 ghost use Rattle.norms.specs.Norms.{normOf};
 
-// D, litres per resident on the greatest day; Q, tenths of a litre per resident in the greatest hour; Z, hundredths of a litre a second
-// of a fixture; O, litres an hour of a fixture.
+// Litres per resident on the greatest day.
+const DAY: [u64; 12] = [400, 100, 160, 120, 230, 200, 250, 300, 115, 15, 16, 20];
+
+// Tenths of a litre per resident in the greatest hour.
+const HOUR: [u64; 12] = [200, 104, 120, 125, 190, 224, 280, 300, 84, 26, 40, 27];
+
+// Hundredths of a litre a second of a fixture.
+const TAP: [u64; 12] = [30, 20, 20, 30, 20, 30, 30, 30, 20, 20, 14, 14];
+
+// Litres an hour of a fixture.
+const DRAW: [u64; 12] = [300, 100, 100, 300, 115, 250, 280, 300, 100, 80, 80, 100];
+
+// D, Q, Z and O of a kind.
 pub struct Norm {
     pub day: u64,
     pub hour: u64,
@@ -12,35 +23,16 @@ pub struct Norm {
     pub draw: u64,
 }
 
-// A row of the table.
-fn row(day: u64, hour: u64, tap: u64, draw: u64) -> Norm
-    ensures { λ r. ⌜ r ≡ record { day = day; hour = hour; tap = tap; draw = draw } ⌝ }
-{
-    Norm {
-        day,
-        hour,
-        tap,
-        draw,
-    }
-}
-
-// The norms of a kind, 1 to 12. A `match`, because a constant array is written out anew wherever it is named.
+// The norms of a kind, 1 to 12.
 pub fn norm_of(kind: usize) -> Norm
     requires { ⌜ (1 ≤ kind) × (kind ≤ 12) ⌝ }
     ensures { λ r. ⌜ r ≡ normOf 0 kind ⌝ }
 {
-    match kind {
-        1 => row(400, 200, 30, 300),
-        2 => row(100, 104, 20, 100),
-        3 => row(160, 120, 20, 100),
-        4 => row(120, 125, 30, 300),
-        5 => row(230, 190, 20, 115),
-        6 => row(200, 224, 30, 250),
-        7 => row(250, 280, 30, 280),
-        8 => row(300, 300, 30, 300),
-        9 => row(115, 84, 20, 100),
-        10 => row(15, 26, 20, 80),
-        11 => row(16, 40, 14, 80),
-        _ => row(20, 27, 14, 100),
+    let c = kind - 1;
+    Norm {
+        day: DAY[c],
+        hour: HOUR[c],
+        tap: TAP[c],
+        draw: DRAW[c],
     }
 }
