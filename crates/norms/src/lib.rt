@@ -1,19 +1,22 @@
 // The norms of the twelve kinds: appendix 3, total water.
+use numbers::long16;
 ghost use mathlib.Core.Path.{_≡_};
 ghost use Prim.Native.Nat.{_≤_};
 ghost use Rattle.norms.specs.Norms.{normOf};
 
+// The back end writes a constant table out wherever it is named, so its numbers are as narrow as they can be.
+
 // Litres per resident on the greatest day.
-const DAY: [u64; 12] = [400, 100, 160, 120, 230, 200, 250, 300, 115, 15, 16, 20];
+const DAY: [u16; 12] = [400, 100, 160, 120, 230, 200, 250, 300, 115, 15, 16, 20];
 
 // Tenths of a litre per resident in the greatest hour.
-const HOUR: [u64; 12] = [200, 104, 120, 125, 190, 224, 280, 300, 84, 26, 40, 27];
+const HOUR: [u16; 12] = [200, 104, 120, 125, 190, 224, 280, 300, 84, 26, 40, 27];
 
 // Hundredths of a litre a second of a fixture.
-const TAP: [u64; 12] = [30, 20, 20, 30, 20, 30, 30, 30, 20, 20, 14, 14];
+const TAP: [u16; 12] = [30, 20, 20, 30, 20, 30, 30, 30, 20, 20, 14, 14];
 
 // Litres an hour of a fixture.
-const DRAW: [u64; 12] = [300, 100, 100, 300, 115, 250, 280, 300, 100, 80, 80, 100];
+const DRAW: [u16; 12] = [300, 100, 100, 300, 115, 250, 280, 300, 100, 80, 80, 100];
 
 // D, Q, Z and O of a kind.
 pub struct Norm {
@@ -30,9 +33,9 @@ pub fn norm_of(kind: usize) -> Norm
 {
     let c = kind - 1;
     Norm {
-        day: DAY[c],
-        hour: HOUR[c],
-        tap: TAP[c],
-        draw: DRAW[c],
+        day: long16(DAY[c]),
+        hour: long16(HOUR[c]),
+        tap: long16(TAP[c]),
+        draw: long16(DRAW[c]),
     }
 }

@@ -1,4 +1,4 @@
-// Numbers as wider ones, and the lesser and the greater of two.
+// Numbers as wider ones, each with its range: `wide` as a place in a list, `long` for a sum. And the lesser and the greater of two.
 ghost use mathlib.Core.Path.{_≡_};
 ghost use Prim.Native.Nat.{_≤_, _<_, min, max};
 
@@ -12,6 +12,12 @@ pub fn wide32(x: u32) -> usize
     ensures { λ r. ⌜ (r ≡ x) × (r ≤ 4294967295) ⌝ }
 {
     x as usize
+}
+
+pub fn long16(x: u16) -> u64
+    ensures { λ r. ⌜ (r ≡ x) × (r < 65536) ⌝ }
+{
+    x as u64
 }
 
 pub fn greater(a: usize, b: usize) -> usize

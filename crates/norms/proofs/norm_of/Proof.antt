@@ -7,10 +7,10 @@ use Rattle.norms.proofs.norm_of.Tie as tie
 
 returns : tie.Need-returns
 unfolding normOf dayNorms hourNorms tapNorms drawNorms
-returns c = search needs
+returns c = rw (c .before .before .before .long16 .ensures .0, c .before .before .long162 .ensures .0, c .before .long163 .ensures .0, c .long164 .ensures .0)
 
 pub norm-of-spec : {M : Type 1} → statement M
 norm-of-spec =
     tie.close
-    (tie.spec (λ c. search needs) (λ c. search needs) (λ c. search needs) (λ c. search needs) (λ c. search needs) (λ c. search needs)
-    (λ c. search needs) (λ c. search needs) (λ c. search needs) returns)
+    (tie.spec (λ c. search needs) (λ c. search needs) (λ c. search needs) (λ c κs. search needs) (λ c. search needs) (λ c. search needs) (λ c κs. search needs)
+    (λ c. search needs) (λ c. search needs) (λ c κs. search needs) (λ c. search needs) (λ c. search needs) (λ c κs. search needs) returns)
