@@ -4,11 +4,11 @@ use mathlib.Core.Path.{_≡_, refl, _∙_}
 use mathlib.Core.Bool.{Bool, true, false, cond}
 use mathlib.Core.List.{List, [], _∷_, _++_}
 use Prim.{Unit}
-use Prim.Native.Nat.{ℕ, _<_}
+use Prim.Native.Nat.{ℕ, _≤_, _<_}
 use native.Mathlib.Omega.{arith}
 use lib.Dec.{eqb}
-use borrow.Author.Tests.{ne-eqb}
-use Rattle.answer.specs.Checks.{firstNo}
+use borrow.Author.Tests.{ne-eqb, lt-ltb, le-ltb}
+use Rattle.answer.specs.Checks.{firstNo, tooShort}
 
 pub first-none : firstNo [] ≡ 0
 unfolding firstNo
@@ -22,6 +22,14 @@ module _ {t : Bool} (n : ℕ) (rest : List (Bool × ℕ)) where
   pub first-next : t ≡ false → firstNo ((t, n) ∷ rest) ≡ firstNo rest
   unfolding firstNo
   first-next e = rw e
+
+-- 14: the buffer is too short, or it is not
+module _ (room long : ℕ) (rest : List (Bool × ℕ)) where
+  pub short-found : room < long → firstNo (tooShort room long ∷ rest) ≡ 14
+  short-found h = first-found 14 rest (lt-ltb room long h)
+
+  pub short-next : long ≤ room → firstNo (tooShort room long ∷ rest) ≡ firstNo rest
+  short-next h = first-next 14 rest (le-ltb room long h)
 
 -- every check of the list has a number of its own
 abbrev pub Numbered : List (Bool × ℕ) → Type 0

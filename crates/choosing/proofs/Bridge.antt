@@ -26,8 +26,8 @@ use Rattle.heads.specs.Heads.{pathOf, reachOf, greatestTo, requiredOf}
 use Rattle.heads.proofs.Loss as heads
 use Rattle.heads.proofs.Signed.{le-trans}
 use Rattle.heads.proofs.Maximum.{Reached, greatest-bound, greatest-reached}
-use Rattle.rating.specs.Losses.{sizeOf, listOk, overAt, overAny, lossesOf}
-use Rattle.rating.proofs.Named.{list-all, list-long, list-names}
+use Rattle.sizing.specs.Losses.{sizeOf, listOk, overAt, overAny, lossesOf}
+use Rattle.sizing.proofs.Named.{list-all, list-long, list-names}
 use Rattle.nets.specs.Net.{Net, pathLoss, Suits}
 use Rattle.nets.specs.Net as net
 use Rattle.nets.proofs.Paths as tree

@@ -18,8 +18,8 @@ use Rattle.demand.proofs.Ruling.{ruled-count, ruled-rooted}
 use Rattle.catalogue.specs.Layout.{sizesOf}
 use Rattle.catalogue.specs.Shape.{Listed}
 use Rattle.catalogue.proofs.Listed.{listed-counts}
-use Rattle.rating.specs.Losses.{overAt, lossAt}
-use Rattle.rating.proofs.LossBounds.{loss-top}
+use Rattle.sizing.specs.Losses.{overAt, lossAt}
+use Rattle.sizing.proofs.LossBounds.{loss-top}
 use Rattle.nets.specs.Tables.{top, netOf, Sound}
 use Rattle.choosing.specs.Suitable.{priceAt}
 use Rattle.choosing.specs.Shape.{lossEntry, Pair, Tabled, Ended, Drawn}

@@ -13,9 +13,9 @@ use Rattle.rules.proofs.SectionBounds.{SectionIn}
 use Rattle.rules.proofs.Kept.{sections-in}
 use Rattle.demand.proofs.Ruling.{ruled-sections}
 use Rattle.catalogue.proofs.Listed.{listed-price}
-use Rattle.rating.specs.Losses.{readingOf, overAt, lossAt}
+use Rattle.sizing.specs.Losses.{readingOf, overAt, lossAt}
 use Rattle.nets.specs.Tables.{top}
-use Rattle.rating.proofs.Trying.{read-top, tried-over, tried-not}
+use Rattle.sizing.proofs.Trying.{read-top, tried-over, tried-not}
 use Rattle.choosing.specs.Suitable.{priceAt}
 use Rattle.choosing.specs.Shape.{entryOf, lossEntry, Pair}
 

@@ -6,4 +6,3 @@ pub mod Entries
 pub mod Drawing
 pub mod Ordering
 pub mod Whole
-pub mod Worked

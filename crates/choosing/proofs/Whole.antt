@@ -16,10 +16,10 @@ use Rattle.record.specs.Record.{decode}
 use Rattle.demand.specs.Demand.{Accepted}
 use Rattle.demand.proofs.Ruling.{ruled-count}
 use Rattle.catalogue.specs.Shape.{Listed}
-use Rattle.rating.specs.Losses.{sizeOf}
-use Rattle.rating.specs.Calls.{inputNo}
-use Rattle.rating.proofs.Named.{list-names}
-use Rattle.rating.proofs.Both.{input-accepted, input-listed}
+use Rattle.sizing.specs.Losses.{sizeOf}
+use Rattle.acceptance.specs.Acceptance.{inputNo}
+use Rattle.sizing.proofs.Named.{list-names}
+use Rattle.acceptance.proofs.Accepting.{input-accepted, input-listed}
 use Rattle.choosing.specs.Suitable.{Suitable, priceAt, costOf}
 use Rattle.choosing.specs.Calls.{Ample, chooseBytes, Unsuitable, Cheapest, Chosen}
 use Rattle.choosing.proofs.Entries.{price-top}

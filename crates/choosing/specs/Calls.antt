@@ -8,12 +8,12 @@ use Prim.Native.Nat.{ℕ, _+_, _*_, _≤_}
 use lib.Dec.{ltb}
 use lib.ListN.{length}
 use Rattle.basis.specs.Stored.{stored}
-use Rattle.answer.specs.Checks.{firstNo}
+use Rattle.answer.specs.Checks.{firstNo, tooShort}
 use Rattle.wire.specs.Wire.{bytesOf}
 use Rattle.fields.specs.declared.Job.{Job}
 use Rattle.fields.specs.Fields.{countOf}
 use Rattle.record.specs.Record.{decode}
-use Rattle.rating.specs.Calls.{inputChecks}
+use Rattle.acceptance.specs.Acceptance.{inputChecks}
 use Rattle.choosing.specs.Suitable.{Suitable, costOf}
 
 -- the length of a choosing result for S sections
@@ -32,7 +32,7 @@ pub record Ample (b out work : List ℕ) : Type 0 where
 -- 1 to 11, 14, 15: what is checked before the search
 unfoldable pub chooseChecks : List ℕ → List ℕ → ℕ → ℕ → List (Bool × ℕ)
 chooseChecks b cat room work =
-    inputChecks b cat ++ ((ltb room (chooseLength (countOf (decode b))), 14) ∷ (ltb work (workLength (decode b)), 15) ∷ [])
+    inputChecks b cat ++ (tooShort room (chooseLength (countOf (decode b))) ∷ (ltb work (workLength (decode b)), 15) ∷ [])
 
 -- the number of the first that finds something, 0 where none does
 unfoldable pub chooseNo : List ℕ → List ℕ → ℕ → ℕ → ℕ

@@ -14,11 +14,11 @@ use Rattle.demand.specs.Demand.{Accepted, sectionFlow}
 use Rattle.catalogue.specs.Layout.{sizesOf, rowsOf, partOf}
 use Rattle.catalogue.specs.Reading.{readRows}
 use Rattle.catalogue.specs.Shape.{Listed}
-use Rattle.rating.specs.declared.tried.Tried.{Tried}
-use Rattle.rating.specs.Losses.{overAt, lossAt}
+use Rattle.sizing.specs.declared.Tried.{Tried}
+use Rattle.sizing.specs.Losses.{overAt, lossAt}
 use Rattle.nets.specs.Net.{Net}
 use Rattle.nets.specs.Tables.{top}
-use Rattle.rating.specs.Shape.{triedOf}
+use Rattle.sizing.specs.Contracts.{triedOf}
 use Rattle.choosing.specs.Suitable.{Suitable, priceAt, costOf}
 
 -- heads of the search are 1,000 cm more than those of document 01, so that none is negative

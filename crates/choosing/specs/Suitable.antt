@@ -11,7 +11,7 @@ use Rattle.fields.specs.declared.Job.{Job}
 use Rattle.fields.specs.Fields.{countOf, sectionOf}
 use Rattle.catalogue.specs.Layout.{priceOf}
 use Rattle.heads.specs.Heads.{requiredOf}
-use Rattle.rating.specs.Losses.{sizeOf, listOk, overAny, lossesOf}
+use Rattle.sizing.specs.Losses.{sizeOf, listOk, overAny, lossesOf}
 
 pub record Suitable (job : Job) (cat list : List ℕ) : Type 0 where
   -- each section has one of the catalogue's sizes

@@ -23,7 +23,7 @@ fn put_result(out: &mut [u8], cost: u32, sizes: [u8; 63], count: usize)
 pub fn choose(b: &[u8], cat: &[u8], work: &mut [u8], out: &mut [u8]) -> Answer
     ensures { λ r. ⌜ Chosen (now (b .entry)) (now (cat .entry)) (now (out .entry)) (now (work .entry)) (now (out .exit)) (now (work .exit)) (numberOf r) ⌝ }
 {
-    let accepted = rating::accept_both(b, cat);
+    let accepted = acceptance::accept_both(b, cat);
     let answer = accepted.answer;
     if answer::number(answer) != 0 {
         return answer;

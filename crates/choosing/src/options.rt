@@ -3,7 +3,7 @@ use fields::Head;
 use fields::Job;
 use fields::Section;
 use nets::TOP;
-use rating::Tried;
+use sizing::Tried;
 ghost use mathlib.Core.Path.{_≡_};
 ghost use Prim.Native.Nat.{_*_, _≤_, _<_};
 ghost use lib.ListN.{length};
@@ -39,7 +39,7 @@ fn put_row(
     let sizes = cat[5] as usize;
     let mut s: usize = 1;
     while s <= sizes {
-        let t = rating::try_size(cat, s, flow, head.limit, section.decimetres, head.tenths);
+        let t = sizing::try_size(cat, s, flow, head.limit, section.decimetres, head.tenths);
         losses[i * 13 + s] = entry(t);
         costs[i * 13 + s] = (catalogue::price(cat, s) as u32) * (section.decimetres as u32);
         s += 1;

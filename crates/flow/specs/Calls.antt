@@ -1,28 +1,15 @@
--- Acceptance of a job, and the flow call: document 01, "Refused orders" 1 to 9 and 14, and the flow result.
+-- The flow call: document 01, "Refused orders" 1 to 9 and 14, and the flow result.
 -- Assumes nothing.
 use Prim.Native.Nat.{ℕ, _+_, _*_}
-use mathlib.Core.Bool.{Bool, cond}
 use mathlib.Core.List.{List, [], _∷_, _++_}
-use lib.Dec.{ltb, eqb}
 use Rattle.basis.specs.Range.{concatTo}
-use Rattle.answer.specs.Checks.{firstNo}
+use Rattle.answer.specs.Checks.{firstNo, tooShort}
 use Rattle.wire.specs.Wire.{bytesOf}
 use Rattle.fields.specs.declared.Job.{Job}
-use Rattle.fields.specs.Fields.{blankJob, countOf}
+use Rattle.fields.specs.Fields.{countOf}
 use Rattle.record.specs.Record.{decode}
-use Rattle.job.specs.Calls.{readChecks}
-use Rattle.demand.specs.Demand.{demandChecks, hourOf, dayOf, meanOf, sectionFlow}
-
--- acceptance: 1 to 7, then 8 and 9 of the fields
-unfoldable pub jobChecks : List ℕ → List (Bool × ℕ)
-jobChecks b = readChecks b ++ demandChecks (decode b)
-
-unfoldable pub jobNo : List ℕ → ℕ
-jobNo b = firstNo (jobChecks b)
-
--- the fields of an accepted job; all zero after a refusal
-unfoldable pub acceptedJob : List ℕ → Job
-acceptedJob b = cond (eqb (jobNo b) 0) (decode b) blankJob
+use Rattle.demand.specs.Demand.{hourOf, dayOf, meanOf, sectionFlow}
+use Rattle.acceptance.specs.Acceptance.{jobChecks}
 
 -- the length of a flow result for S sections
 abbrev pub flowLength : ℕ → ℕ
@@ -38,4 +25,4 @@ flowBytes job = houseBytes (hourOf job) (dayOf job) (meanOf job) ++ concatTo (co
 
 -- the flow call with a result buffer of so many bytes: 1 to 9, and 14
 unfoldable pub flowNo : List ℕ → ℕ → ℕ
-flowNo b room = firstNo (jobChecks b ++ ((ltb room (flowLength (countOf (decode b))), 14) ∷ []))
+flowNo b room = firstNo (jobChecks b ++ (tooShort room (flowLength (countOf (decode b))) ∷ []))

@@ -1,35 +1,19 @@
-// Acceptance of a job, and the flow call.
+// The flow call.
+use acceptance::accept;
 use answer::Answer;
 use fields::Job;
-use job::Reading;
 ghost use mathlib.Core.Path.{_≡_};
 ghost use Prim.Native.Nat.{_≤_};
 ghost use lib.ListN.{length, getD};
 ghost use Rattle.basis.specs.Range.{concatTo};
 ghost use Rattle.basis.specs.Stored.{stored};
 ghost use Rattle.answer.specs.Answer.{numberOf};
+ghost use Rattle.answer.specs.Checks.{bufferAfter};
 ghost use Rattle.wire.specs.Wire.{bytesOf};
 ghost use Rattle.fields.specs.Fields.{countOf};
 ghost use Rattle.record.specs.Record.{decode};
-ghost use Rattle.job.specs.Calls.{bufferAfter};
 ghost use Rattle.demand.specs.Demand.{Accepted};
-ghost use Rattle.flow.specs.Calls.{jobNo, acceptedJob, flowLength, houseBytes, flowBytes, flowNo};
-
-// Any bytes give an accepted job or a number from 1 to 9.
-pub fn accept(b: &[u8]) -> Reading
-    ensures { λ r. ⌜ (numberOf (r .answer) ≡ jobNo (now (b .entry))) × (r .job ≡ acceptedJob (now (b .entry))) ⌝ }
-{
-    let reading = job::read(b);
-    let answer = reading.answer;
-    if answer::number(answer) != 0 {
-        return reading;
-    }
-    let demand = demand::demand_refusal(reading.job);
-    if answer::number(demand) != 0 {
-        return job::refused(demand);
-    }
-    reading
-}
+ghost use Rattle.flow.specs.Calls.{flowLength, houseBytes, flowBytes, flowNo};
 
 // The flows of sections 1 to count, from byte 12 on.
 fn put_flows(out: &mut [u8], flows: [u32; 64], count: usize)

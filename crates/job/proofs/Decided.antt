@@ -9,13 +9,14 @@ use native.Mathlib.Omega.{arith}
 use lib.ListN.{length}
 use lib.Dec.{ltb, eqb}
 use borrow.Author.Tests.{lt-ltb, le-ltb, ltb-false, eq-eqb, ne-eqb, not-false}
-use Rattle.answer.specs.Checks.{firstNo}
-use Rattle.answer.proofs.First.{Numbered, first-none, first-found, first-next, first-clear, first-after, first-before, first-split, numbered-append}
+use Rattle.answer.specs.Checks.{firstNo, tooShort}
+use Rattle.answer.proofs.First.{Numbered, first-none, first-found, first-next, short-found, short-next, first-clear, first-after, first-before, first-split, numbered-append}
 use Rattle.fields.specs.declared.Job.{Job}
 use Rattle.fields.specs.Fields.{blankJob, countOf}
 use Rattle.rules.specs.Rules.{headOk, fieldChecks}
 use Rattle.record.specs.Record.{lengthOf, decode}
-use Rattle.job.specs.Calls.{shapeChecks, readChecks, readNo, readJob, writeChecks, writeNo, copyChecks, copyNo}
+use Rattle.job.proofs.Stages.{stage-first, stage-second, fields-given}
+use Rattle.job.specs.Calls.{shapeChecks, readChecks, readNo, fieldsAfter, readJob, writeChecks, writeNo, copyChecks, copyNo}
 
 shape-numbered : (b : List ℕ) → Numbered (shapeChecks b)
 unfolding shapeChecks
@@ -27,25 +28,17 @@ fields-numbered job = (omega arith, (omega arith, (omega arith, tt)))
 
 -- reading: 1 to 4 where they find something, else 5 to 7 of the fields
 module _ (b : List ℕ) where
-  pub read-shape : (firstNo (shapeChecks b) ≡ 0 → ⊥) → readNo b ≡ firstNo (shapeChecks b)
-  unfolding readNo readChecks
-  read-shape n = first-before (shapeChecks b) (fieldChecks (decode b)) (shape-numbered b) n
+  pub read-shape : (firstNo (shapeChecks b) ≡ 0 → ⊥) → (readNo b ≡ firstNo (shapeChecks b)) × (readJob b ≡ fieldsAfter (shapeChecks b) (decode b))
+  unfolding readNo readJob readChecks
+  read-shape n = stage-first (shapeChecks b) (fieldChecks (decode b)) (shape-numbered b) (decode b) n
 
-  pub read-fields : firstNo (shapeChecks b) ≡ 0 → readNo b ≡ firstNo (fieldChecks (decode b))
-  unfolding readNo readChecks
-  read-fields e = first-after (shapeChecks b) (fieldChecks (decode b)) (shape-numbered b) e
-
-  pub read-refused : (readNo b ≡ 0 → ⊥) → readJob b ≡ blankJob
-  unfolding readJob
-  read-refused n = rw (ne-eqb (readNo b) 0 n)
+  pub read-fields : firstNo (shapeChecks b) ≡ 0 → (readNo b ≡ firstNo (fieldChecks (decode b))) × (readJob b ≡ fieldsAfter (fieldChecks (decode b)) (decode b))
+  unfolding readNo readJob readChecks
+  read-fields e = stage-second (shapeChecks b) (fieldChecks (decode b)) (shape-numbered b) (decode b) e
 
   pub read-accepted : readNo b ≡ 0 → readJob b ≡ decode b
-  unfolding readJob
-  read-accepted e = rw (eq-eqb (readNo b) 0 e)
-
-  pub read-checked : firstNo (shapeChecks b) ≡ 0 → readJob b ≡ cond (eqb (firstNo (fieldChecks (decode b))) 0) (decode b) blankJob
-  unfolding readJob
-  read-checked e = rw (read-fields e)
+  unfolding readJob readNo
+  read-accepted e = fields-given (readChecks b) (decode b) e
 
 -- what holds where the reader finds nothing
 pub record Readable (b : List ℕ) : Type 0 where
@@ -66,11 +59,11 @@ read-numbered b = numbered-append (shapeChecks b) (fieldChecks (decode b)) (shap
 module _ (b : List ℕ) (room : ℕ) where
   pub copy-refused : (readNo b ≡ 0 → ⊥) → copyNo b room ≡ readNo b
   unfolding copyNo copyChecks readNo
-  copy-refused n = first-before (readChecks b) ((ltb room (length b), 14) ∷ []) (read-numbered b) n
+  copy-refused n = first-before (readChecks b) (tooShort room (length b) ∷ []) (read-numbered b) n
 
-  pub copy-room : readNo b ≡ 0 → copyNo b room ≡ firstNo ((ltb room (length b), 14) ∷ [])
+  pub copy-room : readNo b ≡ 0 → copyNo b room ≡ firstNo (tooShort room (length b) ∷ [])
   unfolding copyNo copyChecks readNo
-  copy-room e = first-after (readChecks b) ((ltb room (length b), 14) ∷ []) (read-numbered b) e
+  copy-room e = first-after (readChecks b) (tooShort room (length b) ∷ []) (read-numbered b) e
 
 -- writing: 3, else 5 to 7, else 14
 module _ (job : Job) (room : ℕ) where
@@ -84,15 +77,15 @@ module _ (job : Job) (room : ℕ) where
     write-fields n = first-next 3 _ (rw head) ∙ first-before (fieldChecks job) _ (fields-numbered job) n
 
     module _ (fields : firstNo (fieldChecks job) ≡ 0) where
-      pub write-room : writeNo job room ≡ firstNo ((ltb room (lengthOf (countOf job)), 14) ∷ [])
+      pub write-room : writeNo job room ≡ firstNo (tooShort room (lengthOf (countOf job)) ∷ [])
       unfolding writeNo writeChecks
       write-room = first-next 3 _ (rw head) ∙ first-after (fieldChecks job) _ (fields-numbered job) fields
 
       pub write-short : room < lengthOf (countOf job) → writeNo job room ≡ 14
-      write-short h = write-room ∙ first-found 14 [] (lt-ltb room (lengthOf (countOf job)) h)
+      write-short h = write-room ∙ short-found room (lengthOf (countOf job)) [] h
 
       pub write-done : lengthOf (countOf job) ≤ room → writeNo job room ≡ 0
-      write-done h = write-room ∙ first-next 14 [] (le-ltb room (lengthOf (countOf job)) h) ∙ first-none
+      write-done h = write-room ∙ short-next room (lengthOf (countOf job)) [] h ∙ first-none
 
 -- what holds where the writer finds nothing
 pub record Writable (job : Job) (room : ℕ) : Type 0 where

@@ -6,11 +6,9 @@ use mathlib.Core.List.{List, [], _∷_, append-assoc}
 use Prim.Native.Nat.{ℕ, _+_, _≤_, _<_}
 use native.Mathlib.Omega.{arith}
 use lib.ListN.{length, getD}
-use lib.Dec.{ltb}
-use borrow.Author.Tests.{le-ltb}
 use Rattle.basis.proofs.Slots.{slots-in}
-use Rattle.answer.specs.Checks.{firstNo}
-use Rattle.answer.proofs.First.{first-none, first-next}
+use Rattle.answer.specs.Checks.{firstNo, tooShort}
+use Rattle.answer.proofs.First.{first-none, short-next}
 use Rattle.wire.specs.Wire.{byteAt, beAt, bytesOf}
 use Rattle.wire.proofs.Fields.{be-bytes}
 use Rattle.fields.specs.declared.Job.{Job}
@@ -50,7 +48,7 @@ module _ (b : List ℕ) (accepted : readNo b ≡ 0) where
       let s : Shaped b = read-shaped in rw fields-read (encode-decode b byte (few s) (s .stated) (s .version) (s .whole))
 
   -- the writer gives 14 or nothing, as the room is
-  pub rewritten : (room : ℕ) → writeNo (readJob b) room ≡ firstNo ((ltb room (length b), 14) ∷ [])
+  pub rewritten : (room : ℕ) → writeNo (readJob b) room ≡ firstNo (tooShort room (length b) ∷ [])
   rewritten room = rw fields-read (write-room (decode b) room read-head (readable b accepted .fields) ∙ rw read-length)
 
   -- and copying gives what the writer gives
@@ -59,7 +57,7 @@ module _ (b : List ℕ) (accepted : readNo b ≡ 0) where
 
   -- with enough room it is not refused
   pub not-refused : (room : ℕ) → length b ≤ room → writeNo (readJob b) room ≡ 0
-  not-refused room h = rewritten room ∙ first-next 14 [] (le-ltb room (length b) h) ∙ first-none
+  not-refused room h = rewritten room ∙ short-next room (length b) [] h ∙ first-none
 
 -- what no rule bounds, and the types hold: residents of twelve kinds, and fixtures, of 16 bits each
 pub record Sixteen (job : Job) : Type 0 where
@@ -138,7 +136,7 @@ module _ (job : Job) (sixteen : Sixteen job) (room : ℕ) (done : writeNo job ro
   accepted-again =
       let long : 40 ≤ length (encode job) = rw (encode-length job) (omega arith) in
       let head : headOk (headAt (encode job)) ≡ true = rw head-again (may .head) in
-      read-fields (encode job) (well-formed (encode job) long stated-again version-again head shape-again) ∙ fields-again
+      read-fields (encode job) (well-formed (encode job) long stated-again version-again head shape-again) .0 ∙ fields-again
 
   pub same-fields : readJob (encode job) ≡ kept job
   same-fields = read-accepted (encode job) accepted-again ∙ again

@@ -5,8 +5,7 @@ use mathlib.Core.Bool.{Bool, not, _||_, cond}
 use mathlib.Core.List.{List, [], _∷_, _++_}
 use lib.ListN.{length}
 use lib.Dec.{ltb, eqb}
-use Rattle.basis.specs.Stored.{stored}
-use Rattle.answer.specs.Checks.{firstNo}
+use Rattle.answer.specs.Checks.{firstNo, tooShort}
 use Rattle.wire.specs.Wire.{byteAt, beAt}
 use Rattle.fields.specs.declared.Job.{Job}
 use Rattle.fields.specs.Fields.{blankJob, countOf}
@@ -36,24 +35,23 @@ readChecks b = shapeChecks b ++ fieldChecks (decode b)
 unfoldable pub readNo : List ℕ → ℕ
 readNo b = firstNo (readChecks b)
 
--- the fields of an accepted record; all zero after a refusal
-unfoldable pub readJob : List ℕ → Job
-readJob b = cond (eqb (readNo b) 0) (decode b) blankJob
+-- the fields where a list of checks finds nothing; all zero after a refusal
+abbrev pub fieldsAfter : List (Bool × ℕ) → Job → Job
+fieldsAfter checks job = cond (eqb (firstNo checks) 0) job blankJob
 
--- the buffer after a call that gives a number: the bytes at its front and the rest as it was where the number is 0, else all of it as it was
-abbrev pub bufferAfter : ℕ → List ℕ → List ℕ → List ℕ
-bufferAfter n bytes out = cond (eqb n 0) (stored out 0 bytes) out
+unfoldable pub readJob : List ℕ → Job
+readJob b = fieldsAfter (readChecks b) (decode b)
 
 -- writing into so many bytes: 3, 5 to 7, and 14 where the result buffer is too short
 unfoldable pub writeChecks : Job → ℕ → List (Bool × ℕ)
-writeChecks job room = (not (headOk (job .head)), 3) ∷ (fieldChecks job ++ ((ltb room (lengthOf (countOf job)), 14) ∷ []))
+writeChecks job room = (not (headOk (job .head)), 3) ∷ (fieldChecks job ++ (tooShort room (lengthOf (countOf job)) ∷ []))
 
 unfoldable pub writeNo : Job → ℕ → ℕ
 writeNo job room = firstNo (writeChecks job room)
 
 -- reading and writing again into so many bytes: 1 to 7, and 14
 unfoldable pub copyChecks : List ℕ → ℕ → List (Bool × ℕ)
-copyChecks b room = readChecks b ++ ((ltb room (length b), 14) ∷ [])
+copyChecks b room = readChecks b ++ (tooShort room (length b) ∷ [])
 
 unfoldable pub copyNo : List ℕ → ℕ → ℕ
 copyNo b room = firstNo (copyChecks b room)

@@ -7,11 +7,10 @@ ghost use Prim.Native.Nat.{_≤_};
 ghost use lib.Dec.{eqb};
 ghost use lib.ListN.{length};
 ghost use Rattle.answer.specs.Answer.{numberOf};
-ghost use Rattle.answer.specs.Checks.{firstNo};
+ghost use Rattle.answer.specs.Checks.{firstNo, bufferAfter};
 ghost use Rattle.fields.specs.Fields.{blankJob, countOf};
-ghost use Rattle.rules.specs.Rules.{fieldChecks};
 ghost use Rattle.record.specs.Record.{encode};
-ghost use Rattle.job.specs.Calls.{shapeChecks, readNo, readJob, writeNo, copyNo, bufferAfter};
+ghost use Rattle.job.specs.Calls.{shapeChecks, readNo, readJob, writeNo, copyNo};
 
 // What reading gives: the answer, and the fields, all zero after a refusal.
 pub struct Reading {
@@ -27,6 +26,16 @@ pub fn refused(answer: Answer) -> Reading
         answer,
         job: fields::blank_job(),
     }
+}
+
+// The job with the answer of its last checks: all zero where that is a refusal.
+pub fn reading_of(answer: Answer, job: Job) -> Reading
+    ensures { λ r. ⌜ (r .answer ≡ answer) × (r .job ≡ cond (eqb (numberOf answer) 0) job blankJob) ⌝ }
+{
+    if answer::number(answer) != 0 {
+        return refused(answer);
+    }
+    Reading { answer, job }
 }
 
 fn wide(x: u32) -> usize
@@ -59,18 +68,6 @@ fn shape_refusal(b: &[u8]) -> Answer
     Answer::Done
 }
 
-// 5 to 7, of fields that passed 3.
-fn checked(job: Job) -> Reading
-    requires { ⌜ countOf job ≤ 63 ⌝ }
-    ensures { λ r. ⌜ (numberOf (r .answer) ≡ firstNo (fieldChecks job)) × (r .job ≡ cond (eqb (firstNo (fieldChecks job)) 0) job blankJob) ⌝ }
-{
-    let answer = rules::broken_rule(job);
-    if answer::number(answer) != 0 {
-        return refused(answer);
-    }
-    Reading { answer, job }
-}
-
 // Any bytes give a job or a number from 1 to 7.
 pub fn read(b: &[u8]) -> Reading
     ensures { λ r. ⌜ (numberOf (r .answer) ≡ readNo (now (b .entry))) × (r .job ≡ readJob (now (b .entry))) ⌝ }
@@ -79,7 +76,8 @@ pub fn read(b: &[u8]) -> Reading
     if answer::number(answer) != 0 {
         return refused(answer);
     }
-    checked(record::job_of(b))
+    let job = record::job_of(b);
+    reading_of(rules::broken_rule(job), job)
 }
 
 // 3, 5, 6, 7 and 14, of fields and a buffer.

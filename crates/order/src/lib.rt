@@ -3,7 +3,8 @@
 ghost use mathlib.Core.Path.{_≡_};
 ghost use lib.ListN.{length};
 ghost use Rattle.record.specs.Record.{decode};
-ghost use Rattle.job.specs.Calls.{copyNo, bufferAfter};
+ghost use Rattle.answer.specs.Checks.{bufferAfter};
+ghost use Rattle.job.specs.Calls.{copyNo};
 ghost use Rattle.flow.specs.Calls.{flowNo, flowBytes};
 ghost use Rattle.rating.specs.Calls.{rateNo, rateBytes};
 ghost use Rattle.choosing.specs.Calls.{Chosen};

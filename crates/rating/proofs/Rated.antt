@@ -16,7 +16,7 @@ use Rattle.tree.specs.Tree.{Rooted}
 use Rattle.demand.proofs.Ruling.{ruled-count, ruled-sections}
 use Rattle.heads.specs.Shape.{Given}
 use Rattle.heads.proofs.Same.{required-same, pump-same, dictating-same}
-use Rattle.rating.specs.Losses.{sizeOf, readingOf, lossesOf}
+use Rattle.sizing.specs.Losses.{sizeOf, readingOf, lossesOf}
 use Rattle.rating.specs.Calls.{headsBytes, ratedBytes, rateBytes}
 use Rattle.rating.specs.Shape.{RatedAt, RatedJob}
 

@@ -15,7 +15,7 @@ use Rattle.basis.proofs.Each.{any-none, any-more, any-true}
 use Rattle.basis.proofs.Slots.{slots-none, slots-more}
 use Rattle.fields.specs.declared.Job.{Job}
 use Rattle.fields.specs.Fields.{countOf}
-use Rattle.rating.specs.Losses.{sizeOf, overAt, overAny, readingOf, lossesOf}
+use Rattle.sizing.specs.Losses.{sizeOf, overAt, overAny, readingOf, lossesOf}
 use Rattle.rating.specs.Shape.{Fitting, RatedAt}
 
 module _ (job : Job) (cat list : List ℕ) where

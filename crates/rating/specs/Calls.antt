@@ -1,31 +1,18 @@
 -- The rating call: document 01, "Refused orders" 1 to 14, and the rating result.
 -- Assumes nothing.
 use Prim.Native.Nat.{ℕ, _+_, _*_}
-use mathlib.Core.Bool.{Bool, not, cond}
+use mathlib.Core.Bool.{Bool, not}
 use mathlib.Core.List.{List, [], _∷_, _++_}
-use lib.Dec.{ltb, eqb}
 use Rattle.basis.specs.Range.{concatTo}
-use Rattle.answer.specs.Checks.{firstNo}
+use Rattle.answer.specs.Checks.{firstNo, tooShort}
 use Rattle.wire.specs.Wire.{bytesOf}
 use Rattle.fields.specs.declared.Job.{Job}
-use Rattle.fields.specs.Fields.{blankJob, countOf}
+use Rattle.fields.specs.Fields.{countOf}
 use Rattle.record.specs.Record.{decode}
-use Rattle.flow.specs.Calls.{jobChecks}
-use Rattle.catalogue.specs.Rules.{catChecks}
+use Rattle.acceptance.specs.Acceptance.{inputChecks}
 use Rattle.heads.specs.Signed.{bits32Of}
 use Rattle.heads.specs.Heads.{requiredOf, pumpOf, dictatingOf}
-use Rattle.rating.specs.Losses.{sizeOf, listOk, overAny, readingOf, lossesOf}
-
--- a job and a catalogue, as every call that takes both looks at them first: 1 to 9, 10, 11
-unfoldable pub inputChecks : List ℕ → List ℕ → List (Bool × ℕ)
-inputChecks b cat = jobChecks b ++ catChecks cat
-
-unfoldable pub inputNo : List ℕ → List ℕ → ℕ
-inputNo b cat = firstNo (inputChecks b cat)
-
--- the fields of the job where both are accepted; all zero after a refusal
-unfoldable pub inputJob : List ℕ → List ℕ → Job
-inputJob b cat = cond (eqb (inputNo b cat) 0) (decode b) blankJob
+use Rattle.sizing.specs.Losses.{sizeOf, listOk, overAny, readingOf, lossesOf}
 
 -- the length of a rating result for S sections
 abbrev pub rateLength : ℕ → ℕ
@@ -35,7 +22,7 @@ rateLength count = 9 + 6 * count
 unfoldable pub rateChecks : List ℕ → List ℕ → List ℕ → ℕ → List (Bool × ℕ)
 rateChecks b cat list room =
     inputChecks b cat ++
-    ((not (listOk (decode b) cat list), 12) ∷ (ltb room (rateLength (countOf (decode b))), 14) ∷ (overAny (decode b) cat list, 13) ∷ [])
+    ((not (listOk (decode b) cat list), 12) ∷ tooShort room (rateLength (countOf (decode b))) ∷ (overAny (decode b) cat list, 13) ∷ [])
 
 unfoldable pub rateNo : List ℕ → List ℕ → List ℕ → ℕ → ℕ
 rateNo b cat list room = firstNo (rateChecks b cat list room)

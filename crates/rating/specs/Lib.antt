@@ -1,3 +1,2 @@
-pub mod Losses
 pub mod Calls
 pub mod Shape

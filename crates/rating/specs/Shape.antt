@@ -1,30 +1,18 @@
 -- What the contracts inside rating say.
 -- Assumes nothing.
 use mathlib.Core.Path.{_≡_}
-use mathlib.Core.Bool.{true, false, cond}
+use mathlib.Core.Bool.{true}
 use Prim.Native.Nat.{ℕ, _+_, _≤_, _<_}
 use mathlib.Core.List.{List}
 use lib.ListN.{replicate}
 use Rattle.basis.specs.Slots.{slots}
 use Rattle.fields.specs.declared.Job.{Job}
-use Rattle.fields.specs.Fields.{blankJob, countOf, sectionOf}
+use Rattle.fields.specs.Fields.{blankJob, countOf}
 use Rattle.record.specs.Record.{decode}
 use Rattle.demand.specs.Demand.{Accepted}
-use Rattle.catalogue.specs.declared.reading.Reading.{Reading}
 use Rattle.catalogue.specs.Shape.{Listed}
-use Rattle.rating.specs.declared.tried.Tried.{Tried}
-use Rattle.rating.specs.Losses.{sizeOf, listOk, readingOf, overBy, lossOf, lossesOf}
+use Rattle.sizing.specs.Losses.{sizeOf, listOk, readingOf, lossesOf}
 use Rattle.rating.specs.Calls.{rateLength}
-
--- what a section of so many decimetres has with a size read so: velocity and loss, 0 where it is over
-unfoldable pub triedOf : Reading → ℕ → ℕ → ℕ → Tried
-triedOf r limit decimetres tenths =
-    cond (overBy limit r) (record { over = true; velocity = 0; loss = 0 })
-    (record { over = false; velocity = r .velocity; loss = lossOf (r .slope) decimetres tenths })
-
--- section i with size s
-abbrev pub triedAt : Job → List ℕ → ℕ → ℕ → Tried
-triedAt job cat s i = triedOf (readingOf job cat s i) (job .head .limit) (sectionOf job i .decimetres) (job .head .tenths)
 
 -- an accepted job, an accepted catalogue and a list that 12 lets pass
 pub record Rateable (j : Job) (c l : List ℕ) : Type 0 where

@@ -1,15 +1,15 @@
 // The rating call.
-use crate::inputs::accept_both;
 use crate::refusal::Outcome;
 use crate::refusal::refused;
 use crate::result::put_result;
 use crate::sections::list_ok;
 use crate::sections::rate_sections;
+use acceptance::accept_both;
 use answer::Answer;
 ghost use mathlib.Core.Path.{_≡_};
 ghost use lib.ListN.{length};
 ghost use Rattle.answer.specs.Answer.{numberOf};
-ghost use Rattle.job.specs.Calls.{bufferAfter};
+ghost use Rattle.answer.specs.Checks.{bufferAfter};
 ghost use Rattle.record.specs.Record.{decode};
 ghost use Rattle.rating.specs.Calls.{rateNo, rateBytes};
 ghost use Rattle.rating.specs.Shape.{RatedJob, Blank};

@@ -1,11 +1,11 @@
 // Velocity and loss of each section.
-use crate::tried::try_size;
 use fields::Job;
+use sizing::try_size;
 ghost use mathlib.Core.Path.{_≡_};
 ghost use mathlib.Core.Bool.{true, false};
 ghost use Prim.Native.Nat.{_≤_};
 ghost use lib.ListN.{length};
-ghost use Rattle.rating.specs.Losses.{listOk, overAny};
+ghost use Rattle.sizing.specs.Losses.{listOk, overAny};
 ghost use Rattle.rating.specs.Shape.{Rateable, RatedAt};
 
 // The velocities and losses at the sections' places, and whether a section is over its last row or the limit.

@@ -14,7 +14,7 @@ use Rattle.fields.specs.Fields.{countOf}
 use Rattle.demand.specs.Demand.{sectionFlow}
 use Rattle.demand.proofs.Ruling.{ruled-rooted}
 use Rattle.heads.proofs.Same.{required-same, pump-same, dictating-same}
-use Rattle.rating.specs.Losses.{lossesOf}
+use Rattle.sizing.specs.Losses.{lossesOf}
 use Rattle.rating.specs.Calls.{rateNo}
 use Rattle.rating.specs.Shape.{RatedJob}
 use Rattle.rating.proofs.Rated.{velocity-at, loss-at, rated-count}

@@ -12,7 +12,7 @@ use Rattle.fields.specs.Fields.{countOf}
 use Rattle.record.specs.Record.{decode}
 use Rattle.demand.specs.Demand.{hourOf, dayOf, meanOf, sectionFlow}
 use Rattle.heads.specs.Heads.{requiredOf, pumpOf, dictatingOf}
-use Rattle.rating.specs.Losses.{sizeOf, readingOf, lossesOf}
+use Rattle.sizing.specs.Losses.{sizeOf, readingOf, lossesOf}
 use Rattle.rating.specs.Calls.{rateLength, rateNo}
 use Rattle.sheet_text.specs.Text.{decimal, signedDecimal, spaced, houseWord, sectionWord, headWord, refusedWord}
 

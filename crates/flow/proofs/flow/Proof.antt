@@ -10,8 +10,10 @@ use Rattle.answer.specs.Answer.{numberOf}
 use Rattle.fields.specs.declared.Job.{Job}
 use Rattle.fields.specs.Fields.{countOf}
 use Rattle.record.specs.Record.{decode}
-use Rattle.flow.specs.Calls.{jobNo, flowLength}
-use Rattle.flow.proofs.Accepting.{accept-fields, accept-accepted, flow-refused, flow-short, flow-done}
+use Rattle.acceptance.specs.Acceptance.{jobNo}
+use Rattle.acceptance.proofs.Accepting.{accept-fields, accept-accepted}
+use Rattle.flow.specs.Calls.{flowLength}
+use Rattle.flow.proofs.Ordering.{flow-refused, flow-short, flow-done}
 use Rattle.flow.proofs.flow.Statement.{statement}
 use Rattle.flow.proofs.flow.Tie as tie
 

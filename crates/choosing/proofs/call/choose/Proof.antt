@@ -14,8 +14,8 @@ use Rattle.record.specs.Record.{decode}
 use Rattle.demand.specs.Demand.{Accepted}
 use Rattle.demand.proofs.Ruling.{ruled-count}
 use Rattle.rules.proofs.HeadBounds.{head-in}
-use Rattle.rating.specs.Calls.{inputNo}
-use Rattle.rating.proofs.Both.{input-fields, input-accepted, input-listed}
+use Rattle.acceptance.specs.Acceptance.{inputNo}
+use Rattle.acceptance.proofs.Accepting.{input-fields, input-accepted, input-listed}
 use Rattle.choosing.specs.Calls.{chooseLength, workLength, chooseNo}
 use Rattle.choosing.proofs.Ordering.{choose-inputs, choose-short, choose-narrow, choose-ready}
 use Rattle.choosing.proofs.Promised.{chosen-refused, chosen-none, chosen-least}

@@ -13,9 +13,10 @@ use Rattle.record.specs.Record.{decode}
 use Rattle.demand.specs.Demand.{Accepted}
 use Rattle.catalogue.specs.Shape.{Listed}
 use Rattle.catalogue.proofs.ShapeBounds.{shape-in}
-use Rattle.rating.specs.Losses.{listOk, overAny}
-use Rattle.rating.specs.Calls.{inputNo, rateLength}
-use Rattle.rating.proofs.Both.{input-fields, input-accepted, input-listed}
+use Rattle.sizing.specs.Losses.{listOk, overAny}
+use Rattle.acceptance.specs.Acceptance.{inputNo}
+use Rattle.rating.specs.Calls.{rateLength}
+use Rattle.acceptance.proofs.Accepting.{input-fields, input-accepted, input-listed}
 use Rattle.rating.proofs.Ordering.{rate-inputs, rate-list, rate-short, rate-over, rate-done}
 use Rattle.rating.proofs.call.outcome.Statement.{statement}
 use Rattle.rating.proofs.call.outcome.Tie as tie

@@ -14,11 +14,11 @@ use Rattle.rules.proofs.Kept.{sections-in}
 use Rattle.demand.specs.Demand.{sectionFlow}
 use Rattle.demand.proofs.Ruling.{ruled-count, ruled-sections}
 use Rattle.catalogue.specs.Layout.{sizesOf}
-use Rattle.rating.specs.declared.tried.Tried.{Tried}
-use Rattle.rating.specs.Losses.{sizeOf, overAt}
-use Rattle.rating.specs.Shape.{triedAt}
-use Rattle.rating.proofs.Named.{list-long, list-names}
-use Rattle.rating.proofs.Trying.{tried-at, tried-not, tried-tells}
+use Rattle.sizing.specs.declared.Tried.{Tried}
+use Rattle.sizing.specs.Losses.{sizeOf, overAt}
+use Rattle.sizing.specs.Contracts.{triedAt}
+use Rattle.sizing.proofs.Named.{list-long, list-names}
+use Rattle.sizing.proofs.Trying.{tried-at, tried-not, tried-tells}
 use Rattle.rating.proofs.Upto.{Upto, upto-start, upto-more, upto-over, upto-end}
 use Rattle.rating.proofs.sections.rate_sections.Statement.{statement}
 use Rattle.rating.proofs.sections.rate_sections.Tie as tie

@@ -1,0 +1,166 @@
+-- Document 01's own case: one theorem.
+-- Assumes nothing.
+use mathlib.Core.Path.{_≡_, refl, ap, _∙_}
+use mathlib.Core.Logic.{⊎-elim}
+use mathlib.Core.Bool.{true, false}
+use mathlib.Core.List.{List, [], _∷_}
+use Prim.Native.Nat.{ℕ}
+use native.Mathlib.Omega.{arith}
+use lib.IntN.{pos}
+use lib.ListN.{length}
+use lib.Signed.{leZ}
+use Rattle.basis.specs.Range.{sumTo, allTo, anyTo}
+use Rattle.basis.specs.Round.{up, line}
+use Rattle.basis.specs.Slots.{tabulate, slots}
+use Rattle.basis.specs.Stored.{stored}
+use Rattle.basis.proofs.Bools.{apart}
+use Rattle.basis.proofs.Split.{eq-or-ne}
+use Rattle.answer.specs.Checks.{firstNo}
+use Rattle.wire.specs.Wire.{beAt, bytesOf, signedOf}
+use Rattle.record.specs.Record.{headAt, residentsAt, sectionFrom, decode}
+use Rattle.tree.specs.Tree.{parentOf, reaches, below, ownOf, servedOf, houseOf}
+use Rattle.rules.specs.Rules.{headOk, kindOk, elevationOk, sectionOk, sectionsOk, childless, childlessZero, unmatched, fieldChecks}
+use Rattle.job.specs.Calls.{wrongLength, wrongVersion, wrongCount, shapeChecks, readChecks}
+use Rattle.norms.specs.Norms.{dayNorms, hourNorms, tapNorms, drawNorms, normOf}
+use Rattle.coefficient.specs.Table.{table}
+use Rattle.coefficient.specs.Alpha.{along, alphaOf}
+use Rattle.coefficient.proofs.Worked.{worked as alpha}
+use Rattle.demand.specs.Demand.{
+  shareOf,
+  mOf,
+  tapSumOf,
+  flowOf,
+  sectionFlow,
+  hourShareOf,
+  hourSumOf,
+  drawSumOf,
+  hourOf,
+  dayOf,
+  meanOf,
+  fixturesOf,
+  overSum,
+  crowded,
+  overProbability,
+  demandChecks,
+}
+use Rattle.acceptance.specs.Acceptance.{jobChecks, jobNo}
+use Rattle.catalogue.specs.Layout.{boreOf, priceOf, partOf, flowAt, velocityAt, slopeAt}
+use Rattle.catalogue.specs.Rules.{shapeOk, rowOk, risesAt, rowsOk, sizeOk, sizesOk, catChecks, catNo}
+use Rattle.catalogue.specs.Reading.{between, servesAt, readRows}
+use Rattle.heads.specs.Signed.{greater, clamped}
+use Rattle.heads.specs.Heads.{pathFrom, pathOf, reachOf, greatestTo, requiredOf, pumpOf, lowestTo, dictatingOf}
+use Rattle.sizing.specs.Losses.{listOk, readingOf, overBy, overAt, overAny, lossOf, lossAt, lossesOf}
+use Rattle.acceptance.specs.Acceptance.{inputChecks}
+use Rattle.rating.specs.Calls.{rateChecks, rateNo}
+use Rattle.sizing.proofs.Named.{list-long, list-names}
+use Rattle.acceptance.proofs.Accepting.{input-cat}
+use Rattle.choosing.specs.Suitable.{Suitable, priceAt, costOf}
+use Rattle.choosing.specs.Calls.{Ample, chooseChecks, chooseNo, chooseBytes, Chosen}
+use Rattle.demands.specs.OwnCase.{jobOf, ownCat, ownJob, job921, job920, OwnCase}
+use Rattle.choosing.proofs.Ordering.{choose-ready}
+
+-- size 1 is over the limit, whatever H is
+over-one : (high low : ℕ) → overAny (decode (jobOf high low)) ownCat (1 ∷ []) ≡ true
+unfolding
+    sumTo anyTo up line tabulate slots beAt headAt residentsAt sectionFrom decode
+    parentOf reaches below ownOf servedOf houseOf hourNorms tapNorms normOf along table alphaOf shareOf mOf tapSumOf flowOf
+    partOf flowAt velocityAt between servesAt readRows readingOf overBy overAt overAny
+over-one high low = refl
+
+-- so a list that suits is size 2 alone
+only-two : (high low : ℕ) (y : List ℕ) → Suitable (decode (jobOf high low)) ownCat y → y ≡ 2 ∷ []
+unfolding decode headAt
+only-two high low [] s = absurd (omega (arith, list-long (decode (jobOf high low)) ownCat [] (s .sizes)))
+only-two high low (x ∷ []) s =
+    let w = list-names (decode (jobOf high low)) ownCat (x ∷ []) (s .sizes) 1 (omega arith) (omega arith) in
+    ⊎-elim
+    (λ e. ap (λ n. n ∷ []) e)
+    (λ n. let e : x ≡ 1 = omega arith in absurd (apart (over-one high low) (rw e at (s .serves))))
+    (eq-or-ne x 2)
+only-two high low (x ∷ z ∷ l) s = absurd (omega (arith, list-long (decode (jobOf high low)) ownCat (x ∷ z ∷ l) (s .sizes)))
+
+-- what is computed of the bytes: the inputs are accepted, size 2 suits H 921 at 130,000, and H 920 is below its required head
+pub record Computed : Type 0 where
+  pub own : jobNo ownJob ≡ 0
+  pub accepted-921 : jobNo job921 ≡ 0
+  pub accepted-920 : jobNo job920 ≡ 0
+  pub listed : catNo ownCat ≡ 0
+  pub suits : Suitable (decode job921) ownCat (2 ∷ [])
+  pub bytes : chooseBytes (decode job921) ownCat (2 ∷ []) ≡ 0 ∷ 1 ∷ 251 ∷ 208 ∷ 2 ∷ []
+  pub short : leZ (requiredOf (decode job920) (lossesOf (decode job920) ownCat (2 ∷ []))) (pos (decode job920 .head .delivered)) ≡ false
+
+computed : Computed
+unfolding
+    over-one allTo firstNo signedOf bytesOf
+    headOk kindOk elevationOk sectionOk sectionsOk childless childlessZero unmatched fieldChecks
+    wrongLength wrongVersion wrongCount shapeChecks readChecks
+    hourShareOf hourSumOf drawNorms fixturesOf overSum crowded overProbability demandChecks jobChecks jobNo
+    boreOf priceOf slopeAt shapeOk rowOk risesAt rowsOk sizeOk sizesOk catChecks catNo
+    greater lossOf lossAt pathFrom pathOf reachOf greatestTo requiredOf listOk priceAt costOf chooseBytes
+computed =
+    record {
+      own = refl;
+      accepted-921 = refl;
+      accepted-920 = refl;
+      listed = refl;
+      suits = record { sizes = refl; serves = refl; head = refl };
+      bytes = refl;
+      short = refl;
+    }
+
+none-suits : (y : List ℕ) → Suitable (decode job920) ownCat y → ⊥
+none-suits y s = apart (rw (only-two 3 152 y s) at (s .head)) (computed .short)
+
+-- the call on either job, with enough of both buffers
+module _ {out₀ work₀ : List ℕ} where
+  ready : (b : List ℕ) → jobNo b ≡ 0 → Ample b out₀ work₀ → chooseNo b ownCat (length out₀) (length work₀) ≡ 0
+  ready b e a = choose-ready b ownCat (length out₀) (length work₀) (input-cat b ownCat e ∙ computed .listed) (a .result) (a .space)
+
+  gives-bytes : {out work : List ℕ} {n : ℕ} → Ample job921 out₀ work₀ → Chosen job921 ownCat out₀ work₀ out work n → (n ≡ 0) × (out ≡ stored out₀ 0 (0 ∷ 1 ∷ 251 ∷ 208 ∷ 2 ∷ []))
+  gives-bytes a c =
+      ⊎-elim
+      (λ u. absurd (u .none (2 ∷ []) (computed .suits)))
+      (λ f. (f .number, f .written ∙ rw (only-two 3 153 (f .list) (f .suits), computed .bytes)))
+      (c .chosen (ready job921 (computed .accepted-921) a))
+
+  gives-16 : {out work : List ℕ} {n : ℕ} → Ample job920 out₀ work₀ → Chosen job920 ownCat out₀ work₀ out work n → n ≡ 16
+  gives-16 a c =
+      ⊎-elim (λ u. u .number) (λ f. absurd (none-suits (f .list) (f .suits))) (c .chosen (ready job920 (computed .accepted-920) a))
+
+-- the rest is computed too, but for the statements over every list and over the call
+pub own-case : OwnCase
+unfolding computed dayNorms drawSumOf hourOf dayOf meanOf clamped pumpOf lowestTo dictatingOf inputChecks rateChecks rateNo chooseChecks chooseNo
+own-case =
+    record {
+      job = computed .own;
+      cat = computed .listed;
+      section-m = refl;
+      house-m = refl;
+      own-α = alpha .3;
+      under-α = alpha .0;
+      first-α = alpha .1;
+      last-α = alpha .2;
+      flow = refl;
+      hour = refl;
+      day = refl;
+      mean = refl;
+      rated = refl;
+      velocity = refl;
+      loss = refl;
+      required = refl;
+      pump = refl;
+      dictating = refl;
+      fast = refl;
+      refused = refl;
+      job-921 = computed .accepted-921;
+      suits-921 = computed .suits;
+      cost-921 = refl;
+      least-921 = λ y s. rw (only-two 3 153 y s) (omega arith);
+      job-920 = computed .accepted-920;
+      none-920 = none-suits;
+      enough = refl;
+      room = refl;
+      workspace = refl;
+      chosen-921 = λ out₀ work₀ out work n a c. gives-bytes a c;
+      chosen-920 = λ out₀ work₀ out work n a c. gives-16 a c;
+    }

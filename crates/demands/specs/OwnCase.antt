@@ -1,0 +1,105 @@
+-- Document 01's own case as bytes: what its theorem says, over the definitions that the contracts cite.
+-- Assumes nothing.
+use mathlib.Core.Path.{_≡_}
+use mathlib.Core.List.{List, [], _∷_}
+use Prim.Native.Nat.{ℕ, _≤_}
+use lib.IntN.{pos}
+use Rattle.basis.specs.Stored.{stored}
+use Rattle.record.specs.Record.{decode}
+use Rattle.tree.specs.Tree.{servedOf, houseOf}
+use Rattle.coefficient.specs.Alpha.{alphaOf}
+use Rattle.demand.specs.Demand.{mOf, sectionFlow, hourOf, dayOf, meanOf}
+use Rattle.acceptance.specs.Acceptance.{jobNo}
+use Rattle.catalogue.specs.Rules.{catNo}
+use Rattle.heads.specs.Heads.{requiredOf, pumpOf, dictatingOf}
+use Rattle.sizing.specs.Losses.{readingOf, lossAt, lossesOf}
+use Rattle.rating.specs.Calls.{rateNo}
+use Rattle.choosing.specs.Suitable.{Suitable, costOf}
+use Rattle.choosing.specs.Calls.{Ample, chooseNo, Chosen}
+
+-- the job's bytes, with the two of H left open: head, residents and the one section
+abbrev pub jobOf : ℕ → ℕ → List ℕ
+jobOf high low =
+    0 ∷ 0 ∷ 0 ∷ 50 ∷ 1 ∷ 3 ∷ 1 ∷ 24 ∷ 0 ∷ 50 ∷ 1 ∷ 244 ∷ high ∷ low ∷ 5 ∷ 220 ∷
+    0 ∷ 0 ∷ 0 ∷ 0 ∷ 0 ∷ 0 ∷ 0 ∷ 0 ∷ 0 ∷ 0 ∷ 0 ∷ 0 ∷ 0 ∷ 71 ∷ 0 ∷ 0 ∷ 0 ∷ 0 ∷ 0 ∷ 0 ∷ 0 ∷ 0 ∷ 0 ∷ 0 ∷
+    0 ∷ 7 ∷ 0 ∷ 80 ∷ 0 ∷ 100 ∷ 2 ∷ 88 ∷ 0 ∷ 200 ∷ []
+
+-- the catalogue's bytes: head, size 1 and size 2
+abbrev pub ownCat : List ℕ
+ownCat =
+    0 ∷ 0 ∷ 0 ∷ 47 ∷ 1 ∷ 2 ∷ 2 ∷
+    0 ∷ 40 ∷ 3 ∷ 132 ∷ 0 ∷ 0 ∷ 3 ∷ 232 ∷ 3 ∷ 32 ∷ 0 ∷ 40 ∷ 0 ∷ 0 ∷ 11 ∷ 184 ∷ 9 ∷ 96 ∷ 1 ∷ 44 ∷
+    0 ∷ 50 ∷ 5 ∷ 20 ∷ 0 ∷ 0 ∷ 3 ∷ 232 ∷ 1 ∷ 244 ∷ 0 ∷ 12 ∷ 0 ∷ 0 ∷ 11 ∷ 184 ∷ 5 ∷ 220 ∷ 0 ∷ 90 ∷ []
+
+-- H 1,200, 921 and 920
+abbrev pub ownJob : List ℕ
+ownJob = jobOf 4 176
+
+abbrev pub job921 : List ℕ
+job921 = jobOf 3 153
+
+abbrev pub job920 : List ℕ
+job920 = jobOf 3 152
+
+-- what document 01 says of its own case
+pub record OwnCase : Type 0 where
+  -- the job is accepted
+  pub job : jobNo ownJob ≡ 0
+  -- the catalogue is accepted
+  pub cat : catNo ownCat ≡ 0
+  -- m of the section
+  pub section-m : mOf (decode ownJob) (servedOf (decode ownJob) 1) ≡ 1840741
+  -- m of the house
+  pub house-m : mOf (decode ownJob) (houseOf (decode ownJob)) ≡ 1840741
+  -- α of that m
+  pub own-α : alphaOf 1840741 ≡ 1367927
+  -- α just under the table's first key
+  pub under-α : alphaOf 14999 ≡ 200000
+  -- α at the first key
+  pub first-α : alphaOf 15000 ≡ 202000
+  -- α at the last key
+  pub last-α : alphaOf 400000000 ≡ 91900000
+  -- the flow of the section, ml/s
+  pub flow : sectionFlow (decode ownJob) 1 ≡ 2052
+  -- the hour of the house, l/h
+  pub hour : hourOf (decode ownJob) ≡ 4542
+  -- the day of the house, l
+  pub day : dayOf (decode ownJob) ≡ 17750
+  -- the mean hour
+  pub mean : meanOf (decode ownJob) ≡ 740
+  -- rating takes size 2
+  pub rated : rateNo ownJob ownCat (2 ∷ []) 15 ≡ 0
+  -- the velocity of size 2, mm/s
+  pub velocity : readingOf (decode ownJob) ownCat 2 1 .velocity ≡ 1026
+  -- the loss of size 2, cm
+  pub loss : lossAt (decode ownJob) ownCat 2 1 ≡ 71
+  -- the required head, cm
+  pub required : requiredOf (decode ownJob) (lossesOf (decode ownJob) ownCat (2 ∷ [])) ≡ pos 921
+  -- the pump head, cm
+  pub pump : pumpOf (decode ownJob) (lossesOf (decode ownJob) ownCat (2 ∷ [])) ≡ 421
+  -- the dictating section
+  pub dictating : dictatingOf (decode ownJob) (lossesOf (decode ownJob) ownCat (2 ∷ [])) ≡ 1
+  -- the velocity of size 1, over the limit of 1,500 mm/s
+  pub fast : readingOf (decode ownJob) ownCat 1 1 .velocity ≡ 1642
+  -- so rating gives 13
+  pub refused : rateNo ownJob ownCat (1 ∷ []) 15 ≡ 13
+  -- the job with H 921 is accepted
+  pub job-921 : jobNo job921 ≡ 0
+  -- size 2 suits it
+  pub suits-921 : Suitable (decode job921) ownCat (2 ∷ [])
+  -- at this cost
+  pub cost-921 : costOf (decode job921) ownCat (2 ∷ []) ≡ 130000
+  -- and no list that suits costs less
+  pub least-921 : (y : List ℕ) → Suitable (decode job921) ownCat y → 130000 ≤ costOf (decode job921) ownCat y
+  -- the job with H 920 is accepted
+  pub job-920 : jobNo job920 ≡ 0
+  -- and no list suits it
+  pub none-920 : (y : List ℕ) → Suitable (decode job920) ownCat y → ⊥
+  -- 5 bytes of result and 17,608 of workspace are enough for the own case, and one less of either is not
+  pub enough : chooseNo ownJob ownCat 5 17608 ≡ 0
+  pub room : chooseNo ownJob ownCat 4 17608 ≡ 14
+  pub workspace : chooseNo ownJob ownCat 5 17607 ≡ 15
+  -- so the choosing call gives the bytes of 130,000 and size 2 for H 921, and 16 for H 920
+  pub chosen-921 : (out₀ work₀ out work : List ℕ) (n : ℕ) → Ample job921 out₀ work₀ → Chosen job921 ownCat out₀ work₀ out work n →
+      (n ≡ 0) × (out ≡ stored out₀ 0 (0 ∷ 1 ∷ 251 ∷ 208 ∷ 2 ∷ []))
+  pub chosen-920 : (out₀ work₀ out work : List ℕ) (n : ℕ) → Ample job920 out₀ work₀ → Chosen job920 ownCat out₀ work₀ out work n → n ≡ 16

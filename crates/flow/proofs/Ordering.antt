@@ -1,0 +1,26 @@
+-- The number of the flow call, each check after those before it.
+-- Assumes nothing.
+use mathlib.Core.Path.{_≡_, _∙_}
+use mathlib.Core.List.{List, [], _∷_}
+use Prim.Native.Nat.{ℕ, _≤_, _<_}
+use Rattle.answer.specs.Checks.{tooShort}
+use Rattle.answer.proofs.First.{first-none, short-found, short-next}
+use Rattle.fields.specs.Fields.{countOf}
+use Rattle.record.specs.Record.{decode}
+use Rattle.acceptance.specs.Acceptance.{jobNo}
+use Rattle.acceptance.proofs.Accepting.{job-stops, job-passes}
+use Rattle.flow.specs.Calls.{flowLength, flowNo}
+
+module _ (b : List ℕ) (room : ℕ) where
+  pub flow-refused : (jobNo b ≡ 0 → ⊥) → flowNo b room ≡ jobNo b
+  unfolding flowNo
+  flow-refused n = job-stops b _ n
+
+  module _ (accepted : jobNo b ≡ 0) where
+    pub flow-short : room < flowLength (countOf (decode b)) → flowNo b room ≡ 14
+    unfolding flowNo
+    flow-short h = job-passes b _ accepted ∙ short-found room (flowLength (countOf (decode b))) [] h
+
+    pub flow-done : flowLength (countOf (decode b)) ≤ room → flowNo b room ≡ 0
+    unfolding flowNo
+    flow-done h = job-passes b _ accepted ∙ short-next room (flowLength (countOf (decode b))) [] h ∙ first-none

@@ -1,0 +1,3 @@
+pub mod LossBounds
+pub mod Trying
+pub mod Named
