@@ -18,7 +18,8 @@ pub fn accept(b: &[u8]) -> Reading
 
 // Any bytes give an accepted job beside an accepted catalogue, or a number from 1 to 11.
 pub fn accept_both(b: &[u8], cat: &[u8]) -> Reading
-    ensures { λ r. ⌜ (numberOf (r .answer) ≡ inputNo (now (b .entry)) (now (cat .entry))) × (r .job ≡ inputJob (now (b .entry)) (now (cat .entry))) ⌝ }
+    ensures number { λ r. ⌜ numberOf (r .answer) ≡ inputNo (now (b .entry)) (now (cat .entry)) ⌝ }
+    ensures job { λ r. ⌜ r .job ≡ inputJob (now (b .entry)) (now (cat .entry)) ⌝ }
 {
     let accepted = accept(b);
     let answer = accepted.answer;

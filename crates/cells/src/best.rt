@@ -39,7 +39,8 @@ fn offer_row(
     start: usize,
     end: usize,
 )
-    requires { ⌜ (loss ≤ start) × (end ≤ 7001) × (length (now best) ≡ 7001) × (4 * (row + (end - loss)) ≤ length (now ws)) × (cost ≤ 50000000) ⌝ }
+    requires { ⌜ (loss ≤ start) × (end ≤ 7001) × (length (now best) ≡ 7001) × (4 * (row + (end - loss)) ≤ length (now ws))
+        × (cost ≤ 50000000) ⌝ }
     requires { ⌜ ((h : ℕ) → start ≤ h → h < end → cellAt (now ws) (row + (h - loss)) ≤ mark) ⌝ }
     ensures { λ _. ⌜ Offered (now (best .entry)) (now (best .exit)) start end (λ h. cost + cellAt (now (ws .entry)) (row + (h - loss))) ⌝ }
 {
@@ -73,7 +74,8 @@ pub fn offer(
     start: usize,
     end: usize,
 )
-    requires { ⌜ (loss ≤ start) × (loss ≤ top) × (high ≤ top) × (end ≤ 7001) × (length (now best) ≡ 7001) × (4 * (row + high + 1) ≤ length (now ws)) × (cost ≤ 50000000) ⌝ }
+    requires { ⌜ (loss ≤ start) × (loss ≤ top) × (high ≤ top) × (end ≤ 7001) × (length (now best) ≡ 7001)
+        × (4 * (row + high + 1) ≤ length (now ws)) × (cost ≤ 50000000) ⌝ }
     requires { ⌜ ((h : ℕ) → start ≤ h → h < end → cellAt (now ws) (row + min (h - loss) high) ≤ mark) ⌝ }
     ensures { λ _. ⌜ Offered (now (best .entry)) (now (best .exit)) start end (λ h. cost + cellAt (now (ws .entry)) (row + min (h - loss) high)) ⌝ }
 {

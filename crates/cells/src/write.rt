@@ -14,7 +14,8 @@ ghost use Rattle.cells.specs.Contracts.{Filled, standing};
 pub fn add(ws: &mut [u8], best: &[u32; 7001], up: usize, start: usize, end: usize)
     requires { ⌜ (end ≤ 7001) × (4 * (up + end) ≤ length (now ws)) ⌝ }
     requires { ⌜ ((h : ℕ) → start ≤ h → h < end → cellAt (now ws) (up + h) ≤ mark) ⌝ }
-    ensures { λ _. ⌜ Filled (now (ws .entry)) (now (ws .exit)) up start end (λ h. min mark (cellAt (now (ws .entry)) (up + h) + getD (now (best .entry)) h 0)) ⌝ }
+    ensures { λ _. ⌜ Filled (now (ws .entry)) (now (ws .exit)) up start end
+        (λ h. min mark (cellAt (now (ws .entry)) (up + h) + getD (now (best .entry)) h 0)) ⌝ }
 {
     let mut h = start;
     while h < end {

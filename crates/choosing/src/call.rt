@@ -21,7 +21,8 @@ fn put_result(out: &mut [u8], cost: u32, sizes: [u8; 63], count: usize)
 
 // The least cost and a list of sizes that has it; or a number and the result buffer as it was. The workspace is touched only to search.
 pub fn choose(b: &[u8], cat: &[u8], work: &mut [u8], out: &mut [u8]) -> Answer
-    ensures { λ r. ⌜ Chosen (now (b .entry)) (now (cat .entry)) (now (out .entry)) (now (work .entry)) (now (out .exit)) (now (work .exit)) (numberOf r) ⌝ }
+    ensures { λ r. ⌜ Chosen (now (b .entry)) (now (cat .entry)) (now (out .entry)) (now (work .entry)) (now (out .exit)) (now (work .exit))
+        (numberOf r) ⌝ }
 {
     let accepted = acceptance::accept_both(b, cat);
     let answer = accepted.answer;

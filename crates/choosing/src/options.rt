@@ -33,8 +33,10 @@ fn put_row(
 )
     requires { ⌜ Listed (now cat) × (i < 64) × ((section .decimetres ≤ 5000) × (head .tenths ≤ 3)) ⌝ }
     requires { ⌜ (length (now losses) ≡ 832) × (length (now costs) ≡ 832) ⌝ }
-    ensures losses { λ _. ⌜ Entered (lossBy head section (now (cat .entry)) flow) i (sizesOf (now (cat .entry))) (now (losses .entry)) (now (losses .exit)) ⌝ }
-    ensures costs { λ _. ⌜ Entered (λ s. priceOf (now (cat .entry)) s * section .decimetres) i (sizesOf (now (cat .entry))) (now (costs .entry)) (now (costs .exit)) ⌝ }
+    ensures losses { λ _. ⌜ Entered (lossBy head section (now (cat .entry)) flow) i (sizesOf (now (cat .entry))) (now (losses .entry))
+        (now (losses .exit)) ⌝ }
+    ensures costs { λ _. ⌜ Entered (λ s. priceOf (now (cat .entry)) s * section .decimetres) i (sizesOf (now (cat .entry))) (now (costs .entry))
+        (now (costs .exit)) ⌝ }
 {
     let sizes = cat[5] as usize;
     let mut s: usize = 1;

@@ -39,7 +39,8 @@ fn wide32(x: u32) -> u64
 // divided. Everything is multiplied before it is divided.
 fn share(kind: usize, residents: u64, n: u64, house: u64) -> u64
     requires { ⌜ (1 ≤ kind) × (kind ≤ 12) × (residents < 65536) × (n ≤ house) × (house ≤ 4128705) ⌝ }
-    ensures { λ r. ⌜ (r ≡ cond (eqb house 0) 0 (up (25000 * normOf 0 kind .hour * residents * n) (9 * normOf 0 kind .tap * house))) × (r ≤ 16105635843750000) ⌝ }
+    ensures { λ r. ⌜ (r ≡ cond (eqb house 0) 0 (up (25000 * normOf 0 kind .hour * residents * n) (9 * normOf 0 kind .tap * house)))
+        × (r ≤ 16105635843750000) ⌝ }
 {
     if n == 0 {
         return 0;
@@ -51,7 +52,8 @@ fn share(kind: usize, residents: u64, n: u64, house: u64) -> u64
 // The sums of row i of the counts: section i's, or the house's where i is 0. An index into a job's own array would copy the whole job.
 pub fn sums_of(job: Job, counts: &[u32; 768], i: usize) -> Sums
     requires { ⌜ Rooted job × Counted job (now counts) × (i < 64) ⌝ }
-    ensures { λ r. ⌜ (r .m ≡ mOf job (servedOf job i)) × (r .taps ≡ tapSumOf job (servedOf job i)) × (r .fixtures ≡ fixturesOf (servedOf job i)) ⌝ }
+    ensures { λ r. ⌜ (r .m ≡ mOf job (servedOf job i)) × (r .taps ≡ tapSumOf job (servedOf job i))
+        × (r .fixtures ≡ fixturesOf (servedOf job i)) ⌝ }
 {
     let mut m: u64 = 0;
     let mut taps: u64 = 0;

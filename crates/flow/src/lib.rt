@@ -55,7 +55,8 @@ fn put_result(out: &mut [u8], job: Job)
 
 // The flow call: hour, day, mean hour and S flows at the front of the buffer, or a number and the buffer as it was.
 pub fn flow(b: &[u8], out: &mut [u8]) -> Answer
-    ensures { λ r. ⌜ (numberOf r ≡ flowNo (now (b .entry)) (length (now (out .entry)))) × (now (out .exit) ≡ bufferAfter (numberOf r) (flowBytes (decode (now (b .entry)))) (now (out .entry))) ⌝ }
+    ensures number { λ r. ⌜ numberOf r ≡ flowNo (now (b .entry)) (length (now (out .entry))) ⌝ }
+    ensures buffer { λ r. ⌜ now (out .exit) ≡ bufferAfter (numberOf r) (flowBytes (decode (now (b .entry)))) (now (out .entry)) ⌝ }
 {
     let accepted = accept(b);
     let answer = accepted.answer;

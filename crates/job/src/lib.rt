@@ -100,7 +100,8 @@ fn write_refusal(job: Job, room: usize) -> Answer
 
 // The record's bytes at the front of the buffer, or a number and the buffer as it was.
 pub fn write(job: Job, out: &mut [u8]) -> Answer
-    ensures { λ r. ⌜ (numberOf r ≡ writeNo job (length (now (out .entry)))) × (now (out .exit) ≡ bufferAfter (numberOf r) (encode job) (now (out .entry))) ⌝ }
+    ensures number { λ r. ⌜ numberOf r ≡ writeNo job (length (now (out .entry))) ⌝ }
+    ensures buffer { λ r. ⌜ now (out .exit) ≡ bufferAfter (numberOf r) (encode job) (now (out .entry)) ⌝ }
 {
     let answer = write_refusal(job, out.len());
     if answer::number(answer) != 0 {
@@ -112,7 +113,8 @@ pub fn write(job: Job, out: &mut [u8]) -> Answer
 
 // Reads a record and writes it again.
 pub fn copy(b: &[u8], out: &mut [u8]) -> Answer
-    ensures { λ r. ⌜ (numberOf r ≡ copyNo (now (b .entry)) (length (now (out .entry)))) × (now (out .exit) ≡ bufferAfter (numberOf r) (now (b .entry)) (now (out .entry))) ⌝ }
+    ensures number { λ r. ⌜ numberOf r ≡ copyNo (now (b .entry)) (length (now (out .entry))) ⌝ }
+    ensures buffer { λ r. ⌜ now (out .exit) ≡ bufferAfter (numberOf r) (now (b .entry)) (now (out .entry)) ⌝ }
 {
     let reading = read(b);
     let answer = reading.answer;

@@ -12,7 +12,8 @@ ghost use Rattle.choosing.specs.Calls.{Chosen};
 // Reads a record and writes it again: 1 to 7, 14, or the record's bytes.
 #[no_mangle]
 pub extern "C" fn order_copy(job: &[u8], out: &mut [u8]) -> u32
-    ensures { λ r. ⌜ (r ≡ copyNo (now (job .entry)) (length (now (out .entry)))) × (now (out .exit) ≡ bufferAfter r (now (job .entry)) (now (out .entry))) ⌝ }
+    ensures number { λ r. ⌜ r ≡ copyNo (now (job .entry)) (length (now (out .entry))) ⌝ }
+    ensures buffer { λ r. ⌜ now (out .exit) ≡ bufferAfter r (now (job .entry)) (now (out .entry)) ⌝ }
 {
     answer::number(job::copy(job, out))
 }
@@ -20,7 +21,8 @@ pub extern "C" fn order_copy(job: &[u8], out: &mut [u8]) -> u32
 // Hour, day, mean hour and S flows: 1 to 9, 14, or the flow result.
 #[no_mangle]
 pub extern "C" fn order_flow(job: &[u8], out: &mut [u8]) -> u32
-    ensures { λ r. ⌜ (r ≡ flowNo (now (job .entry)) (length (now (out .entry)))) × (now (out .exit) ≡ bufferAfter r (flowBytes (decode (now (job .entry)))) (now (out .entry))) ⌝ }
+    ensures number { λ r. ⌜ r ≡ flowNo (now (job .entry)) (length (now (out .entry))) ⌝ }
+    ensures buffer { λ r. ⌜ now (out .exit) ≡ bufferAfter r (flowBytes (decode (now (job .entry)))) (now (out .entry)) ⌝ }
 {
     answer::number(flow::flow(job, out))
 }
@@ -28,7 +30,9 @@ pub extern "C" fn order_flow(job: &[u8], out: &mut [u8]) -> u32
 // Heads, velocities and losses of a list of sizes: 1 to 14, or the rating result.
 #[no_mangle]
 pub extern "C" fn order_rate(job: &[u8], cat: &[u8], sizes: &[u8], out: &mut [u8]) -> u32
-    ensures { λ r. ⌜ (r ≡ rateNo (now (job .entry)) (now (cat .entry)) (now (sizes .entry)) (length (now (out .entry)))) × (now (out .exit) ≡ bufferAfter r (rateBytes (decode (now (job .entry))) (now (cat .entry)) (now (sizes .entry))) (now (out .entry))) ⌝ }
+    ensures number { λ r. ⌜ r ≡ rateNo (now (job .entry)) (now (cat .entry)) (now (sizes .entry)) (length (now (out .entry))) ⌝ }
+    ensures buffer { λ r. ⌜ now (out .exit) ≡ bufferAfter r (rateBytes (decode (now (job .entry))) (now (cat .entry)) (now (sizes .entry)))
+        (now (out .entry)) ⌝ }
 {
     answer::number(rating::rate(job, cat, sizes, out))
 }

@@ -14,7 +14,7 @@ use lib.Seq.{getD-set-same, getD-set-other}
 use Rattle.nets.specs.Net.{Net}
 use Rattle.pruning.specs.Keeps.{Keeps}
 use Rattle.nets.specs.Tables.{top, netOf, Sound}
-use Rattle.pruning.specs.Contracts.{Trimmed}
+use Rattle.pruning.specs.Contracts.{asGood, Trimmed}
 use Rattle.pruning.proofs.Keeping.{keeps-self, keeps-then, keeps-long, keeps-worse}
 
 -- needs and losses have no part in it
@@ -74,8 +74,7 @@ module _ (sections sizes : ℕ) (parents needs before costs : List ℕ) (a s : �
         (omega arith) (omega arith) b)
 
     pub trims-worse : 0 < last → (r : Bool) →
-        r ≡ (leb (getD losses (s * 13 + last) 0) (getD losses (s * 13 + (t + 1)) 0) && leb (getD costs (s * 13 + last) 0) (getD costs (s * 13 + (t + 1)) 0)) →
-        r ≡ true → Trims without least last (t + 1)
+        r ≡ asGood losses costs (s * 13 + last) (s * 13 + (t + 1)) → r ≡ true → Trims without least last (t + 1)
     trims-worse p r i j =
         let b = st .behind in
         let l : Bool = leb (getD losses (s * 13 + last) 0) (getD losses (s * 13 + (t + 1)) 0) in

@@ -1,12 +1,18 @@
 -- What the contracts of the pruning say.
 -- Assumes nothing.
 use mathlib.Core.Path.{_≡_}
+use mathlib.Core.Bool.{Bool, _&&_}
 use mathlib.Core.List.{List}
 use Prim.Native.Nat.{ℕ, _+_, _≤_, _<_}
+use lib.Dec.{leb}
 use lib.ListN.{length, getD}
 use Rattle.nets.specs.Net.{Net, Suits, requiredOf}
 use Rattle.nets.specs.Tables.{top, netOf}
 use Rattle.pruning.specs.Keeps.{Keeps}
+
+-- the entry at place k of the tables loses and costs no more than the one at place t
+abbrev pub asGood : List ℕ → List ℕ → ℕ → ℕ → Bool
+asGood losses costs k t = leb (getD losses k 0) (getD losses t 0) && leb (getD costs k 0) (getD costs t 0)
 
 -- no size of section s loses less than `least`, which leaves its end what it needs; it is `top` where no size is left
 pub record Trimmed (N : Net) (a s least : ℕ) : Type 0 where

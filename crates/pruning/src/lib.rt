@@ -32,7 +32,8 @@ pub fn prune(
 ) -> Smaller
     requires { ⌜ Sound (netOf sections sizes (now parents) asked table (now costs)) × (head ≤ 7000) ⌝ }
     ensures none { λ r. ⌜ (r .some ≡ false → None (netOf sections sizes (now (parents .entry)) asked table (now (costs .entry))) head) ⌝ }
-    ensures some { λ r. ⌜ (r .some ≡ true → Pruned sections sizes (now (parents .entry)) asked table (now (costs .entry)) head (r .needs) (r .losses)) ⌝ }
+    ensures some { λ r. ⌜ (r .some ≡ true → Pruned sections sizes (now (parents .entry)) asked table (now (costs .entry)) head (r .needs)
+        (r .losses)) ⌝ }
 {
     let mut needs = asked;
     let mut losses = table;

@@ -3,19 +3,16 @@ use nets::TOP;
 use numbers::lesser;
 use numbers::wide32;
 ghost use mathlib.Core.Path.{_≡_};
-ghost use mathlib.Core.Bool.{true, false, _&&_};
-ghost use lib.Dec.{leb};
-ghost use Prim.Native.Nat.{_+_, _*_, _≤_, _<_, min, max};
-ghost use lib.ListN.{length, getD};
+ghost use Prim.Native.Nat.{_≤_, _<_};
+ghost use lib.ListN.{length};
 ghost use Rattle.pruning.specs.Keeps.{Keeps};
 ghost use Rattle.nets.specs.Tables.{netOf, Sound};
-ghost use Rattle.pruning.specs.Contracts.{Trimmed, Pruned};
-ghost use Rattle.nets.specs.Net.{None};
+ghost use Rattle.pruning.specs.Contracts.{asGood, Trimmed};
 
 // Whether the entry at `kept` loses and costs no more than the one at `at`.
 fn as_good(losses: &[u32; 832], costs: &[u32; 832], kept: usize, at: usize) -> bool
     requires { ⌜ (kept < 832) × (at < 832) ⌝ }
-    ensures { λ r. ⌜ r ≡ (leb (getD (now (losses .entry)) kept 0) (getD (now (losses .entry)) at 0) && leb (getD (now (costs .entry)) kept 0) (getD (now (costs .entry)) at 0)) ⌝ }
+    ensures { λ r. ⌜ r ≡ asGood (now (losses .entry)) (now (costs .entry)) kept at ⌝ }
 {
     losses[kept] <= losses[at] && costs[kept] <= costs[at]
 }
@@ -31,8 +28,13 @@ pub fn trim(
     head: usize,
     s: usize,
 ) -> usize
-    requires { ⌜ Sound (netOf sections sizes (now parents) (now needs) (now losses) (now costs)) × (length (now losses) ≡ 832) × (0 < s) × (s ≤ sections) × (head ≤ 7000) ⌝ }
-    ensures { λ r. ⌜ (length (now (losses .exit)) ≡ 832) × Keeps head (netOf sections sizes (now (parents .entry)) (now (needs .entry)) (now (losses .entry)) (now (costs .entry))) (netOf sections sizes (now (parents .entry)) (now (needs .entry)) (now (losses .exit)) (now (costs .entry))) × Trimmed (netOf sections sizes (now (parents .entry)) (now (needs .entry)) (now (losses .exit)) (now (costs .entry))) head s r ⌝ }
+    requires { ⌜ Sound (netOf sections sizes (now parents) (now needs) (now losses) (now costs)) ⌝ }
+    requires { ⌜ (length (now losses) ≡ 832) × (0 < s) × (s ≤ sections) × (head ≤ 7000) ⌝ }
+    ensures long { λ _. ⌜ length (now (losses .exit)) ≡ 832 ⌝ }
+    ensures keeps { λ _. ⌜ Keeps head (netOf sections sizes (now (parents .entry)) (now (needs .entry)) (now (losses .entry)) (now (costs .entry)))
+        (netOf sections sizes (now (parents .entry)) (now (needs .entry)) (now (losses .exit)) (now (costs .entry))) ⌝ }
+    ensures trimmed { λ r. ⌜ Trimmed (netOf sections sizes (now (parents .entry)) (now (needs .entry)) (now (losses .exit)) (now (costs .entry)))
+        head s r ⌝ }
 {
     let at = s * 13;
     let need = wide32(needs[s]);

@@ -17,7 +17,8 @@ ghost use Rattle.rating.specs.Shape.{RatedJob, Blank};
 // What a rating comes to with a result buffer of so many bytes.
 pub fn outcome(b: &[u8], cat: &[u8], list: &[u8], room: usize) -> Outcome
     ensures number { λ r. ⌜ numberOf (r .answer) ≡ rateNo (now (b .entry)) (now (cat .entry)) (now (list .entry)) room ⌝ }
-    ensures rated { λ r. ⌜ (numberOf (r .answer) ≡ 0 → RatedJob (now (b .entry)) (now (cat .entry)) (now (list .entry)) room (r .job) (r .velocities) (r .losses)) ⌝ }
+    ensures rated { λ r. ⌜ (numberOf (r .answer) ≡ 0 → RatedJob (now (b .entry)) (now (cat .entry)) (now (list .entry)) room (r .job)
+        (r .velocities) (r .losses)) ⌝ }
     ensures refused { λ r. ⌜ ((numberOf (r .answer) ≡ 0 → ⊥) → Blank (r .job) (r .velocities) (r .losses)) ⌝ }
 {
     let accepted = accept_both(b, cat);
@@ -49,7 +50,9 @@ pub fn outcome(b: &[u8], cat: &[u8], list: &[u8], room: usize) -> Outcome
 
 // Required head, pump head, dictating section, then velocity and loss of each section; or a number and the buffer as it was.
 pub fn rate(b: &[u8], cat: &[u8], list: &[u8], out: &mut [u8]) -> Answer
-    ensures { λ r. ⌜ (numberOf r ≡ rateNo (now (b .entry)) (now (cat .entry)) (now (list .entry)) (length (now (out .entry)))) × (now (out .exit) ≡ bufferAfter (numberOf r) (rateBytes (decode (now (b .entry))) (now (cat .entry)) (now (list .entry))) (now (out .entry))) ⌝ }
+    ensures number { λ r. ⌜ numberOf r ≡ rateNo (now (b .entry)) (now (cat .entry)) (now (list .entry)) (length (now (out .entry))) ⌝ }
+    ensures buffer { λ r. ⌜ now (out .exit) ≡ bufferAfter (numberOf r)
+        (rateBytes (decode (now (b .entry))) (now (cat .entry)) (now (list .entry))) (now (out .entry)) ⌝ }
 {
     let found = outcome(b, cat, list, out.len());
     let answer = found.answer;

@@ -46,7 +46,8 @@ fn section_bytes(velocity: u32, loss: u32) -> [u8; 6]
 // Sections 1 to count, from byte 9 on.
 fn put_sections(out: &mut [u8], velocities: [u32; 64], losses: [u32; 64], count: usize)
     requires { ⌜ (count ≤ 63) × (rateLength count ≤ length (now out)) × ((i : ℕ) → 0 < i → i ≤ count → getD velocities i 0 ≤ 65535) ⌝ }
-    ensures { λ _. ⌜ now (out .exit) ≡ stored (now (out .entry)) 9 (concatTo count (λ i. bytesOf 2 (getD velocities i 0) ++ bytesOf 4 (getD losses i 0))) ⌝ }
+    ensures { λ _. ⌜ now (out .exit) ≡ stored (now (out .entry)) 9
+        (concatTo count (λ i. bytesOf 2 (getD velocities i 0) ++ bytesOf 4 (getD losses i 0))) ⌝ }
 {
     let mut i: usize = 1;
     while i <= count {
@@ -58,8 +59,10 @@ fn put_sections(out: &mut [u8], velocities: [u32; 64], losses: [u32; 64], count:
 
 // The whole result.
 pub fn put_result(out: &mut [u8], job: Job, velocities: [u32; 64], losses: [u32; 64])
-    requires { ⌜ Given job losses × (rateLength (countOf job) ≤ length (now out)) × ((i : ℕ) → 0 < i → i ≤ countOf job → getD velocities i 0 ≤ 65535) ⌝ }
-    ensures { λ _. ⌜ now (out .exit) ≡ stored (now (out .entry)) 0 (headsBytes job (λ i. getD losses i 0) ++ concatTo (countOf job) (λ i. bytesOf 2 (getD velocities i 0) ++ bytesOf 4 (getD losses i 0))) ⌝ }
+    requires { ⌜ Given job losses × (rateLength (countOf job) ≤ length (now out))
+        × ((i : ℕ) → 0 < i → i ≤ countOf job → getD velocities i 0 ≤ 65535) ⌝ }
+    ensures { λ _. ⌜ now (out .exit) ≡ stored (now (out .entry)) 0
+        (headsBytes job (λ i. getD losses i 0) ++ concatTo (countOf job) (λ i. bytesOf 2 (getD velocities i 0) ++ bytesOf 4 (getD losses i 0))) ⌝ }
 {
     let count = job.head.sections as usize;
     let x = head_bytes(heads::heads_of(job, losses));

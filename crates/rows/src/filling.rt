@@ -47,7 +47,8 @@ fn take_up(
     s: usize,
 )
     requires { ⌜ Fillable (netOf sections sizes (now parents) (now needs) (now losses) (now costs)) head (λ s. getD (now highs) s 0) (length (now ws)) ⌝ }
-    requires { ⌜ Filling (netOf sections sizes (now parents) (now needs) (now losses) (now costs)) head (λ s. getD (now highs) s 0) (now ws) (now begun) s ⌝ }
+    requires { ⌜ Filling (netOf sections sizes (now parents) (now needs) (now losses) (now costs)) head (λ s. getD (now highs) s 0) (now ws)
+        (now begun) s ⌝ }
     requires { ⌜ (0 < s) × (s ≤ sections) × (length (now best) ≡ 7001) ⌝ }
     ensures long { λ _. ⌜ (length (now (ws .exit)) ≡ length (now (ws .entry))) × (length (now (best .exit)) ≡ 7001) ⌝ }
     ensures filling { λ _. ⌜ Filling (netOf sections sizes (now (parents .entry)) (now (needs .entry)) (now (losses .entry)) (now (costs .entry)))

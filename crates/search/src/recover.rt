@@ -25,7 +25,8 @@ pub fn recover(
 ) -> [u8; 63]
     requires { ⌜ Fillable (netOf sections sizes (now parents) (now needs) (now losses) (now costs)) head (λ s. getD (now highs) s 0) (length (now ws)) ⌝ }
     requires { ⌜ Holds (netOf sections sizes (now parents) (now needs) (now losses) (now costs)) head (λ s. getD (now highs) s 0) (now ws) ⌝ }
-    requires { ⌜ cell (planOf (netOf sections sizes (now parents) (now needs) (now losses) (now costs)) (λ s. getD (now highs) s 0)) 0 0 (getD (now highs) 0 0) < mark ⌝ }
+    requires { ⌜ cell (planOf (netOf sections sizes (now parents) (now needs) (now losses) (now costs)) (λ s. getD (now highs) s 0)) 0 0
+        (getD (now highs) 0 0) < mark ⌝ }
     ensures { λ r. ⌜ Found (netOf sections sizes (now (parents .entry)) (now (needs .entry)) (now (losses .entry)) (now (costs .entry))) head
         (cell (planOf (netOf sections sizes (now (parents .entry)) (now (needs .entry)) (now (losses .entry)) (now (costs .entry))) (λ s. getD (now (highs .entry)) s 0)) 0 0 (getD (now (highs .entry)) 0 0))
         (take sections r) ⌝ }

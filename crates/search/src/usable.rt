@@ -15,7 +15,8 @@ ghost use Rattle.plan.specs.Plan.{Usable};
 fn longest(losses: &[u32; 832], at: usize, n: usize) -> usize
     requires { ⌜ at + n < 832 ⌝ }
     ensures top { λ r. ⌜ r ≤ top ⌝ }
-    ensures most { λ r. ⌜ ((t : ℕ) → t < n + 1 → 0 < t → getD (now (losses .entry)) (at + t) 0 < top → getD (now (losses .entry)) (at + t) 0 ≤ r) ⌝ }
+    ensures most { λ r. ⌜ ((t : ℕ) → t < n + 1 → 0 < t → getD (now (losses .entry)) (at + t) 0 < top → getD (now (losses .entry))
+        (at + t) 0 ≤ r) ⌝ }
 {
     let mut most: usize = 0;
     let mut t: usize = 0;

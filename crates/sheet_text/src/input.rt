@@ -51,7 +51,8 @@ fn put_text(b: &[u8], cat: &[u8], list: &[u8], out: &mut [u8]) -> usize
 // The sheet of job, catalogue and size list, one after another.
 fn put_parts(read: &[u8], out: &mut [u8]) -> usize
     requires { ⌜ 4096 ≤ length (now out) ⌝ }
-    ensures { λ r. ⌜ Wrote 4096 (now (out .entry)) (now (out .exit)) 0 r (textOf (recordOf (now (read .entry))) (recordOf (afterRecord (now (read .entry)))) (afterRecord (afterRecord (now (read .entry))))) ⌝ }
+    ensures { λ r. ⌜ Wrote 4096 (now (out .entry)) (now (out .exit)) 0 r
+        (textOf (recordOf (now (read .entry))) (recordOf (afterRecord (now (read .entry)))) (afterRecord (afterRecord (now (read .entry))))) ⌝ }
 {
     let first = record_end(read);
     let rest = &read[first..];
@@ -61,7 +62,8 @@ fn put_parts(read: &[u8], out: &mut [u8]) -> usize
 
 // The sheet of the first 65,536 bytes of the input, at the front of the buffer, and its length. A buffer of under 4,096 bytes gets nothing.
 pub fn sheet(input: &[u8], out: &mut [u8]) -> usize
-    ensures { λ r. ⌜ (r ≡ length (writtenText (length (now (out .entry))) (now (input .entry)))) × (now (out .exit) ≡ stored (now (out .entry)) 0 (writtenText (length (now (out .entry))) (now (input .entry)))) ⌝ }
+    ensures length { λ r. ⌜ r ≡ length (writtenText (length (now (out .entry))) (now (input .entry))) ⌝ }
+    ensures buffer { λ r. ⌜ now (out .exit) ≡ stored (now (out .entry)) 0 (writtenText (length (now (out .entry))) (now (input .entry))) ⌝ }
 {
     if out.len() < 4096 {
         return 0;

@@ -26,7 +26,8 @@ pub fn put_house(out: &mut [u8], at: usize, hour: u32, day: u32, mean: u32) -> u
 // Number, flow, velocity and loss of a section.
 pub fn put_section(out: &mut [u8], at: usize, i: u32, flow: u32, velocity: u32, loss: u32) -> usize
     requires { ⌜ at + 52 ≤ length (now out) ⌝ }
-    ensures { λ r. ⌜ Wrote 52 (now (out .entry)) (now (out .exit)) at r (sectionWord ++ spaced (decimal i ∷ decimal flow ∷ decimal velocity ∷ decimal loss ∷ [])) ⌝ }
+    ensures { λ r. ⌜ Wrote 52 (now (out .entry)) (now (out .exit)) at r
+        (sectionWord ++ spaced (decimal i ∷ decimal flow ∷ decimal velocity ∷ decimal loss ∷ [])) ⌝ }
 {
     let at = put_word(out, at, b"section");
     let at = put_figure(out, at, i);
@@ -39,7 +40,8 @@ pub fn put_section(out: &mut [u8], at: usize, i: u32, flow: u32, velocity: u32, 
 // Required head, pump head and dictating section.
 pub fn put_head(out: &mut [u8], at: usize, h: Heads) -> usize
     requires { ⌜ (at + 39 ≤ length (now out)) × (h .dictating ≤ 63) ⌝ }
-    ensures { λ r. ⌜ Wrote 39 (now (out .entry)) (now (out .exit)) at r (headWord ++ spaced (signedDecimal (h .required) ∷ decimal (h .pump) ∷ decimal (h .dictating) ∷ [])) ⌝ }
+    ensures { λ r. ⌜ Wrote 39 (now (out .entry)) (now (out .exit)) at r
+        (headWord ++ spaced (signedDecimal (h .required) ∷ decimal (h .pump) ∷ decimal (h .dictating) ∷ [])) ⌝ }
 {
     let at = put_word(out, at, b"head");
     let at = put_signed(out, at, h.required);

@@ -39,7 +39,7 @@ trim-requires c κs =
     let g = c .before .before .before in
     let b = g .before in
     let a = b .args in
-    (sound-like (a .sections) (a .sizes) (a .parents .now) (a .asked) (g .loop .needs) (a .table) (g .loop .losses) (a .costs .now) (b .pre .0), g .loop .inv .1 .losses-long, omega arith, g .loop .inv .0, b .pre .1)
+    (sound-like (a .sections) (a .sizes) (a .parents .now) (a .asked) (g .loop .needs) (a .table) (g .loop .losses) (a .costs .now) (b .pre .0), (g .loop .inv .1 .losses-long, omega arith, g .loop .inv .0, b .pre .1))
 
 returns : tie.Need-returns Inv-loop μ-loop
 returns c =
@@ -47,7 +47,7 @@ returns c =
     let g = k .before .before .before .before in
     let b = g .before in
     let a = b .args in
-    ((λ e. none-pump (a .sections) (a .sizes) (a .parents .now) (a .asked) (a .table) (a .costs .now) (a .head) (b .pre .0) (needs-long b) (pruned-stop (a .sections) (a .sizes) (a .parents .now) (set (a .asked) 0 0) (a .table) (a .costs .now) (a .head) (sound b) (g .loop .needs) (g .loop .losses) (k .trim .last .1 .1 .0) (g .loop .s) (k .trim .result) (omega arith) (g .loop .inv .0) (g .loop .inv .1) (k .trim .ensures .1) (k .trim .ensures .2) (c .if1 .taken))), λ e. absurd (apart e refl))
+    ((λ e. none-pump (a .sections) (a .sizes) (a .parents .now) (a .asked) (a .table) (a .costs .now) (a .head) (b .pre .0) (needs-long b) (pruned-stop (a .sections) (a .sizes) (a .parents .now) (set (a .asked) 0 0) (a .table) (a .costs .now) (a .head) (sound b) (g .loop .needs) (g .loop .losses) (k .trim .last .1 .1 .0) (g .loop .s) (k .trim .result) (omega arith) (g .loop .inv .0) (g .loop .inv .1) (k .trim .ensures .1 .0) (k .trim .ensures .1 .1) (c .if1 .taken))), λ e. absurd (apart e refl))
 
 -- the parent's number is less
 parent-low : (c : tie.After-wide8 Inv-loop μ-loop) → c .wide8 .result < c .before .before .before .before .before .before .before .loop .s
@@ -60,7 +60,7 @@ array-read-wide32 c = omega (arith, parent-low c)
 
 cast-needs : tie.Need-cast-needs Inv-loop μ-loop
 cast-needs c =
-    let k = c .before .before .before .before .before .before in omega (arith, k .trim .ensures .2 .fits (omega (arith, k .trim .ensures .2 .most)))
+    let k = c .before .before .before .before .before .before in omega (arith, k .trim .ensures .1 .1 .fits (omega (arith, k .trim .ensures .1 .1 .most)))
 
 array-write-needs-2 : tie.Need-array-write-needs-2 Inv-loop μ-loop
 array-write-needs-2 c = omega (arith, parent-low (c .before .before .before))
@@ -74,7 +74,7 @@ loop-again c =
     let g = k .before .before .before .before in
     let b = g .before in
     let a = b .args in
-    (omega arith, pruned-more (a .sections) (a .sizes) (a .parents .now) (set (a .asked) 0 0) (a .table) (a .costs .now) (a .head) (sound b) (g .loop .needs) (g .loop .losses) (k .trim .last .1 .1 .0) (g .loop .s) (k .trim .result) (omega arith) (g .loop .inv .0) (g .loop .inv .1) (k .trim .ensures .1) (k .trim .ensures .2) (c .before .before .before .wide8 .result) (c .greater .result) (k .trim .ensures .0) (c .before .before .before .before .before .if1 .left) (c .before .before .before .wide8 .ensures .0) (omega arith))
+    (omega arith, pruned-more (a .sections) (a .sizes) (a .parents .now) (set (a .asked) 0 0) (a .table) (a .costs .now) (a .head) (sound b) (g .loop .needs) (g .loop .losses) (k .trim .last .1 .1 .0) (g .loop .s) (k .trim .result) (omega arith) (g .loop .inv .0) (g .loop .inv .1) (k .trim .ensures .1 .0) (k .trim .ensures .1 .1) (c .before .before .before .wide8 .result) (c .greater .result) (k .trim .ensures .0) (c .before .before .before .before .before .if1 .left) (c .before .before .before .wide8 .ensures .0) (omega arith))
 
 returns-2 : tie.Need-returns-2 Inv-loop μ-loop
 returns-2 c =

@@ -16,14 +16,14 @@ abbrev μ-loop : tie.MeasureT-loop
 μ-loop parents needs losses₀ costs sections sizes head s at need least₀ last₀ t₀ losses least last t = sizes - t
 
 loop-holds : tie.Need-loop-holds Inv-loop μ-loop
-loop-holds c = let a = c .before .before .args in (omega arith, trims-none (a .sections) (a .sizes) (a .parents .now) (a .needs .now) (a .losses .now) (a .costs .now) (a .head) (a .s) (c .before .before .pre .1))
+loop-holds c = let a = c .before .before .args in (omega arith, trims-none (a .sections) (a .sizes) (a .parents .now) (a .needs .now) (a .losses .now) (a .costs .now) (a .head) (a .s) (c .before .before .pre .1 .0))
 
 loop-again : tie.Need-loop-again Inv-loop μ-loop
 loop-again c =
     let g = c .before .before .before .before in
     let b = g .before .before .before in
     let a = b .args in
-    (omega arith, trims-long (a .sections) (a .sizes) (a .parents .now) (a .needs .now) (a .losses .now) (a .costs .now) (a .head) (a .s) (b .pre .0) (b .pre .2) (b .pre .3) (g .loop .losses) (g .loop .least) (g .loop .last) (g .loop .t) (omega arith) (g .loop .inv .1) (omega arith))
+    (omega arith, trims-long (a .sections) (a .sizes) (a .parents .now) (a .needs .now) (a .losses .now) (a .costs .now) (a .head) (a .s) (b .pre .0) (b .pre .1 .1) (b .pre .1 .2) (g .loop .losses) (g .loop .least) (g .loop .last) (g .loop .t) (omega arith) (g .loop .inv .1) (omega arith))
 
 add-as-good : tie.Need-add-as-good Inv-loop μ-loop
 add-as-good c = omega (arith, c .before .before .before .before .before .before .loop .inv .1 .behind)
@@ -36,21 +36,21 @@ loop-again-2 c =
     let g = c .before .before .before .before .before .before .before .before in
     let b = g .before .before .before in
     let a = b .args in
-    (omega arith, trims-worse (a .sections) (a .sizes) (a .parents .now) (a .needs .now) (a .losses .now) (a .costs .now) (a .head) (a .s) (b .pre .0) (b .pre .2) (b .pre .3) (g .loop .losses) (g .loop .least) (g .loop .last) (g .loop .t) (omega arith) (g .loop .inv .1) (omega arith) (c .before .as-good .result) (c .before .as-good .ensures) (c .if3 .taken))
+    (omega arith, trims-worse (a .sections) (a .sizes) (a .parents .now) (a .needs .now) (a .losses .now) (a .costs .now) (a .head) (a .s) (b .pre .0) (b .pre .1 .1) (b .pre .1 .2) (g .loop .losses) (g .loop .least) (g .loop .last) (g .loop .t) (omega arith) (g .loop .inv .1) (omega arith) (c .before .as-good .result) (c .before .as-good .ensures) (c .if3 .taken))
 
 loop-again-3 : tie.Need-loop-again-3 Inv-loop μ-loop
 loop-again-3 c =
     let g = c .before .before .before .before .before .before in
     let b = g .before .before .before in
     let a = b .args in
-    (omega arith, trims-kept (a .sections) (a .sizes) (a .parents .now) (a .needs .now) (a .losses .now) (a .costs .now) (a .head) (a .s) (b .pre .0) (b .pre .2) (b .pre .3) (g .loop .losses) (g .loop .least) (g .loop .last) (g .loop .t) (omega arith) (g .loop .inv .1) (c .before .before .before .wide322 .result) (c .lesser .result) (c .before .before .before .wide322 .ensures .0) (omega arith) (omega arith) (c .lesser .ensures))
+    (omega arith, trims-kept (a .sections) (a .sizes) (a .parents .now) (a .needs .now) (a .losses .now) (a .costs .now) (a .head) (a .s) (b .pre .0) (b .pre .1 .1) (b .pre .1 .2) (g .loop .losses) (g .loop .least) (g .loop .last) (g .loop .t) (omega arith) (g .loop .inv .1) (c .before .before .before .wide322 .result) (c .lesser .result) (c .before .before .before .wide322 .ensures .0) (omega arith) (omega arith) (c .lesser .ensures))
 
 returns : tie.Need-returns Inv-loop μ-loop
 returns c =
     let g = c .before in
     let b = g .before .before .before in
     let a = b .args in
-    (g .loop .inv .1 .long, g .loop .inv .1 .keeps, trims-end (a .sections) (a .sizes) (a .parents .now) (a .needs .now) (a .losses .now) (a .costs .now) (a .head) (a .s) (g .loop .losses) (g .loop .least) (g .loop .last) (g .loop .t) (omega arith) (g .loop .inv .1))
+    (g .loop .inv .1 .long, (g .loop .inv .1 .keeps, trims-end (a .sections) (a .sizes) (a .parents .now) (a .needs .now) (a .losses .now) (a .costs .now) (a .head) (a .s) (g .loop .losses) (g .loop .least) (g .loop .last) (g .loop .t) (omega arith) (g .loop .inv .1)))
 
 pub trim-spec : {M : Type 1} → statement M
 trim-spec =
