@@ -51,7 +51,7 @@ fn put_row(
     ensures losses { λ _. ⌜ Entered (lossEntry job (now (cat .entry)) i) i (sizesOf (now (cat .entry))) (now (losses .entry)) (now (losses .exit)) ⌝ }
     ensures costs { λ _. ⌜ Entered (λ s. priceAt job (now (cat .entry)) s i) i (sizesOf (now (cat .entry))) (now (costs .entry)) (now (costs .exit)) ⌝ }
 {
-    let sizes = cat[5] as usize;
+    let sizes = catalogue::sizes_of(cat) as usize;
     let mut s: usize = 1;
     while s <= sizes {
         let p = price_of(job, cat, i, flow, s);

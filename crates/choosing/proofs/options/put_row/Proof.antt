@@ -25,8 +25,8 @@ abbrev μ-loop : tie.MeasureT-loop
 few : (c : tie.Start Inv-loop μ-loop) → (c .args .i < 64) × (sizesOf (c .args .cat .now) ≤ 12)
 few c = (omega (arith, ruled-count (c .pre .0 .0 .ruled) .high), listed-counts (c .pre .0 .1) .0 .high)
 
-shared-slice-read-sizes : tie.Need-shared-slice-read-sizes Inv-loop μ-loop
-shared-slice-read-sizes c = omega (arith, shape-in _ (c .before .before .pre .0 .1 .shape) .long)
+sizes-of-requires : tie.Need-sizes-of-requires Inv-loop μ-loop
+sizes-of-requires c κs = omega (arith, shape-in _ (c .before .pre .0 .1 .shape) .long)
 
 loop-holds : tie.Need-loop-holds Inv-loop μ-loop
 loop-holds c = let e = c .before .before .pre .1 in (omega arith, omega arith, entered-start _ _ _ (e .0), entered-start _ _ _ (e .1))
@@ -60,6 +60,6 @@ returns c =
 pub put-row-spec : {M : Type 1} → statement M
 put-row-spec =
     tie.close
-    (tie.spec Inv-loop μ-loop shared-slice-read-sizes (λ c. omega (arith, few (c .before .before) .1)) loop-holds price-of-requires (λ c. omega (arith, within c))
+    (tie.spec Inv-loop μ-loop sizes-of-requires (λ c. omega (arith, few (c .before .before) .1)) loop-holds price-of-requires (λ c. omega (arith, within c))
     (λ c. omega (arith, within c)) (λ c. omega (arith, within c)) within (λ c. omega (arith, within c)) (λ c. omega (arith, within c))
     (λ c. omega (arith, within c)) within (λ c. omega (arith, within c)) (λ c. omega arith) loop-again returns)
