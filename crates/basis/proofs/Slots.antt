@@ -59,6 +59,13 @@ module _ {A : Type 0} where
     unfolding slots
     slots-high i d a b h = tabulate-at size _ i d h ∙ rw (le-leb lo i a, le-ltb i hi b)
 
+    pub slots-out : (i : ℕ) (d : A) → i < size → (lo ≤ i → i < hi → ⊥) → getD (slots size lo hi blank f) i d ≡ blank
+    slots-out i d h n =
+        ⊎-elim
+        (λ low. slots-low i d low h)
+        (λ a. slots-high i d a (⊎-elim (λ lt. absurd (n a lt)) (λ ge. ge) (lt-or-ge i hi)) h)
+        (lt-or-ge i lo)
+
     -- a list with these three rules is it
     pub slotted : (l : List A) (d : A) → length l ≡ size → ((i : ℕ) → lo ≤ i → i < hi → i < size → getD l i d ≡ f i) →
         ((i : ℕ) → i < size → (lo ≤ i → i < hi → ⊥) → getD l i d ≡ blank) → l ≡ slots size lo hi blank f
@@ -89,10 +96,7 @@ module _ {A : Type 0} where
       (λ n. getD-set-other old hi i (f hi) blank n ∙ slots-in size lo hi blank f i blank b (omega arith) k)
       (eq-or-ne i hi))
       (λ i k n. getD-set-other old hi i (f hi) blank (λ e. n (omega arith) (omega arith)) ∙
-      ⊎-elim
-      (λ low. slots-low size lo hi blank f i blank low k)
-      (λ b. slots-high size lo hi blank f i blank b (⊎-elim (λ lt. absurd (n b (omega arith))) (λ ge. ge) (lt-or-ge i hi)) k)
-      (lt-or-ge i lo))
+      slots-out size lo hi blank f i blank k (λ b c. n b (omega arith)))
 
   pub slots-full : (n : ℕ) (blank : A) (f : ℕ → A) → slots n 0 n blank f ≡ tabulate n f
   slots-full n blank f =
@@ -103,7 +107,17 @@ module _ {A : Type 0} where
   slots-ext size lo hi blank f g e =
       slotted size lo hi blank g (slots size lo hi blank f) blank (slots-length size lo hi blank f)
       (λ i a b h. slots-in size lo hi blank f i blank a b h ∙ e i a b h)
-      (λ i h n. ⊎-elim
-      (λ low. slots-low size lo hi blank f i blank low h)
-      (λ a. slots-high size lo hi blank f i blank a (⊎-elim (λ lt. absurd (n a lt)) (λ ge. ge) (lt-or-ge i hi)) h)
-      (lt-or-ge i lo))
+      (λ i h n. slots-out size lo hi blank f i blank h n)
+
+  -- where g agrees with f but at one place, its list is f's with that place set
+  pub slots-set : (size lo hi : ℕ) (blank : A) (f g : ℕ → A) (i : ℕ) → lo ≤ i → i < hi → i < size →
+      ((j : ℕ) → lo ≤ j → j < hi → (j ≡ i → ⊥) → g j ≡ f j) → slots size lo hi blank g ≡ set (slots size lo hi blank f) i (g i)
+  slots-set size lo hi blank f g i a b h same =
+      let old : List A = slots size lo hi blank f in
+      let w : i < length old = rw (slots-length size lo hi blank f) h in
+      sym (slotted size lo hi blank g (set old i (g i)) blank (length-set old i (g i) ∙ slots-length size lo hi blank f)
+      (λ j c d k. ⊎-elim
+      (λ e. rw e (getD-set-same old i (g i) blank w))
+      (λ n. getD-set-other old i j (g i) blank n ∙ slots-in size lo hi blank f j blank c d k ∙ sym (same j c d n))
+      (eq-or-ne j i))
+      (λ j k n. getD-set-other old i j (g i) blank (λ e. n (omega arith) (omega arith)) ∙ slots-out size lo hi blank f j blank k n))

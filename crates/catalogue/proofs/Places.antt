@@ -24,11 +24,11 @@ module _ {cat : List ℕ} {s : ℕ} (z : Sized cat s) where
   sized-before h = record { low = omega arith; high = omega (arith, z .high); rows = z .rows; fits = omega (arith, sized-room) }
 
   -- the part as the code hands it on, from 4 bytes after where the size begins
-  pub part-handed : (a : ℕ) → a ≡ sizeFrom cat s → part cat (a + 4) (a + 4 + 8 * rowsOf cat - (a + 4)) ≡ partOf cat s
+  pub part-handed : (a n : ℕ) → a ≡ sizeFrom cat s → n ≡ rowsOf cat → part cat (a + 4) (a + 4 + 8 * n - (a + 4)) ≡ partOf cat s
   unfolding partOf
-  part-handed a e =
-      let w : a + 4 + 8 * rowsOf cat - (a + 4) ≡ 8 * rowsOf cat = omega arith in
-      rw (w, e)
+  part-handed a n e r =
+      let w : a + 4 + 8 * n - (a + 4) ≡ 8 * n = omega arith in
+      rw (w, e, r)
 
   pub part-long : length (partOf cat s) ≡ 8 * rowsOf cat
   unfolding partOf

@@ -47,15 +47,20 @@ module _ (cat : List ℕ) where
 
   -- the last test, where those before it have passed
   pub shape-last :
+      (sizes rows : ℕ) →
+      sizes ≡ sizesOf cat →
+      rows ≡ rowsOf cat →
       7 ≤ length cat →
       byteAt cat 4 ≡ 1 →
       Within 1 12 (sizesOf cat) →
       Within 2 64 (rowsOf cat) →
       beAt 4 cat 0 ≡ length cat →
-      shapeOk cat ≡ eqb (length cat) (7 + sizesOf cat * sizeLength (rowsOf cat))
+      shapeOk cat ≡ eqb (length cat) (7 + sizes * sizeLength rows)
   unfolding shapeOk
-  shape-last l v s r t =
+  shape-last sizes rows e f l v s r t =
       rw (
+        e,
+        f,
         le-leb 7 (length cat) l,
         eq-eqb (byteAt cat 4) 1 v,
         in-within 1 12 (sizesOf cat) s,

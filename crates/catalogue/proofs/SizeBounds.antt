@@ -51,10 +51,12 @@ module _ (cat : List ℕ) (s : ℕ) where
 
   -- the last test, where those before it have passed
   pub size-last :
+      (n : ℕ) →
+      n ≡ rowsOf cat →
       0 < s →
       1 ≤ boreOf cat s →
       Over cat s →
       Within 1 10000 (priceOf cat s) →
-      sizeOk cat s ≡ rowsOk (partOf cat s) (rowsOf cat)
+      sizeOk cat s ≡ rowsOk (partOf cat s) n
   unfolding sizeOk
-  size-last h b o p = rw (le-leb 1 (boreOf cat s) b, in-over h o, in-within 1 10000 (priceOf cat s) p)
+  size-last n e h b o p = rw (e, le-leb 1 (boreOf cat s) b, in-over h o, in-within 1 10000 (priceOf cat s) p)

@@ -4,7 +4,9 @@ use crate::layout::price;
 use crate::layout::row_flow;
 use crate::layout::row_slope;
 use crate::layout::row_velocity;
+use crate::layout::rows_of;
 use crate::layout::size_from;
+use crate::layout::sizes_of;
 use answer::Answer;
 ghost use mathlib.Core.Path.{_≡_};
 ghost use Prim.Native.Nat.{_+_, _*_, _≤_, _<_};
@@ -29,8 +31,8 @@ fn shape_ok(cat: &[u8]) -> bool
         return false;
     }
     let version = cat[4];
-    let sizes = cat[5];
-    let rows = cat[6];
+    let sizes = sizes_of(cat);
+    let rows = rows_of(cat);
     match version {
         1 => {}
         _ => return false,
@@ -118,7 +120,7 @@ fn size_ok(cat: &[u8], s: usize) -> bool
         1..=10000 => {}
         _ => return false,
     }
-    let n = cat[6] as usize;
+    let n = rows_of(cat) as usize;
     let a = size_from(cat, s) + 4;
     let e = a + 8 * n;
     rows_ok(&cat[a..e], n)
@@ -129,7 +131,7 @@ fn sizes_ok(cat: &[u8]) -> bool
     requires { ⌜ shapeOk (now cat) ≡ true ⌝ }
     ensures { λ r. ⌜ r ≡ sizesOk (now (cat .entry)) ⌝ }
 {
-    let count = cat[5] as usize;
+    let count = sizes_of(cat) as usize;
     let mut s: usize = 1;
     while s <= count {
         if !size_ok(cat, s) {

@@ -2,7 +2,7 @@
 ghost use mathlib.Core.Path.{_≡_};
 ghost use Prim.Native.Nat.{_+_, _*_, _≤_, _<_};
 ghost use lib.ListN.{length};
-ghost use Rattle.catalogue.specs.Layout.{sizeFrom, boreOf, priceOf, flowAt, velocityAt, slopeAt};
+ghost use Rattle.catalogue.specs.Layout.{sizesOf, rowsOf, sizeFrom, boreOf, priceOf, flowAt, velocityAt, slopeAt};
 ghost use Rattle.catalogue.specs.Shape.{Sized};
 
 fn wide(x: u8) -> usize
@@ -11,12 +11,27 @@ fn wide(x: u8) -> usize
     x as usize
 }
 
+// The number of sizes, and of rows of each size.
+pub fn sizes_of(cat: &[u8]) -> u8
+    requires { ⌜ 7 ≤ length (now cat) ⌝ }
+    ensures { λ r. ⌜ r ≡ sizesOf (now (cat .entry)) ⌝ }
+{
+    cat[5]
+}
+
+pub fn rows_of(cat: &[u8]) -> u8
+    requires { ⌜ 7 ≤ length (now cat) ⌝ }
+    ensures { λ r. ⌜ r ≡ rowsOf (now (cat .entry)) ⌝ }
+{
+    cat[6]
+}
+
 // Where size s begins, from 1.
 pub fn size_from(cat: &[u8], s: usize) -> usize
     requires { ⌜ Sized (now cat) s ⌝ }
     ensures { λ r. ⌜ r ≡ sizeFrom (now (cat .entry)) s ⌝ }
 {
-    7 + (s - 1) * (4 + 8 * wide(cat[6]))
+    7 + (s - 1) * (4 + 8 * wide(rows_of(cat)))
 }
 
 // The bore of size s in mm.

@@ -6,5 +6,6 @@ mod reading;
 pub use accept::catalogue_refusal;
 pub use layout::bore;
 pub use layout::price;
+pub use layout::sizes_of;
 pub use reading::Reading;
 pub use reading::read_size;

@@ -2,6 +2,7 @@
 use crate::layout::row_flow;
 use crate::layout::row_slope;
 use crate::layout::row_velocity;
+use crate::layout::rows_of;
 use crate::layout::size_from;
 ghost use mathlib.Core.Path.{_≡_};
 ghost use Prim.Native.Nat.{_+_, _-_, _*_, _≤_, _<_};
@@ -83,7 +84,7 @@ pub fn read_size(cat: &[u8], s: usize, q: u32) -> Reading
     requires { ⌜ Listed (now cat) × (0 < s) × (s ≤ sizesOf (now cat)) ⌝ }
     ensures { λ r. ⌜ r ≡ readRows (partOf (now (cat .entry)) s) (rowsOf (now (cat .entry))) q ⌝ }
 {
-    let n = cat[6] as usize;
+    let n = rows_of(cat) as usize;
     let a = size_from(cat, s) + 4;
     let e = a + 8 * n;
     read_rows(&cat[a..e], n, q)

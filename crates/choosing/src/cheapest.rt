@@ -22,7 +22,7 @@ pub fn cheapest(job: Job, cat: &[u8], work: &mut [u8]) -> Choice
     ensures found { λ r. ⌜ (r .found ≡ true → Least job (now (cat .entry)) (r .cost) (take (countOf job) (r .sizes))) ⌝ }
 {
     let count = job.head.sections as usize;
-    let sizes = cat[5] as usize;
+    let sizes = catalogue::sizes_of(cat) as usize;
     let delivered = job.head.delivered as usize;
     let meter = job.head.meter as usize;
     let ends = ends_of(job);

@@ -38,7 +38,7 @@ fn put_row(
     ensures costs { λ _. ⌜ Entered (λ s. priceOf (now (cat .entry)) s * section .decimetres) i (sizesOf (now (cat .entry))) (now (costs .entry))
         (now (costs .exit)) ⌝ }
 {
-    let sizes = cat[5] as usize;
+    let sizes = catalogue::sizes_of(cat) as usize;
     let mut s: usize = 1;
     while s <= sizes {
         let t = sizing::try_size(cat, s, flow, head.limit, section.decimetres, head.tenths);

@@ -58,11 +58,10 @@ fn shape_refusal(b: &[u8]) -> Answer
         return Answer::Version;
     }
     let head = record::head_of(b);
-    let count = head.sections as usize;
     if !rules::head_ok(head) {
         return Answer::Range;
     }
-    if b.len() != 40 + 10 * count {
+    if b.len() != record::length_of(head.sections) {
         return Answer::Count;
     }
     Answer::Done
@@ -91,8 +90,7 @@ fn write_refusal(job: Job, room: usize) -> Answer
     if answer::number(answer) != 0 {
         return answer;
     }
-    let count = job.head.sections as usize;
-    if room < 40 + 10 * count {
+    if room < record::length_of(job.head.sections) {
         return Answer::Room;
     }
     Answer::Done

@@ -27,7 +27,7 @@ pub fn list_ok(job: Job, cat: &[u8], list: &[u8]) -> bool
     ensures { λ r. ⌜ r ≡ listOk job (now (cat .entry)) (now (list .entry)) ⌝ }
 {
     let count = job.head.sections as usize;
-    let sizes = cat[5];
+    let sizes = catalogue::sizes_of(cat);
     if list.len() != count {
         return false;
     }

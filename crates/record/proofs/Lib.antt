@@ -1,2 +1,3 @@
 pub mod Lengths
 pub mod RoundTrip
+pub mod Edited

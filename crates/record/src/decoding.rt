@@ -1,4 +1,5 @@
 // The fields of a record, whatever they hold.
+use crate::layout::place_of;
 use fields::Head;
 use fields::Job;
 use fields::Section;
@@ -64,7 +65,7 @@ fn sections_of(b: &[u8], count: usize) -> [Section; 64]
     let mut sections = [blank; 64];
     let mut i: usize = 1;
     while i <= count {
-        sections[i] = section_from(b, 40 + 10 * (i - 1));
+        sections[i] = section_from(b, place_of(i));
         i += 1;
     }
     sections

@@ -1,4 +1,6 @@
 // The bytes of a job's fields, written from the front of a buffer.
+use crate::layout::length_of;
+use crate::layout::place_of;
 use fields::Head;
 use fields::Job;
 use fields::Section;
@@ -9,19 +11,13 @@ ghost use Rattle.basis.specs.Range.{concatTo};
 ghost use Rattle.basis.specs.Stored.{stored};
 ghost use Rattle.wire.specs.Wire.{bytesOf};
 ghost use Rattle.fields.specs.Fields.{blankSection, countOf};
-ghost use Rattle.record.specs.Record.{lengthOf, headBytes, sectionBytes, encode};
-
-fn wide(x: u8) -> u32
-    ensures { λ r. ⌜ (r ≡ x) × (r ≤ 255) ⌝ }
-{
-    x as u32
-}
+ghost use Rattle.record.specs.Record.{sectionsFrom, lengthOf, headBytes, sectionBytes, encode};
 
 // The head fields.
 fn head_bytes(h: Head) -> [u8; 16]
     ensures { λ r. ⌜ r ≡ headBytes h ⌝ }
 {
-    let n = wire::bytes32(40 + 10 * wide(h.sections));
+    let n = wire::bytes32(length_of(h.sections) as u32);
     let meter = wire::bytes16(h.meter);
     let guaranteed = wire::bytes16(h.guaranteed);
     let delivered = wire::bytes16(h.delivered);
@@ -89,14 +85,14 @@ fn put_section(out: &mut [u8], at: usize, s: Section)
     wire::put(out, at, &x);
 }
 
-// Sections 1 to count, from byte 40 on.
+// Sections 1 to count, from the first one's place on.
 fn put_sections(out: &mut [u8], sections: [Section; 64], count: usize)
     requires { ⌜ (count ≤ 63) × (lengthOf count ≤ length (now out)) ⌝ }
-    ensures { λ _. ⌜ now (out .exit) ≡ stored (now (out .entry)) 40 (concatTo count (λ i. sectionBytes (getD sections i blankSection))) ⌝ }
+    ensures { λ _. ⌜ now (out .exit) ≡ stored (now (out .entry)) sectionsFrom (concatTo count (λ i. sectionBytes (getD sections i blankSection))) ⌝ }
 {
     let mut i: usize = 1;
     while i <= count {
-        put_section(out, 40 + 10 * (i - 1), sections[i]);
+        put_section(out, place_of(i), sections[i]);
         i += 1;
     }
 }

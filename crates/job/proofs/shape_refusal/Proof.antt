@@ -7,7 +7,7 @@ use borrow.Author.Tests.{not-true, not-false}
 use lib.ListN.{length}
 use Rattle.wire.specs.Wire.{byteAt, beAt}
 use Rattle.rules.specs.Rules.{headOk}
-use Rattle.record.specs.Record.{headAt}
+use Rattle.record.specs.Record.{lengthOf, headAt}
 use Rattle.job.proofs.Shape.{short, not-stated, other-version, out-of-range, other-count, well-formed}
 use Rattle.job.proofs.shape_refusal.Statement.{statement}
 use Rattle.job.proofs.shape_refusal.Tie as tie
@@ -16,12 +16,15 @@ use Rattle.job.proofs.shape_refusal.Tie as tie
 stated : (c : tie.Else2) → beAt 4 (c .before .before .before .before .before .args .b .now) 0 ≡ length (c .before .before .before .before .before .args .b .now)
 stated c = sym (c .before .wide .ensures ∙ c .before .before .be32 .ensures) ∙ c .if2 .left
 
-checked : (c : tie.After-head-ok) → c .head-ok .result ≡ headOk (headAt (c .before .before .before .before .before .before .before .before .before .before .args .b .now))
-checked c = c .head-ok .ensures ∙ ap headOk (c .before .before .head-of .ensures)
+checked : (c : tie.After-head-ok) → c .head-ok .result ≡ headOk (headAt (c .before .before .before .before .before .before .before .before .before .args .b .now))
+checked c = c .head-ok .ensures ∙ ap headOk (c .before .head-of .ensures)
 
 sections : (c : tie.After-head-of) → c .head-of .result .sections ≡ byteAt (c .before .before .before .before .before .before .before .before .args .b .now) 6
 unfolding headAt
 sections c = rw (c .head-of .ensures)
+
+long : (c : tie.After-length-of) → c .length-of .result ≡ lengthOf (byteAt (c .before .before .before .before .before .before .before .before .before .before .before .args .b .now) 6)
+long c = c .length-of .ensures .0 ∙ rw (sections (c .before .before .before))
 
 returns : tie.Need-returns
 returns c = sym (short _ (omega arith))
@@ -35,25 +38,25 @@ returns-3 c = sym (other-version _ (omega arith) (stated (c .before .before)) (c
 
 returns-4 : tie.Need-returns-4
 returns-4 c =
-    let version = c .before .before .before .before in
+    let version = c .before .before .before in
     sym (out-of-range _ (omega arith) (stated (version .before .before)) (version .if3 .left)
     (sym (checked (c .before)) ∙ not-true (c .before .head-ok .result) (c .if4 .taken)))
 
 returns-5 : tie.Need-returns-5
 returns-5 c =
-    let head = c .before .before in
-    let version = head .before .before .before in
+    let head = c .before .before .before in
+    let version = head .before .before in
     sym (other-count _ (omega arith) (stated (version .before .before)) (version .if3 .left)
-    (sym (checked head) ∙ not-false (head .head-ok .result) (c .before .if4 .left))
-    (λ e. c .if5 .taken (e ∙ rw (sections (head .before .before)))))
+    (sym (checked head) ∙ not-false (head .head-ok .result) (c .before .before .if4 .left))
+    (λ e. c .if5 .taken (e ∙ sym (long (c .before)))))
 
 returns-6 : tie.Need-returns-6
 returns-6 c =
-    let head = c .before .before in
-    let version = head .before .before .before in
+    let head = c .before .before .before in
+    let version = head .before .before in
     sym (well-formed _ (omega arith) (stated (version .before .before)) (version .if3 .left)
-    (sym (checked head) ∙ not-false (head .head-ok .result) (c .before .if4 .left))
-    (c .if5 .left ∙ rw (sections (head .before .before))))
+    (sym (checked head) ∙ not-false (head .head-ok .result) (c .before .before .if4 .left))
+    (c .if5 .left ∙ long (c .before)))
 
 pub shape-refusal-spec : {M : Type 1} → statement M
-shape-refusal-spec = tie.close (tie.spec returns (λ c κs. search needs) (λ c κs. search needs) returns-2 (λ c. search needs) returns-3 (λ c κs. search needs) (λ c. search needs) (λ c κs. search needs) returns-4 (λ c. search needs) (λ c. search needs) returns-5 returns-6)
+shape-refusal-spec = tie.close (tie.spec returns (λ c κs. search needs) (λ c κs. search needs) returns-2 (λ c. search needs) returns-3 (λ c κs. search needs) (λ c κs. search needs) returns-4 (λ c κs. search needs) returns-5 returns-6)

@@ -41,4 +41,4 @@ returns-4 c =
     sym (write-done _ _ (inside (at .before .before)) (sym (found at) ∙ c .before .before .if2 .left) (omega arith))
 
 pub write-refusal-spec : {M : Type 1} → statement M
-write-refusal-spec = tie.close (tie.spec (λ c κs. search needs) returns broken-rule-requires (λ c κs. search needs) returns-2 (λ c. search needs) (λ c. search needs) (λ c. search needs) returns-3 returns-4)
+write-refusal-spec = tie.close (tie.spec (λ c κs. search needs) returns broken-rule-requires (λ c κs. search needs) returns-2 (λ c κs. search needs) returns-3 returns-4)

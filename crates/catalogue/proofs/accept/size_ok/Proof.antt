@@ -1,12 +1,13 @@
 -- `catalogue::accept::size_ok` meets its contract: four ways out that refuse, and the rows' own test.
 -- Assumes nothing.
-use mathlib.Core.Path.{sym, _∙_}
+use mathlib.Core.Path.{_≡_, sym, _∙_}
 use mathlib.Core.Logic.{⊎-elim}
 use mathlib.Core.List.{List}
-use Prim.Native.Nat.{ℕ, _+_, _*_, _≤_}
+use Prim.Native.Nat.{ℕ, _+_, _-_, _*_, _≤_}
 use native.Mathlib.Omega.{arith}
 use lib.ListN.{length}
-use Rattle.catalogue.specs.Layout.{rowsOf}
+use Rattle.basis.specs.Part.{part}
+use Rattle.catalogue.specs.Layout.{rowsOf, partOf}
 use Rattle.catalogue.proofs.Places.{sized-room, sized-before, part-handed, part-long}
 use Rattle.catalogue.proofs.SizeBounds.{Over, size-refused, size-last}
 use Rattle.catalogue.proofs.accept.size_ok.Statement.{statement}
@@ -23,18 +24,23 @@ lent c = c .before .before .before .before .before .before .before .before .befo
 room : (c : tie.After-size-from) → c .size-from .result + 4 + 8 * rowsOf (lent c) ≤ length (lent c)
 room c = omega (arith, sized-room (c .before .before .before .before .before .before .before .before .before .pre .0))
 
+handed : (c : tie.After-size-from) →
+    let a = c .size-from .result + 4 in part (lent c) a (a + 8 * c .before .rows-of .result - a) ≡ partOf (lent c) (c .before .before .before .before .before .before .before .before .before .args .s)
+handed c =
+    part-handed (c .before .before .before .before .before .before .before .before .before .pre .0) (c .size-from .result) (c .before .rows-of .result)
+    (c .size-from .ensures) (c .before .rows-of .ensures)
+
 rows-ok-requires : tie.Need-rows-ok-requires
 rows-ok-requires c κs =
     let sized = c .before .before .before .before .before .before .before .before .before .before .pre .0 in
-    (omega arith, omega arith, rw (part-handed sized (c .before .size-from .result) (c .before .size-from .ensures), part-long sized) (omega arith))
+    (omega arith, omega arith, rw (handed (c .before), part-long sized) (omega arith))
 
 returns-5 : tie.Need-returns-5
 returns-5 c =
     let from = c .before .before in
     let joined = from .before .before .before .before .before in
-    let sized = joined .before .before .before .before .pre .0 in
-    c .rows-ok .ensures ∙ rw (part-handed sized (from .size-from .result) (from .size-from .ensures))
-    (sym (size-last _ _ (omega arith) (omega arith) (over joined) (omega arith)))
+    c .rows-ok .ensures ∙ rw (handed from)
+    (sym (size-last _ _ _ (from .before .rows-of .ensures) (omega arith) (omega arith) (over joined) (omega arith)))
 
 pub size-ok-spec : {M : Type 1} → statement M
 size-ok-spec =

@@ -49,6 +49,6 @@ returns-2 c =
 pub sizes-ok-spec : {M : Type 1} → statement M
 sizes-ok-spec =
     tie.close
-    (tie.spec Inv-loop μ-loop (λ c. omega (arith, shape-in _ (c .before .before .pre) .long))
+    (tie.spec Inv-loop μ-loop (λ c κs. omega (arith, shape-in _ (c .before .pre) .long))
     (λ c. omega (arith, shape-in _ (c .before .before .pre) .sizes .high)) loop-holds size-ok-requires returns (λ c. omega arith)
     (λ c. omega arith) loop-again returns-2)

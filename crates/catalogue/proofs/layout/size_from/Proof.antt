@@ -14,4 +14,4 @@ pub size-from-spec : {M : Type 1} → statement M
 size-from-spec =
     tie.close
     (tie.spec (λ c. search needs) (λ c. search needs) (λ c κs. search needs) (λ c. search needs) (λ c. search needs)
-    (λ c. omega (arith, product c)) (λ c. omega (arith, product c)) (λ c. rw (c .wide .ensures .0)))
+    (λ c. omega (arith, product c)) (λ c. omega (arith, product c)) (λ c. rw (c .wide .ensures .0, c .before .rows-of .ensures)))

@@ -15,8 +15,8 @@ use Rattle.catalogue.proofs.reading.read_size.Tie as tie
 sized : (c : tie.Start) → Sized (c .args .cat .now) (c .args .s)
 sized c = listed-sized (c .pre .0) (c .args .s) (c .pre .1) (c .pre .2)
 
-shared-slice-read-n : tie.Need-shared-slice-read-n
-shared-slice-read-n c = let z = sized (c .before .before) in omega arith
+rows-of-requires : tie.Need-rows-of-requires
+rows-of-requires c κs = let z = sized (c .before) in omega arith
 
 cast-n : tie.Need-cast-n
 cast-n c = let z = sized (c .before .before) in omega arith
@@ -43,17 +43,17 @@ part-read-rows-end c = omega (arith, room c)
 read-rows-requires : tie.Need-read-rows-requires
 read-rows-requires c κs =
     let b = c .before .before .before .before in
-    rw (part-handed (sized b) (c .before .size-from .result) (c .before .size-from .ensures))
+    rw (part-handed (sized b) _ _ (c .before .size-from .ensures) (c .before .before .rows-of .ensures), c .before .before .rows-of .ensures)
     (listed-rows (b .pre .0) (b .args .s) (b .pre .1) (b .pre .2))
 
 returns : tie.Need-returns
 returns c =
     let b = c .before .before .before .before .before in
     c .read-rows .ensures ∙
-    rw (part-handed (sized b) (c .before .before .size-from .result) (c .before .before .size-from .ensures))
+    rw (part-handed (sized b) _ _ (c .before .before .size-from .ensures) (c .before .before .before .rows-of .ensures), c .before .before .before .rows-of .ensures)
 
 pub read-size-spec : {M : Type 1} → statement M
 read-size-spec =
     tie.close
-    (tie.spec shared-slice-read-n cast-n size-from-requires add-a mul-e add-e (λ c. search needs) (λ c. search needs)
+    (tie.spec rows-of-requires cast-n size-from-requires add-a mul-e add-e (λ c. search needs) (λ c. search needs)
     part-read-rows-end read-rows-requires returns)

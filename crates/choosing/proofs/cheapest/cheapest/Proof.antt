@@ -1,6 +1,6 @@
 -- `choosing::cheapest::cheapest` meets its contract: the tables are a tree drawn from the job and the catalogue.
 -- Assumes nothing.
-use mathlib.Core.Path.{_≡_, refl}
+use mathlib.Core.Path.{_≡_, refl, sym, subst}
 use mathlib.Core.List.{List}
 use Prim.Native.Nat.{ℕ, _+_, _≤_, _<_}
 use native.Mathlib.Nat.{mul-le-mul}
@@ -11,7 +11,6 @@ use Rattle.fields.specs.declared.Job.{Job}
 use Rattle.fields.specs.Fields.{countOf}
 use Rattle.wire.specs.Wire.{byteAt}
 use Rattle.rules.proofs.HeadBounds.{HeadIn, head-in}
-use Rattle.catalogue.specs.Layout.{sizesOf}
 use Rattle.catalogue.proofs.Listed.{listed-counts}
 use Rattle.catalogue.proofs.ShapeBounds.{shape-in}
 use Rattle.nets.specs.Net.{Net}
@@ -25,8 +24,8 @@ use Rattle.choosing.proofs.cheapest.cheapest.Tie as tie
 head : (c : tie.Start) → HeadIn (c .args .job .head)
 head c = head-in (c .args .job .head) (c .pre .0 .ruled .head)
 
-shared-slice-read-sizes : tie.Need-shared-slice-read-sizes
-shared-slice-read-sizes c = omega (arith, shape-in _ (c .before .before .before .before .pre .1 .shape) .long)
+sizes-of-requires : tie.Need-sizes-of-requires
+sizes-of-requires c κs = omega (arith, shape-in _ (c .before .before .before .pre .1 .shape) .long)
 
 cast-sizes : tie.Need-cast-sizes
 cast-sizes c = omega (arith, listed-counts (c .before .before .before .before .pre .1) .0 .high)
@@ -41,16 +40,27 @@ module _ (c : tie.After-put-options) where
   bytes : (k : ℕ) → byteAt (start .args .cat .now) k < 256
   bytes k = omega (arith, c .before .before .before .before .before .before .before .before .before .before .before .shared-slice-known .given k)
 
-  abbrev net : Net
-  net =
-      netOf (countOf (start .args .job)) (sizesOf (start .args .cat .now)) (c .before .before .before .before .before .ends-of .result .parents) (c .before .before .before .before .before .ends-of .result .needs)
+  abbrev read : tie.After-sizes-of
+  read = c .before .before .before .before .before .before .before .before
+
+  -- the tables as a net of so many sizes
+  abbrev netWith : ℕ → Net
+  netWith sizes =
+      netOf (countOf (start .args .job)) sizes (c .before .before .before .before .before .ends-of .result .parents) (c .before .before .before .before .before .ends-of .result .needs)
       (c .put-options .last .1 .1 .0) (c .put-options .last .1 .1 .1 .0)
 
+  abbrev net : Net
+  net = netWith (read .sizes-of .result)
+
   tree : Drawn (start .args .job) (start .args .cat .now) net
-  tree = drawn (start .pre .0) (start .pre .1) bytes (c .before .before .before .before .before .ends-of .ensures) (c .put-options .ensures .0) (c .put-options .ensures .1)
+  tree =
+      subst (λ (n : ℕ). Drawn (start .args .job) (start .args .cat .now) (netWith n)) (sym (read .sizes-of .ensures))
+      (drawn (start .pre .0) (start .pre .1) bytes (c .before .before .before .before .before .ends-of .ensures) (c .put-options .ensures .0) (c .put-options .ensures .1))
 
   taken : Sound net
-  taken = sound (start .pre .0) (start .pre .1) bytes (c .before .before .before .before .before .ends-of .ensures) (c .put-options .ensures .0) (c .put-options .ensures .1)
+  taken =
+      subst (λ (n : ℕ). Sound (netWith n)) (sym (read .sizes-of .ensures))
+      (sound (start .pre .0) (start .pre .1) bytes (c .before .before .before .before .before .ends-of .ensures) (c .put-options .ensures .0) (c .put-options .ensures .1))
 
 choose-requires : tie.Need-choose-requires
 choose-requires c κs =
@@ -74,6 +84,6 @@ returns c =
 pub cheapest-spec : {M : Type 1} → statement M
 cheapest-spec =
     tie.close
-    (tie.spec (λ c. search needs) shared-slice-read-sizes cast-sizes (λ c. search needs) (λ c. search needs) (λ c κs. search needs) put-options-requires
+    (tie.spec (λ c. search needs) sizes-of-requires cast-sizes (λ c. search needs) (λ c. search needs) (λ c κs. search needs) put-options-requires
     (λ c. omega (arith, head (c .before .before .before .before .before .before .before .before .before .before .before .before .before .before .before .before .before) .delivered)) (λ c. omega (arith, head (c .before .before .before .before .before .before .before .before .before .before .before .before .before .before .before .before .before) .meter))
     choose-requires (λ c. search needs) returns)

@@ -23,8 +23,8 @@ abbrev μ-loop : tie.MeasureT-loop
 few : (c : tie.Start Inv-loop μ-loop) → sizesOf (c .args .cat .now) ≤ 12
 few c = listed-counts (c .pre .0 .0) .0 .high
 
-shared-slice-read-sizes : tie.Need-shared-slice-read-sizes Inv-loop μ-loop
-shared-slice-read-sizes c = omega (arith, shape-in _ (c .before .before .pre .0 .0 .shape) .long)
+sizes-of-requires : tie.Need-sizes-of-requires Inv-loop μ-loop
+sizes-of-requires c κs = omega (arith, shape-in _ (c .before .pre .0 .0 .shape) .long)
 
 loop-holds : tie.Need-loop-holds Inv-loop μ-loop
 loop-holds c = let e = c .before .before .pre .1 in (omega arith, omega arith, entered-start _ _ _ (e .0), entered-start _ _ _ (e .1))
@@ -70,7 +70,7 @@ returns c =
 pub put-row-spec : {M : Type 1} → statement M
 put-row-spec =
     tie.close
-    (tie.spec Inv-loop μ-loop shared-slice-read-sizes (λ c. omega (arith, few (c .before .before))) loop-holds try-size-requires
+    (tie.spec Inv-loop μ-loop sizes-of-requires (λ c. omega (arith, few (c .before .before))) loop-holds try-size-requires
     (λ c κs. search needs) (λ c. omega (arith, within (c .before .before))) (λ c. omega (arith, within (c .before .before)))
     (λ c. omega (arith, within (c .before .before))) (λ c. within (c .before .before)) price-requires (λ c. omega (arith, low c))
     (λ c. omega arith) mul-costs (λ c. omega (arith, within (c .before .before .before .before)))

@@ -9,13 +9,14 @@ use lib.ListN.{length}
 use Rattle.basis.specs.Range.{within, allTo}
 use Rattle.basis.proofs.Each.{all-none}
 use Rattle.fields.specs.Fields.{countOf}
+use Rattle.catalogue.specs.Layout.{sizesOf}
 use Rattle.sizing.specs.Losses.{sizeOf}
 use Rattle.sizing.proofs.Named.{other-length, list-all, no-size, one-more}
 use Rattle.rating.proofs.sections.list_ok.Statement.{statement}
 use Rattle.rating.proofs.sections.list_ok.Tie as tie
 
 abbrev Inv-loop : tie.InvT-loop
-Inv-loop cat list count sizes i₀ i = (i ≤ count) × (allTo i (λ j. within 1 sizes (sizeOf list j)) ≡ true)
+Inv-loop cat list count sizes i₀ i = (i ≤ count) × (allTo i (λ j. within 1 (sizesOf cat) (sizeOf list j)) ≡ true)
 
 abbrev μ-loop : tie.MeasureT-loop
 μ-loop cat list count sizes i₀ i = count - i
@@ -24,7 +25,7 @@ returns : tie.Need-returns Inv-loop μ-loop
 returns c = sym (other-length _ _ _ (λ e. omega arith))
 
 -- where the code goes on, the list is S long
-long : (c : tie.Else1 Inv-loop μ-loop) → length (c .before .before .before .args .list .now) ≡ countOf (c .before .before .before .args .job)
+long : (c : tie.Else1 Inv-loop μ-loop) → length (c .before .before .before .before .before .args .list .now) ≡ countOf (c .before .before .before .before .before .args .job)
 long c = omega arith
 
 returns-2 : tie.Need-returns-2 Inv-loop μ-loop
@@ -40,15 +41,15 @@ returns-3 c =
 loop-again : tie.Need-loop-again Inv-loop μ-loop
 loop-again c =
     let at = c .before .before .before .before .before in
-    let start = at .before .before .before .before in
+    let start = at .before .before .before .before .before .before in
     (omega arith, one-more (start .args .job) (start .args .cat .now) (start .args .list .now) (at .loop .i) (at .loop .inv .1) (record { low = omega arith; high = omega arith }))
 
 returns-4 : tie.Need-returns-4 Inv-loop μ-loop
 returns-4 c =
     let at = c .before in
-    let start = at .before .before .before .before in
+    let start = at .before .before .before .before .before .before in
     let e : at .loop .i ≡ countOf (start .args .job) = omega arith in
     sym (list-all _ _ _ (long (at .before)) ∙ (rw e at (at .loop .inv .1)))
 
 pub list-ok-spec : {M : Type 1} → statement M
-list-ok-spec = tie.close (tie.spec Inv-loop μ-loop (λ c. search needs) (λ c. search needs) returns (λ c. (omega arith, all-none _)) (λ c. search needs) returns-2 (λ c. search needs) returns-3 (λ c. search needs) (λ c. search needs) loop-again returns-4)
+list-ok-spec = tie.close (tie.spec Inv-loop μ-loop (λ c. search needs) (λ c κs. search needs) returns (λ c. (omega arith, all-none _)) (λ c. search needs) returns-2 (λ c. search needs) returns-3 (λ c. search needs) (λ c. search needs) loop-again returns-4)

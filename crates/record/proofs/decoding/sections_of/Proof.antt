@@ -22,11 +22,11 @@ loop-holds c = (omega arith, omega arith, rw (c .blank-section .ensures) (slots-
 
 loop-again : tie.Need-loop-again Inv-loop μ-loop
 loop-again c =
-    let b = c .before .before .before .before .before .args .b .now in
-    let i = c .before .before .loop .i in (
+    let b = c .before .before .before .before .before .before .args .b .now in
+    let i = c .before .before .before .loop .i in (
       omega arith,
       omega arith,
-      rw (c .before .before .loop .inv .2, c .section-from .ensures) (slots-more 64 1 i blankSection (sectionAt b) (omega arith) (omega arith)),
+      rw (c .before .before .before .loop .inv .2, c .section-from .ensures, c .before .place-of .ensures) (slots-more 64 1 i blankSection (sectionAt b) (omega arith) (omega arith)),
     )
 
 returns : tie.Need-returns Inv-loop μ-loop
@@ -36,5 +36,5 @@ returns c =
 pub sections-of-spec : {M : Type 1} → statement M
 sections-of-spec =
     tie.close
-    (tie.spec Inv-loop μ-loop (λ c κs. search needs) loop-holds (λ c. search needs) (λ c. search needs) (λ c. search needs)
-    (λ c κs. search needs) (λ c. search needs) (λ c. search needs) (λ c. search needs) (λ c. search needs) loop-again returns)
+    (tie.spec Inv-loop μ-loop (λ c κs. search needs) loop-holds (λ c κs. search needs) (λ c κs. search needs) (λ c. search needs)
+    (λ c. search needs) (λ c. search needs) (λ c. search needs) loop-again returns)

@@ -10,7 +10,7 @@ returns : tie.Need-returns
 unfolding headBytes bytesOf
 returns c = rw (
   c .before .before .before .before .bytes32 .ensures,
-  c .before .before .before .before .before .wide .ensures .0,
+  c .before .before .before .before .before .length-of .ensures .0,
   c .before .before .before .bytes16 .ensures,
   c .before .before .bytes162 .ensures,
   c .before .bytes163 .ensures,
@@ -20,7 +20,7 @@ returns c = rw (
 pub head-bytes-spec : {M : Type 1} → statement M
 head-bytes-spec =
     tie.close
-    (tie.spec (λ c κs. search needs) (λ c. search needs) (λ c. search needs) (λ c κs. search needs) (λ c κs. search needs)
+    (tie.spec (λ c κs. search needs) (λ c. search needs) (λ c κs. search needs) (λ c κs. search needs)
     (λ c κs. search needs) (λ c κs. search needs) (λ c κs. search needs) (λ c. search needs) (λ c. search needs) (λ c. search needs)
     (λ c. search needs) (λ c. search needs) (λ c. search needs) (λ c. search needs) (λ c. search needs) (λ c. search needs)
     (λ c. search needs) (λ c. search needs) (λ c. search needs) returns)

@@ -1,33 +1,40 @@
 -- `record::encoding::put_sections` meets its contract.
 -- Assumes nothing.
 use Prim.Native.Nat.{_+_, _-_, _≤_, _<_}
-use mathlib.Core.Path.{_≡_}
+use mathlib.Core.Path.{_≡_, _∙_}
 use native.Mathlib.Omega.{arith}
 use borrow.Author.Needs.{needs}
 use lib.ListN.{getD}
 use Rattle.basis.proofs.Runs.{Running, running-start, running-room, running-more}
 use Rattle.fields.specs.Fields.{blankSection}
-use Rattle.record.specs.Record.{sectionBytes}
+use Rattle.record.specs.Record.{sectionsFrom, sectionBytes}
 use Rattle.record.proofs.Lengths.{section-length}
 use Rattle.record.proofs.encoding.put_sections.Statement.{statement}
 use Rattle.record.proofs.encoding.put_sections.Tie as tie
 
 abbrev Inv-loop : tie.InvT-loop
-Inv-loop out₀ count sections i₀ out i = (0 < i) × (i ≤ count + 1) × Running (λ k. sectionBytes (getD sections k blankSection)) out₀ 40 (i - 1) out
+Inv-loop out₀ count sections i₀ out i = (0 < i) × (i ≤ count + 1) × Running (λ k. sectionBytes (getD sections k blankSection)) out₀ sectionsFrom (i - 1) out
 
 abbrev μ-loop : tie.MeasureT-loop
 μ-loop out₀ count sections i₀ out i = count + 1 - i
 
 loop-holds : tie.Need-loop-holds Inv-loop μ-loop
-loop-holds c = (omega arith, omega arith, running-start _ _ 40)
+loop-holds c = (omega arith, omega arith, running-start _ _ sectionsFrom)
 
 put-section-requires : tie.Need-put-section-requires Inv-loop μ-loop
-put-section-requires c κs = running-room 10 (λ i. section-length _) (c .before .before .before .loop .inv .2) (omega arith) (omega arith)
+put-section-requires c κs =
+    rw (c .before .place-of .ensures)
+    (running-room 10 (λ i. section-length _) (c .before .before .before .before .loop .inv .2) (omega arith) (omega arith))
 
 loop-again : tie.Need-loop-again Inv-loop μ-loop
 loop-again c =
-    let r = c .before .before .before .before .before .before .loop .inv .2 in
-    (omega arith, omega arith, running-more 10 (λ i. section-length _) r (omega arith) (omega arith) (c .before .before .put-section .ensures))
+    let r = c .before .before .before .before .before .before .before .loop .inv .2 in
+    let put = c .before .before in (
+      omega arith,
+      omega arith,
+      running-more 10 (λ i. section-length _) r (omega arith) (omega arith)
+          (put .put-section .ensures ∙ rw (put .before .before .place-of .ensures)),
+    )
 
 same-length : tie.Need-same-length Inv-loop μ-loop
 same-length c = c .before .loop .inv .2 .same
@@ -38,5 +45,5 @@ returns c = let e : c .before .loop .i - 1 ≡ c .before .before .before .args .
 pub put-sections-spec : {M : Type 1} → statement M
 put-sections-spec =
     tie.close
-    (tie.spec Inv-loop μ-loop loop-holds (λ c. search needs) (λ c. search needs) (λ c. search needs) (λ c. search needs) (λ c. search needs)
+    (tie.spec Inv-loop μ-loop loop-holds (λ c κs. search needs) (λ c. search needs) (λ c. search needs)
     put-section-requires (λ c. search needs) (λ c. search needs) loop-again same-length returns)

@@ -1,0 +1,189 @@
+-- A record in which one field's bytes are replaced has the same length, every other byte as it was, and the same fields but that one.
+-- Assumes nothing.
+use mathlib.Core.Path.{_≡_, sym, _∙_}
+use mathlib.Core.Logic.{⊎-elim}
+use mathlib.Core.List.{List, [], append-nil}
+use Prim.Native.Nat.{ℕ, _+_, _-_, _*_, _^_, _≤_, _<_}
+use native.Mathlib.Omega.{arith}
+use lib.ListN.{length, set}
+use lib.Seq.{getD-set-same, set-set}
+use Rattle.basis.specs.Slots.{tabulate, slots}
+use Rattle.basis.proofs.Split.{lt-or-ge}
+use Rattle.basis.proofs.Stored.{stored-length, stored-in, stored-before, stored-after}
+use Rattle.basis.proofs.Slots.{tabulate-ext, slots-length, slots-in, slots-full, slots-ext, slots-set}
+use Rattle.wire.specs.Wire.{byteAt, beAt, bytesOf}
+use Rattle.wire.proofs.Fields.{be-same, be-bytes, bytes-length}
+use Rattle.fields.specs.Fields.{blankSection, sectionOf}
+use Rattle.record.specs.Record.{sectionsFrom, placeOf, headAt, residentsAt, sectionFrom, sectionAt, decode}
+use Rattle.record.specs.Edited.{meterPlace, residentsPlace, fixturesPlace, freePlace, edited, SameBut, withMeter, withResidents, withSection, fitted}
+
+-- any field: its own value, and every other byte as it was
+module _ (width : ℕ) (b : List ℕ) (at n : ℕ) (fits : at + width ≤ length b) where
+  pub edited-same : SameBut at width b (edited width b at n)
+  edited-same =
+      let size : length (bytesOf width n) ≡ width = bytes-length width n in
+      record {
+        long = stored-length b at (bytesOf width n) (rw size fits);
+        bytes = λ j apart.
+            ⊎-elim
+            (λ before. stored-before b at (bytesOf width n) j (omega arith) before)
+            (λ from. ⊎-elim
+            (λ inside. absurd (apart from inside))
+            (λ past. stored-after b at (bytesOf width n) j (omega arith) (rw size past))
+            (lt-or-ge j (at + width)))
+            (lt-or-ge j at);
+      }
+
+  pub edited-field : n < 256 ^ width → beAt width (edited width b at n) at ≡ n
+  edited-field h =
+      be-same width (edited width b at n) (bytesOf width n) at 0
+      (λ k lt. let e : 0 + k ≡ k = omega arith in rw e (stored-in b at (bytesOf width n) k (omega arith) (rw (bytes-length width n) lt))) ∙
+      (rw append-nil at (be-bytes width n [] h))
+
+module _ {at width : ℕ} {b e : List ℕ} (same : SameBut at width b e) where
+  -- a field that shares no byte with the one that was replaced
+  pub field-kept : (w j : ℕ) → ((k : ℕ) → k < w → at ≤ j + k → j + k < at + width → ⊥) → beAt w e j ≡ beAt w b j
+  field-kept w j apart = be-same w e b j j (λ k h. same .bytes (j + k) (apart k h))
+
+  head-kept : 16 ≤ at → headAt e ≡ headAt b
+  unfolding headAt
+  head-kept h =
+      rw (
+        same .bytes 5 (λ c d. omega arith),
+        same .bytes 6 (λ c d. omega arith),
+        same .bytes 7 (λ c d. omega arith),
+        field-kept 2 8 (λ k l c d. omega arith),
+        field-kept 2 10 (λ k l c d. omega arith),
+        field-kept 2 12 (λ k l c d. omega arith),
+        field-kept 2 14 (λ k l c d. omega arith),
+      )
+
+  residents-kept : ((k : ℕ) → 16 ≤ k → k < 40 → at ≤ k → k < at + width → ⊥) → tabulate 12 (residentsAt e) ≡ tabulate 12 (residentsAt b)
+  unfolding residentsAt
+  residents-kept apart =
+      tabulate-ext 12 (residentsAt e) (residentsAt b) 0
+      (λ c h. field-kept 2 (16 + 2 * c) (λ k l. apart (16 + 2 * c + k) (omega arith) (omega arith)))
+
+  section-kept : (from : ℕ) → ((k : ℕ) → from ≤ k → k < from + 10 → at ≤ k → k < at + width → ⊥) → sectionFrom e from ≡ sectionFrom b from
+  unfolding sectionFrom
+  section-kept from apart =
+      rw (
+        same .bytes from (apart from (omega arith) (omega arith)),
+        same .bytes (from + 1) (apart (from + 1) (omega arith) (omega arith)),
+        field-kept 2 (from + 2) (λ k l. apart (from + 2 + k) (omega arith) (omega arith)),
+        field-kept 2 (from + 4) (λ k l. apart (from + 4 + k) (omega arith) (omega arith)),
+        field-kept 2 (from + 6) (λ k l. apart (from + 6 + k) (omega arith) (omega arith)),
+        field-kept 2 (from + 8) (λ k l. apart (from + 8 + k) (omega arith) (omega arith)),
+      )
+
+  sections-kept : at + width ≤ sectionsFrom → slots 64 1 (byteAt b 6 + 1) blankSection (sectionAt e) ≡ slots 64 1 (byteAt b 6 + 1) blankSection (sectionAt b)
+  sections-kept h =
+      slots-ext 64 1 (byteAt b 6 + 1) blankSection (sectionAt e) (sectionAt b)
+      (λ i a c d. section-kept (placeOf i) (λ k l m n o. omega arith))
+
+  -- bytes replaced inside section i change that section alone
+  pub section-changed : (i : ℕ) → 0 < i → i ≤ byteAt b 6 → byteAt b 6 ≤ 63 → placeOf i ≤ at → at + width ≤ placeOf i + 10 →
+      decode e ≡ withSection (decode b) i (sectionAt e i)
+  unfolding decode withSection
+  section-changed i low high few from to =
+      rw (
+        head-kept (omega arith),
+        residents-kept (λ k l m n o. omega arith),
+        same .bytes 6 (λ c d. omega arith),
+        slots-set 64 1 (byteAt b 6 + 1) blankSection (sectionAt b) (sectionAt e) i (omega arith) (omega arith) (omega arith)
+            (λ j c d ne. section-kept (placeOf j) (λ k l m n o. ne (omega arith))),
+      )
+
+-- the meter loss
+pub edited-meter : (b : List ℕ) (n : ℕ) → meterPlace + 2 ≤ length b → n < 65536 → decode (edited 2 b meterPlace n) ≡ withMeter (decode b) n
+unfolding decode withMeter headAt
+edited-meter b n fits h =
+    let same = edited-same 2 b meterPlace n fits in
+    rw (
+      same .bytes 5 (λ c d. omega arith),
+      same .bytes 6 (λ c d. omega arith),
+      same .bytes 7 (λ c d. omega arith),
+      edited-field 2 b meterPlace n fits h,
+      field-kept same 2 10 (λ k l c d. omega arith),
+      field-kept same 2 12 (λ k l c d. omega arith),
+      field-kept same 2 14 (λ k l c d. omega arith),
+      residents-kept same (λ k l m o p. omega arith),
+      sections-kept same (omega arith),
+    )
+
+-- the residents of a kind
+pub edited-residents : (b : List ℕ) (kind n : ℕ) → 0 < kind → kind ≤ 12 → residentsPlace kind + 2 ≤ length b → n < 65536 →
+    decode (edited 2 b (residentsPlace kind) n) ≡ withResidents (decode b) kind n
+unfolding decode withResidents residentsAt
+edited-residents b kind n low high fits h =
+    let e = edited 2 b (residentsPlace kind) n in
+    let same = edited-same 2 b (residentsPlace kind) n fits in
+    let changed : tabulate 12 (residentsAt e) ≡ set (tabulate 12 (residentsAt b)) (kind - 1) n =
+    sym (slots-full 12 0 (residentsAt e)) ∙
+    slots-set 12 0 12 0 (residentsAt b) (residentsAt e) (kind - 1) (omega arith) (omega arith) (omega arith)
+    (λ c l m ne. field-kept same 2 (16 + 2 * c) (λ k o p q. ne (omega arith))) ∙
+    rw (slots-full 12 0 (residentsAt b), edited-field 2 b (residentsPlace kind) n fits h) in
+    rw (
+      head-kept same (omega arith),
+      changed,
+      same .bytes 6 (λ c d. omega arith),
+      sections-kept same (omega arith),
+    )
+
+within : (b : List ℕ) (i : ℕ) → i ≤ 63 → i < length (decode b .sections)
+unfolding decode
+within b i h = rw (slots-length 64 1 (byteAt b 6 + 1) blankSection (sectionAt b)) (omega arith)
+
+-- the fixtures and the free head of section i
+module _ (b : List ℕ) (i : ℕ) (low : 0 < i) (high : i ≤ byteAt b 6) (few : byteAt b 6 ≤ 63) where
+  section-in : sectionOf (decode b) i ≡ sectionAt b i
+  unfolding decode
+  section-in = slots-in 64 1 (byteAt b 6 + 1) blankSection (sectionAt b) i blankSection (omega arith) (omega arith) (omega arith)
+
+  pub edited-fixtures : (n : ℕ) → fixturesPlace i + 2 ≤ length b → n < 65536 →
+      decode (edited 2 b (fixturesPlace i) n) ≡ withSection (decode b) i (fitted (sectionOf (decode b) i) n (sectionOf (decode b) i .free))
+  unfolding fitted sectionFrom
+  edited-fixtures n fits h =
+      let same = edited-same 2 b (fixturesPlace i) n fits in
+      section-changed same i low high few (omega arith) (omega arith) ∙
+      rw (
+        section-in,
+        same .bytes (placeOf i) (λ c d. omega arith),
+        same .bytes (placeOf i + 1) (λ c d. omega arith),
+        edited-field 2 b (fixturesPlace i) n fits h,
+        field-kept same 2 (placeOf i + 4) (λ k l c d. omega arith),
+        field-kept same 2 (placeOf i + 6) (λ k l c d. omega arith),
+        field-kept same 2 (placeOf i + 8) (λ k l c d. omega arith),
+      )
+
+  pub edited-free : (n : ℕ) → freePlace i + 2 ≤ length b → n < 65536 →
+      decode (edited 2 b (freePlace i) n) ≡ withSection (decode b) i (fitted (sectionOf (decode b) i) (sectionOf (decode b) i .fixtures) n)
+  unfolding fitted sectionFrom
+  edited-free n fits h =
+      let same = edited-same 2 b (freePlace i) n fits in
+      section-changed same i low high few (omega arith) (omega arith) ∙
+      rw (
+        section-in,
+        same .bytes (placeOf i) (λ c d. omega arith),
+        same .bytes (placeOf i + 1) (λ c d. omega arith),
+        field-kept same 2 (placeOf i + 2) (λ k l c d. omega arith),
+        field-kept same 2 (placeOf i + 4) (λ k l c d. omega arith),
+        field-kept same 2 (placeOf i + 6) (λ k l c d. omega arith),
+        edited-field 2 b (freePlace i) n fits h,
+      )
+
+-- both, one after the other
+pub edited-end : (b : List ℕ) (i : ℕ) → 0 < i → i ≤ byteAt b 6 → byteAt b 6 ≤ 63 → (fixtures free : ℕ) →
+    freePlace i + 2 ≤ length b → fixtures < 65536 → free < 65536 →
+    decode (edited 2 (edited 2 b (fixturesPlace i) fixtures) (freePlace i) free) ≡ withSection (decode b) i (fitted (sectionOf (decode b) i) fixtures free)
+unfolding withSection fitted
+edited-end b i low high few fixtures free fits h k =
+    let first = edited-same 2 b (fixturesPlace i) fixtures (omega arith) in
+    let count = first .bytes 6 (λ c d. omega arith) in
+    let job = decode b in
+    edited-free (edited 2 b (fixturesPlace i) fixtures) i low (rw count high) (rw count few) free (rw (first .long) fits) k ∙
+    rw (
+      edited-fixtures b i low high few fixtures (omega arith) h,
+      getD-set-same (job .sections) i (fitted (sectionOf job i) fixtures (sectionOf job i .free)) blankSection (within b i (omega arith)),
+      set-set,
+    )
