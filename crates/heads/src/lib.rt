@@ -7,7 +7,6 @@ ghost use lib.ListN.{getD};
 ghost use lib.IntN.{pos, _+ℤ_};
 ghost use Rattle.basis.specs.Slots.{slots};
 ghost use Rattle.fields.specs.Fields.{countOf};
-ghost use Rattle.heads.specs.Signed.{bits32Of};
 ghost use Rattle.heads.specs.Heads.{pathOf, reachOf, greatestTo, requiredOf, pumpOf, dictatingOf};
 ghost use Rattle.heads.specs.Shape.{Given};
 
@@ -89,16 +88,5 @@ pub fn heads_of(job: Job, losses: [u32; 64]) -> Heads
         required,
         pump,
         dictating: best.section,
-    }
-}
-
-// The 32 bits of a signed number.
-pub fn bits32(z: i32) -> u32
-    ensures { λ r. ⌜ r ≡ bits32Of z ⌝ }
-{
-    if z < 0 {
-        ((z as i64) + 4294967296) as u32
-    } else {
-        z as u32
     }
 }
