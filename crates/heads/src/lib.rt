@@ -6,8 +6,10 @@ ghost use Prim.Native.Nat.{_+_, _≤_};
 ghost use lib.ListN.{getD};
 ghost use lib.IntN.{pos, _+ℤ_};
 ghost use Rattle.basis.specs.Slots.{slots};
+ghost use Rattle.basis.specs.Sections.{pathOf};
 ghost use Rattle.fields.specs.Fields.{countOf};
-ghost use Rattle.heads.specs.Heads.{pathOf, reachOf, greatestTo, requiredOf, pumpOf, dictatingOf};
+ghost use Rattle.tree.specs.Tree.{parentOf};
+ghost use Rattle.heads.specs.Heads.{reachOf, greatestTo, requiredOf, pumpOf, dictatingOf};
 ghost use Rattle.heads.specs.Shape.{Given};
 
 // Required head in cm, pump head in cm, and the dictating section.
@@ -26,7 +28,7 @@ struct Greatest {
 // The path loss of each section, at the section's place; a parent comes before its sections.
 pub fn paths(job: Job, losses: [u32; 64]) -> [u32; 64]
     requires { ⌜ Given job losses ⌝ }
-    ensures { λ r. ⌜ r ≡ slots 64 1 (countOf job + 1) 0 (pathOf job (λ i. getD losses i 0)) ⌝ }
+    ensures { λ r. ⌜ r ≡ slots 64 1 (countOf job + 1) 0 (pathOf (parentOf job) (λ i. getD losses i 0)) ⌝ }
 {
     let count = job.head.sections as usize;
     let mut paths = [0u32; 64];

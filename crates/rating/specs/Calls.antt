@@ -5,6 +5,7 @@ use mathlib.Core.Bool.{Bool, not, cond}
 use mathlib.Core.List.{List, [], _∷_, _++_}
 use lib.Dec.{ltb, eqb}
 use Rattle.basis.specs.Range.{concatTo}
+use Rattle.basis.specs.Sections.{sizeOf}
 use Rattle.answer.specs.Checks.{firstNo}
 use Rattle.wire.specs.Wire.{bytesOf, bitsOf}
 use Rattle.fields.specs.declared.Job.{Job}
@@ -13,7 +14,7 @@ use Rattle.record.specs.Record.{decode}
 use Rattle.flow.specs.Calls.{jobChecks}
 use Rattle.catalogue.specs.Rules.{catChecks}
 use Rattle.heads.specs.Heads.{requiredOf, pumpOf, dictatingOf}
-use Rattle.rating.specs.Losses.{sizeOf, listOk, overAny, readingOf, lossesOf}
+use Rattle.rating.specs.Losses.{listOk, overAny, readingOf, lossesOf}
 
 -- a job and a catalogue, as every call that takes both looks at them first: 1 to 9, 10, 11
 unfoldable pub inputChecks : List ℕ → List ℕ → List (Bool × ℕ)

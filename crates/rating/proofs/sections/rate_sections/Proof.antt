@@ -6,6 +6,7 @@ use native.Mathlib.Omega.{arith}
 use borrow.Author.Needs.{needs}
 use borrow.Author.Tests.{not-true, not-false}
 use lib.ListN.{length}
+use Rattle.basis.specs.Sections.{sizeOf}
 use Rattle.basis.proofs.Bools.{apart}
 use Rattle.basis.proofs.Part.{part-below}
 use Rattle.basis.proofs.Slots.{slots-in}
@@ -19,7 +20,7 @@ use Rattle.catalogue.specs.declared.reading.Reading.{Reading}
 use Rattle.catalogue.specs.Layout.{sizesOf, rowsOf, sizeFrom, partOf}
 use Rattle.catalogue.proofs.Listed.{listed-rows}
 use Rattle.catalogue.proofs.Readings.{reading-top}
-use Rattle.rating.specs.Losses.{sizeOf, readingOf, lossAt}
+use Rattle.rating.specs.Losses.{readingOf, lossAt}
 use Rattle.rating.proofs.Named.{list-long, list-names}
 use Rattle.rating.proofs.Upto.{Upto, upto-start, upto-more, upto-over, upto-end, over-row, over-limit, not-over}
 use Rattle.rating.proofs.sections.rate_sections.Statement.{statement}
