@@ -41,12 +41,12 @@ pub fn paths(job: Job, losses: [u32; 64]) -> [u32; 64]
     paths
 }
 
-// Elevation + free head + path loss at the end of a section.
-fn reach(s: Section, path: u32) -> i32
-    requires { ⌜ path ≤ 268365825 ⌝ }
-    ensures { λ r. ⌜ r ≡ (s .elevation) +ℤ pos (s .free + path) ⌝ }
+// Elevation + free head + `more` at the end of a section; with its path loss that is the section's reach.
+pub fn reach(s: Section, more: u32) -> i32
+    requires { ⌜ more ≤ 268365825 ⌝ }
+    ensures { λ r. ⌜ r ≡ (s .elevation) +ℤ pos (s .free + more) ⌝ }
 {
-    (s.elevation as i32) + ((s.free as u32 + path) as i32)
+    (s.elevation as i32) + ((s.free as u32 + more) as i32)
 }
 
 // The greatest reach over all sections, and the lowest section that has it.
