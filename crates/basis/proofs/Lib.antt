@@ -9,3 +9,4 @@ pub mod Part
 pub mod Concat
 pub mod Runs
 pub mod Round
+pub mod Paths

@@ -3,3 +3,4 @@ pub mod Slots
 pub mod Part
 pub mod Stored
 pub mod Round
+pub mod Sections

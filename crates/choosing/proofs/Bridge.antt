@@ -1,36 +1,34 @@
 -- The tree that is drawn from a job and a catalogue has the same suitable lists at the same costs: document 01's words both ways.
 -- Assumes nothing.
-use mathlib.Core.Path.{_≡_, sym, ap, _∙_}
-use mathlib.Core.Logic.{⊎-elim}
-use mathlib.Core.Bool.{true, false, not}
+use mathlib.Core.Path.{_≡_, sym, _∙_}
+use mathlib.Core.Bool.{true, false}
 use mathlib.Core.List.{List}
-use Prim.Native.Nat.{ℕ, zero, suc, _+_, _-_, _≤_, _<_}
-use native.Mathlib.Nat.{eq-zero-or-pos}
-use native.Mathlib.Omega.{arith}
-use borrow.Author.Tests.{eq-eqb, not-true}
+use Prim.Native.Nat.{ℕ, _+_, _≤_, _<_}
+use borrow.Author.Tests.{not-true}
 use lib.IntN.{pos, _+ℤ_}
 use lib.ListN.{length}
 use lib.Signed.{leZ}
 use Rattle.basis.specs.Range.{within}
+use Rattle.basis.specs.Sections.{sizeOf, pathOf}
 use Rattle.basis.proofs.Each.{all-each, any-at, any-each}
+use Rattle.basis.proofs.Paths.{path-ext}
 use Rattle.basis.proofs.Sum.{sum-ext}
 use Rattle.basis.proofs.Within.{Within, in-within}
 use Rattle.fields.specs.declared.Job.{Job}
 use Rattle.fields.specs.Fields.{countOf, sectionOf}
-use Rattle.tree.specs.Tree.{Rooted}
+use Rattle.tree.specs.Tree.{parentOf, Rooted}
+use Rattle.tree.proofs.Below.{parent-at}
 use Rattle.rules.proofs.HeadBounds.{head-in}
 use Rattle.demand.specs.Demand.{Ruled}
 use Rattle.demand.proofs.Ruling.{ruled-rooted, ruled-count}
 use Rattle.catalogue.specs.Layout.{sizesOf}
-use Rattle.heads.specs.Heads.{pathOf, reachOf, greatestTo, requiredOf}
-use Rattle.heads.proofs.Loss as heads
+use Rattle.heads.specs.Heads.{reachOf, greatestTo, requiredOf}
+use Rattle.heads.proofs.Loss.{parent-lower}
 use Rattle.heads.proofs.Signed.{le-trans}
 use Rattle.heads.proofs.Maximum.{Reached, greatest-bound, greatest-reached}
-use Rattle.sizing.specs.Losses.{sizeOf, listOk, overAt, overAny, lossesOf}
+use Rattle.sizing.specs.Losses.{listOk, overAt, overAny, lossesOf}
 use Rattle.sizing.proofs.Named.{list-all, list-long, list-names}
-use Rattle.nets.specs.Net.{Net, pathLoss, Suits}
-use Rattle.nets.specs.Net as net
-use Rattle.nets.proofs.Paths as tree
+use Rattle.nets.specs.Net.{Net, lossIn, pathIn, Suits, costIn}
 use Rattle.choosing.specs.Suitable.{Suitable, priceAt, costOf}
 use Rattle.choosing.specs.Shape.{headOf, Drawn}
 use Rattle.choosing.proofs.Shifted.{met-reach, reach-met, add-mono}
@@ -51,39 +49,26 @@ module _ (job : Job) (cat : List ℕ) (N : Net) (d : Drawn job cat N) (ruled : R
     loss-is : (i : ℕ) → 0 < i → i ≤ countOf job → N .loss i (sizeOf list i) ≡ lossesOf job cat list i
     loss-is i h k = let w = list-names job cat list named i h k in d .loss i (sizeOf list i) h k (w .low) (w .high) (under i h k)
 
-    at-pump : pathLoss N (sizeOf list) 0 ≡ pathOf job (lossesOf job cat list) 0
-    at-pump = tree.path-pump N (sizeOf list) ∙ sym (heads.path-pump job (lossesOf job cat list))
-
-    path-upto : (n i : ℕ) → i ≤ n → i ≤ countOf job → pathLoss N (sizeOf list) i ≡ pathOf job (lossesOf job cat list) i
-    path-upto zero i h k = let z : i ≡ 0 = omega arith in rw z at-pump
-    path-upto (suc n) i h k =
-        ⊎-elim
-        (λ z. rw z at-pump)
-        (λ l.
-        let p : sectionOf job i .parent < i = rooted .lower i l k in
-        tree.path-step N lower (sizeOf list) i l (rw (d .sections) k) ∙
-        rw (loss-is i l k, d .parent i l k, path-upto n (sectionOf job i .parent) (omega arith) (omega arith))
-        (sym (heads.path-step job rooted (lossesOf job cat list) i l k)))
-        (eq-zero-or-pos i)
-
-    pub path-is : (i : ℕ) → i ≤ countOf job → pathLoss N (sizeOf list) i ≡ pathOf job (lossesOf job cat list) i
-    path-is i k = path-upto i i (omega arith) k
+    pub path-is : (i : ℕ) → i ≤ countOf job → pathIn N (sizeOf list) i ≡ pathOf (parentOf job) (lossesOf job cat list) i
+    path-is =
+        path-ext (parent-lower job rooted) (N .parent) (λ i h k. d .parent i h k ∙ sym (parent-at job i h))
+        (lossesOf job cat list) (lossIn N (sizeOf list)) loss-is
 
     -- the end of section i: its free head at the delivered head, and what the search asks there
     module _ (i : ℕ) (low : 0 < i) (high : i ≤ countOf job) where
       pub met-of : leZ (pos (job .head .meter) +ℤ reachOf job (lossesOf job cat list) i) (pos (job .head .delivered)) ≡ true →
-          pathLoss N (sizeOf list) i + N .need i ≤ headOf job
+          pathIn N (sizeOf list) i + N .need i ≤ headOf job
       unfolding reachOf
       met-of e =
           rw (path-is i high)
-          (reach-met (sectionOf job i .elevation) (sectionOf job i .free) (pathOf job (lossesOf job cat list) i) (job .head .meter)
+          (reach-met (sectionOf job i .elevation) (sectionOf job i .free) (pathOf (parentOf job) (lossesOf job cat list) i) (job .head .meter)
           (job .head .delivered) (N .need i) (head-in (job .head) (ruled .head) .meter) (d .need i low high) e)
 
-      pub of-met : pathLoss N (sizeOf list) i + N .need i ≤ headOf job →
+      pub of-met : pathIn N (sizeOf list) i + N .need i ≤ headOf job →
           leZ (pos (job .head .meter) +ℤ reachOf job (lossesOf job cat list) i) (pos (job .head .delivered)) ≡ true
       unfolding reachOf
       of-met h =
-          met-reach (sectionOf job i .elevation) (sectionOf job i .free) (pathOf job (lossesOf job cat list) i) (job .head .meter)
+          met-reach (sectionOf job i .elevation) (sectionOf job i .free) (pathOf (parentOf job) (lossesOf job cat list) i) (job .head .meter)
           (job .head .delivered) (N .need i) (head-in (job .head) (ruled .head) .meter) (d .need i low high) (rw (path-is i high) at h)
 
   -- document 01's words to the search's
@@ -139,8 +124,8 @@ module _ (job : Job) (cat : List ℕ) (N : Net) (d : Drawn job cat N) (ruled : R
         }
 
   -- the same cost
-  pub cost-net : (list : List ℕ) → listOk job cat list ≡ true → net.costOf N list ≡ costOf job cat list
-  unfolding net.costOf costOf
+  pub cost-net : (list : List ℕ) → listOk job cat list ≡ true → costIn N list ≡ costOf job cat list
+  unfolding costIn costOf
   cost-net list named =
       rw (d .sections)
       (sum-ext (countOf job) (λ i. N .cost i (sizeOf list i)) (λ i. priceAt job cat (sizeOf list i) i)

@@ -7,6 +7,7 @@ use Prim.Native.Nat.{ℕ, _≤_}
 use native.Mathlib.Omega.{arith}
 use lib.ListN.{length}
 use Rattle.basis.specs.Stored.{stored}
+use Rattle.basis.specs.Sections.{sizeOf}
 use Rattle.basis.proofs.Sum.{sum-le}
 use Rattle.fields.specs.declared.Job.{Job}
 use Rattle.fields.specs.Fields.{countOf}
@@ -16,7 +17,6 @@ use Rattle.record.specs.Record.{decode}
 use Rattle.demand.specs.Demand.{Accepted}
 use Rattle.demand.proofs.Ruling.{ruled-count}
 use Rattle.catalogue.specs.Shape.{Listed}
-use Rattle.sizing.specs.Losses.{sizeOf}
 use Rattle.acceptance.specs.Acceptance.{inputNo}
 use Rattle.sizing.proofs.Named.{list-names}
 use Rattle.acceptance.proofs.Accepting.{input-accepted, input-listed}

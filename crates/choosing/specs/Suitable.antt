@@ -7,11 +7,12 @@ use Prim.Native.Nat.{ℕ, _*_}
 use lib.IntN.{pos}
 use lib.Signed.{leZ}
 use Rattle.basis.specs.Range.{sumTo}
+use Rattle.basis.specs.Sections.{sizeOf}
 use Rattle.fields.specs.declared.Job.{Job}
 use Rattle.fields.specs.Fields.{countOf, sectionOf}
 use Rattle.catalogue.specs.Layout.{priceOf}
 use Rattle.heads.specs.Heads.{requiredOf}
-use Rattle.sizing.specs.Losses.{sizeOf, listOk, overAny, lossesOf}
+use Rattle.sizing.specs.Losses.{listOk, overAny, lossesOf}
 
 pub record Suitable (job : Job) (cat list : List ℕ) : Type 0 where
   -- each section has one of the catalogue's sizes

@@ -20,7 +20,7 @@ fn need(s: Section) -> u32
     requires { ⌜ elevationOk (s .elevation) ≡ true ⌝ }
     ensures { λ r. ⌜ pos r ≡ s .elevation +ℤ pos (s .free + shift) ⌝ }
 {
-    ((s.elevation as i32) + ((s.free as u32 + 1000) as i32)) as u32
+    heads::reach(s, 1000) as u32
 }
 
 pub fn ends_of(job: Job) -> Ends

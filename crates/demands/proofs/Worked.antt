@@ -9,6 +9,7 @@ use native.Mathlib.Omega.{arith}
 use lib.IntN.{pos}
 use lib.ListN.{length}
 use lib.Signed.{leZ}
+use Rattle.basis.specs.Sections.{pathFrom, pathOf}
 use Rattle.basis.specs.Range.{sumTo, allTo, anyTo}
 use Rattle.basis.specs.Round.{up, line}
 use Rattle.basis.specs.Slots.{tabulate, slots}
@@ -48,7 +49,7 @@ use Rattle.catalogue.specs.Layout.{boreOf, priceOf, partOf, flowAt, velocityAt,
 use Rattle.catalogue.specs.Rules.{shapeOk, rowOk, risesAt, rowsOk, sizeOk, sizesOk, catChecks, catNo}
 use Rattle.catalogue.specs.Reading.{between, servesAt, readRows}
 use Rattle.heads.specs.Signed.{greater, clamped}
-use Rattle.heads.specs.Heads.{pathFrom, pathOf, reachOf, greatestTo, requiredOf, pumpOf, lowestTo, dictatingOf}
+use Rattle.heads.specs.Heads.{reachOf, greatestTo, requiredOf, pumpOf, lowestTo, dictatingOf}
 use Rattle.sizing.specs.Losses.{listOk, readingOf, overBy, overAt, overAny, lossOf, lossAt, lossesOf}
 use Rattle.acceptance.specs.Acceptance.{inputChecks}
 use Rattle.rating.specs.Calls.{rateChecks, rateNo}

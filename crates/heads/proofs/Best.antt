@@ -9,12 +9,14 @@ use lib.IntN.{ℤ, pos, _+ℤ_}
 use lib.ListN.{getD}
 use lib.Signed.{ltZ, leZ}
 use Rattle.basis.specs.Slots.{slots}
+use Rattle.basis.specs.Sections.{pathOf}
 use Rattle.basis.proofs.Slots.{slots-in}
 use Rattle.basis.proofs.Bools.{never, apart}
 use Rattle.fields.specs.declared.Job.{Job}
 use Rattle.fields.specs.Fields.{countOf, sectionOf}
+use Rattle.tree.specs.Tree.{parentOf}
 use Rattle.heads.specs.Signed.{greater}
-use Rattle.heads.specs.Heads.{pathOf, reachOf, greatestTo, lowestTo, dictatingOf}
+use Rattle.heads.specs.Heads.{reachOf, greatestTo, lowestTo, dictatingOf}
 use Rattle.heads.proofs.Signed.{le-self, le-trans, le-total, less-not, not-less, greater-first, greater-second}
 use Rattle.heads.proofs.Maximum.{greatest-one, greatest-more, greatest-bound, greatest-ext}
 use Rattle.heads.proofs.Lowest.{Lowest, lowest-only}
@@ -91,12 +93,12 @@ abbrev pub reachIn : Job → List ℕ → ℕ → ℤ
 reachIn job paths i = sectionOf job i .elevation +ℤ pos (sectionOf job i .free + getD paths i 0)
 
 -- over the path losses at their places, the best of all sections is the greatest reach and the dictating section
-pub best-end : (job : Job) (loss : ℕ → ℕ) (paths : List ℕ) → paths ≡ slots 64 1 (countOf job + 1) 0 (pathOf job loss) →
+pub best-end : (job : Job) (loss : ℕ → ℕ) (paths : List ℕ) → paths ≡ slots 64 1 (countOf job + 1) 0 (pathOf (parentOf job) loss) →
     0 < countOf job → countOf job ≤ 63 → (top : ℤ) (section : ℕ) → Best (reachIn job paths) (countOf job) top section →
     (top ≡ greatestTo (countOf job) (reachOf job loss)) × (section ≡ dictatingOf job loss)
 unfolding reachOf dictatingOf
 best-end job loss paths e some few top section b =
     let all = best-ext (reachIn job paths) (reachOf job loss) (countOf job) some
-    (λ i h k. rw (e, slots-in 64 1 (countOf job + 1) 0 (pathOf job loss) i 0 h (omega arith) (omega arith)))
+    (λ i h k. rw (e, slots-in 64 1 (countOf job + 1) 0 (pathOf (parentOf job) loss) i 0 h (omega arith) (omega arith)))
     top section b in
     (all .greatest, best-section (reachOf job loss) (countOf job) top section all)

@@ -9,14 +9,15 @@ use lib.IntN.{pos}
 use lib.ListN.{getD}
 use lib.Signed.{mag}
 use Rattle.basis.specs.Slots.{slots}
+use Rattle.basis.specs.Sections.{pathOf}
 use Rattle.fields.specs.declared.Job.{Job}
 use Rattle.fields.specs.Fields.{countOf, sectionOf}
-use Rattle.tree.specs.Tree.{Rooted}
+use Rattle.tree.specs.Tree.{parentOf, Rooted}
 use Rattle.rules.proofs.HeadBounds.{HeadIn, head-in}
 use Rattle.rules.proofs.SectionBounds.{SectionIn}
 use Rattle.rules.proofs.Kept.{rooted-of, sections-in}
 use Rattle.rules.proofs.Elevation.{elevation-small}
-use Rattle.heads.specs.Heads.{pathOf, reachOf, greatestTo, requiredOf, dictatingOf}
+use Rattle.heads.specs.Heads.{reachOf, greatestTo, requiredOf, dictatingOf}
 use Rattle.heads.specs.Shape.{Given}
 use Rattle.heads.proofs.Signed.{add-mag}
 use Rattle.heads.proofs.Loss.{path-top, path-held}
@@ -30,10 +31,10 @@ module _ {job : Job} {losses : List ℕ} (g : Given job losses) where
   pub given-rooted : Rooted job
   given-rooted = rooted-of job (omega (arith, given-head .sections .high)) (g .sections)
 
-  pub path-small : (i : ℕ) → i ≤ countOf job → pathOf job (λ i. getD losses i 0) i ≤ 268365825
+  pub path-small : (i : ℕ) → i ≤ countOf job → pathOf (parentOf job) (λ i. getD losses i 0) i ≤ 268365825
   path-small i k = omega (arith, path-top job given-rooted (λ i. getD losses i 0) (g .top) i k, given-rooted .few)
 
-  pub held-small : (paths : List ℕ) → paths ≡ slots 64 1 (countOf job + 1) 0 (pathOf job (λ i. getD losses i 0)) →
+  pub held-small : (paths : List ℕ) → paths ≡ slots 64 1 (countOf job + 1) 0 (pathOf (parentOf job) (λ i. getD losses i 0)) →
       (i : ℕ) → i ≤ countOf job → getD paths i 0 ≤ 268365825
   held-small paths e i k =
       rw (e, path-held job (λ i. getD losses i 0) (countOf job + 1) i (omega arith) (omega (arith, given-rooted .few))) (path-small i k)
@@ -42,7 +43,7 @@ module _ {job : Job} {losses : List ℕ} (g : Given job losses) where
   unfolding reachOf
   reach-small i h k =
       let s : SectionIn i (sectionOf job i) = sections-in job (g .sections) i h k in
-      add-mag (sectionOf job i .elevation) (pos (sectionOf job i .free + pathOf job (λ i. getD losses i 0) i)) 268372827
+      add-mag (sectionOf job i .elevation) (pos (sectionOf job i .free + pathOf (parentOf job) (λ i. getD losses i 0) i)) 268372827
       (omega (arith, elevation-small (sectionOf job i .elevation) (s .elevation), s .free, path-small i k))
 
   pub greatest-small : mag (greatestTo (countOf job) (reachOf job (λ i. getD losses i 0))) < 268372827

@@ -1,4 +1,4 @@
--- Signed numbers: the order's laws, the greater of two, the size of a sum, a number that is not below 0, and 32 bits.
+-- Signed numbers: the order's laws, the greater of two, the size of a sum and a number that is not below 0.
 -- Assumes nothing.
 use mathlib.Core.Path.{_≡_, refl, sym, ap, _∙_}
 use mathlib.Core.Logic.{⊎-elim}
@@ -11,7 +11,7 @@ use lib.Signed.{mag, ltZ, leZ, nonNeg}
 use borrow.Author.Tests.{ltb-true, ltb-false, le-leb, lt-leb, leb-true, lt-ltb, le-ltb, not-true, not-false}
 use Rattle.basis.proofs.Split.{lt-or-ge, either}
 use Rattle.basis.proofs.Bools.{apart}
-use Rattle.heads.specs.Signed.{greater, clamped, bits32Of}
+use Rattle.heads.specs.Signed.{greater, clamped}
 
 le-same : (a : ℕ) → leb a a ≡ true
 le-same a = le-leb a a (omega arith)
@@ -101,19 +101,3 @@ pub clamped-none : (z : ℤ) → ltZ (pos 0) z ≡ false → 0 ≡ clamped z
 unfolding clamped
 clamped-none (pos n) e = omega (arith, ltb-false 0 n e)
 clamped-none (negsuc n) e = refl
-
--- a negative number with 2 to the 32 added is its bits, and one that is not negative is them as it stands
-pub bits-negative : (z : ℤ) → ltZ z (pos 0) ≡ true → mag z < 2147483648 → z +ℤ pos 4294967296 ≡ pos (bits32Of z)
-unfolding bits32Of
-bits-negative (pos n) e h = absurd (omega (arith, ltb-true n 0 e))
-bits-negative (negsuc n) e h = rw (le-ltb 4294967296 (suc n) (omega arith))
-
-pub bits-positive : (z : ℤ) → ltZ z (pos 0) ≡ false → T (nonNeg z) × (natAbs z ≡ bits32Of z)
-unfolding bits32Of
-bits-positive (pos n) e = (tt, refl)
-bits-positive (negsuc n) e = absurd (apart refl e)
-
-pub bits-lt : (z : ℤ) → mag z < 2147483648 → bits32Of z < 4294967296
-unfolding bits32Of
-bits-lt (pos n) h = omega arith
-bits-lt (negsuc n) h = omega arith

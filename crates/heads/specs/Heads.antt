@@ -1,28 +1,19 @@
--- Document 01, "Rating and choosing": path loss, required head, pump head and dictating section, over losses as a function.
+-- Document 01, "Rating and choosing": required head, pump head and dictating section, over losses as a function.
 -- Assumes nothing.
-use Prim.Native.Nat.{ℕ, zero, suc, _+_, _-_}
+use Prim.Native.Nat.{ℕ, zero, suc, _+_}
 use mathlib.Core.Bool.{Bool, cond}
-use lib.Dec.{eqb}
 use lib.IntN.{ℤ, pos, _+ℤ_, _-ℤ_}
 use lib.Signed.{leZ}
 use Rattle.basis.specs.Range.{anyTo}
+use Rattle.basis.specs.Sections.{pathOf}
 use Rattle.fields.specs.declared.Job.{Job}
 use Rattle.fields.specs.Fields.{countOf, sectionOf}
 use Rattle.tree.specs.Tree.{parentOf}
 use Rattle.heads.specs.Signed.{greater, clamped}
 
--- a section's own loss plus its parent's path loss, which is 0 at the pump; at most n sections are met
-unfoldable pub pathFrom : ℕ → Job → (ℕ → ℕ) → ℕ → ℕ
-pathFrom zero job loss i = 0
-pathFrom (suc n) job loss i = cond (eqb i 0) 0 (loss i + pathFrom n job loss (parentOf job i))
-
--- the path loss of section i; 63 sections are the most there can be on the way
-unfoldable pub pathOf : Job → (ℕ → ℕ) → ℕ → ℕ
-pathOf job loss i = pathFrom 63 job loss i
-
 -- elevation + free head + path loss at the end of section i
 unfoldable pub reachOf : Job → (ℕ → ℕ) → ℕ → ℤ
-reachOf job loss i = sectionOf job i .elevation +ℤ pos (sectionOf job i .free + pathOf job loss i)
+reachOf job loss i = sectionOf job i .elevation +ℤ pos (sectionOf job i .free + pathOf (parentOf job) loss i)
 
 -- the greatest of f 1 to f n; 3 sees to it that n is at least 1
 unfoldable pub greatestTo : ℕ → (ℕ → ℤ) → ℤ

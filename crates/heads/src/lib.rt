@@ -6,9 +6,10 @@ ghost use Prim.Native.Nat.{_+_, _≤_};
 ghost use lib.ListN.{getD};
 ghost use lib.IntN.{pos, _+ℤ_};
 ghost use Rattle.basis.specs.Slots.{slots};
+ghost use Rattle.basis.specs.Sections.{pathOf};
 ghost use Rattle.fields.specs.Fields.{countOf};
-ghost use Rattle.heads.specs.Signed.{bits32Of};
-ghost use Rattle.heads.specs.Heads.{pathOf, reachOf, greatestTo, requiredOf, pumpOf, dictatingOf};
+ghost use Rattle.tree.specs.Tree.{parentOf};
+ghost use Rattle.heads.specs.Heads.{reachOf, greatestTo, requiredOf, pumpOf, dictatingOf};
 ghost use Rattle.heads.specs.Shape.{Given};
 
 // Required head in cm, pump head in cm, and the dictating section.
@@ -27,7 +28,7 @@ struct Greatest {
 // The path loss of each section, at the section's place; a parent comes before its sections.
 pub fn paths(job: Job, losses: [u32; 64]) -> [u32; 64]
     requires { ⌜ Given job losses ⌝ }
-    ensures { λ r. ⌜ r ≡ slots 64 1 (countOf job + 1) 0 (pathOf job (λ i. getD losses i 0)) ⌝ }
+    ensures { λ r. ⌜ r ≡ slots 64 1 (countOf job + 1) 0 (pathOf (parentOf job) (λ i. getD losses i 0)) ⌝ }
 {
     let count = job.head.sections as usize;
     let mut paths = [0u32; 64];
@@ -40,12 +41,12 @@ pub fn paths(job: Job, losses: [u32; 64]) -> [u32; 64]
     paths
 }
 
-// Elevation + free head + path loss at the end of a section.
-fn reach(s: Section, path: u32) -> i32
-    requires { ⌜ path ≤ 268365825 ⌝ }
-    ensures { λ r. ⌜ r ≡ (s .elevation) +ℤ pos (s .free + path) ⌝ }
+// Elevation + free head + `more` at the end of a section; with its path loss that is the section's reach.
+pub fn reach(s: Section, more: u32) -> i32
+    requires { ⌜ more ≤ 268365825 ⌝ }
+    ensures { λ r. ⌜ r ≡ (s .elevation) +ℤ pos (s .free + more) ⌝ }
 {
-    (s.elevation as i32) + ((s.free as u32 + path) as i32)
+    (s.elevation as i32) + ((s.free as u32 + more) as i32)
 }
 
 // The greatest reach over all sections, and the lowest section that has it.
@@ -89,16 +90,5 @@ pub fn heads_of(job: Job, losses: [u32; 64]) -> Heads
         required,
         pump,
         dictating: best.section,
-    }
-}
-
-// The 32 bits of a signed number.
-pub fn bits32(z: i32) -> u32
-    ensures { λ r. ⌜ r ≡ bits32Of z ⌝ }
-{
-    if z < 0 {
-        ((z as i64) + 4294967296) as u32
-    } else {
-        z as u32
     }
 }

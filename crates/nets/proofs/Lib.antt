@@ -1,3 +1,2 @@
-pub mod Greatest
-pub mod Paths
-pub mod Required
+pub mod Most
+pub mod Heads

@@ -4,19 +4,19 @@ use mathlib.Core.Path.{_≡_, sym, _∙_}
 use mathlib.Core.Logic.{⊎-elim}
 use mathlib.Core.Bool.{true}
 use mathlib.Core.List.{List}
-use Prim.Native.Nat.{ℕ, zero, suc, _+_, _-_, _≤_, _<_, min}
-use native.Mathlib.Nat.{eq-zero-or-pos}
+use Prim.Native.Nat.{ℕ, _+_, _-_, _≤_, _<_, min}
 use native.Mathlib.Omega.{arith}
 use lib.Dec.{leb}
 use lib.ListN.{length}
 use borrow.Author.Tests.{le-leb, leb-true}
+use Rattle.basis.specs.Sections.{sizeOf}
+use Rattle.basis.proofs.Paths.{path-pump, path-step, by-parent}
 use Rattle.basis.proofs.Sum.{sum-le}
 use Rattle.basis.proofs.Split.{lt-or-ge}
 use Rattle.basis.proofs.Bools.{left, right}
-use Rattle.nets.specs.Net.{Net, sizeOf, pathLoss, Suits, costOf, Best, None}
+use Rattle.nets.specs.Net.{Net, lossIn, pathIn, Suits, costIn, Best, None}
 use Rattle.plan.specs.Plan.{mark, cell, planOf, Usable}
 use Rattle.nets.specs.Tables.{Sound}
-use Rattle.nets.proofs.Paths.{path-pump, path-step}
 use Rattle.plan.proofs.Potential.{Serves, Good, good-cost, at-least}
 
 -- a size that a section may take leaves its end what it needs
@@ -43,14 +43,14 @@ cut-same a x l u v b m =
 module _ (N : Net) (lower : (s : ℕ) → 0 < s → s ≤ N .sections → N .parent s < s) (a : ℕ) (high : ℕ → ℕ) (usable : Usable N a high) (b : ℕ) (most : b ≤ a) where
   -- the heads that a list leaves, as far as they can be used
   abbrev headsOf : List ℕ → ℕ → ℕ
-  headsOf z s = min (b - pathLoss N (sizeOf z) s) (high s)
+  headsOf z s = min (b - pathIn N (sizeOf z) s) (high s)
 
   headsOf-pump : (z : List ℕ) → headsOf z 0 ≡ min b (high 0)
-  headsOf-pump z = let e : b - pathLoss N (sizeOf z) 0 ≡ b = omega (arith, path-pump N (sizeOf z)) in rw e
+  headsOf-pump z = let e : b - pathIn N (sizeOf z) 0 ≡ b = omega (arith, path-pump (N .parent) (lossIn N (sizeOf z))) in rw e
 
   suits-serve : (z : List ℕ) → Suits N b z → (s : ℕ) → 0 < s → s ≤ N .sections → Serves (planOf N high) (sizeOf z) (headsOf z) s
   suits-serve z u s p l =
-      let e = path-step N lower (sizeOf z) s p l in
+      let e = path-step lower (lossIn N (sizeOf z)) s p l in
       let m = usable .below s (sizeOf z s) p l (u .sized s p l .0) (u .sized s p l .1) (u .allowed s p l) in
       record {
         low = u .sized s p l .0;
@@ -60,9 +60,9 @@ module _ (N : Net) (lower : (s : ℕ) → 0 < s → s ≤ N .sections → N .par
           le-leb (N .loss s (sizeOf z s) + N .need s) (headsOf z (N .parent s)) (omega (arith, e, m, u .met s p l, usable .own s l)),
         );
         state =
-            let d : b - pathLoss N (sizeOf z) s ≡ b - pathLoss N (sizeOf z) (N .parent s) - N .loss s (sizeOf z s) = omega (arith, e) in
+            let d : b - pathIn N (sizeOf z) s ≡ b - pathIn N (sizeOf z) (N .parent s) - N .loss s (sizeOf z s) = omega (arith, e) in
             rw d
-            (sym (cut-same a (b - pathLoss N (sizeOf z) (N .parent s)) (N .loss s (sizeOf z s)) (high (N .parent s)) (high s) (omega arith) m));
+            (sym (cut-same a (b - pathIn N (sizeOf z) (N .parent s)) (N .loss s (sizeOf z s)) (high (N .parent s)) (high s) (omega arith) m));
       }
 
   -- where all sections serve
@@ -70,44 +70,35 @@ module _ (N : Net) (lower : (s : ℕ) → 0 < s → s ≤ N .sections → N .par
     serve-fits : (s : ℕ) → 0 < s → s ≤ N .sections → N .loss s (z s) + N .need s ≤ h (N .parent s)
     serve-fits s p l = ok-fits N high s (z s) (h (N .parent s)) (all s p l .met)
 
-    heads-pump : (h 0 ≡ min (b - pathLoss N z 0) (high 0)) × (pathLoss N z 0 ≤ b)
-    heads-pump =
-        let e : b - pathLoss N z 0 ≡ b = omega (arith, path-pump N z) in
-        (rw e start, omega (arith, path-pump N z))
-
-    -- by steps to the parent, of which there are at most m
-    heads-from : (m s : ℕ) → s ≤ m → s ≤ N .sections → (h s ≡ min (b - pathLoss N z s) (high s)) × (pathLoss N z s ≤ b)
-    heads-from zero s i l = let e : s ≡ 0 = omega arith in rw e heads-pump
-    heads-from (suc m) s i l =
-        ⊎-elim
-        (λ e. rw e heads-pump)
-        (λ p.
-        let q : N .parent s < s = lower s p l in
+    heads-are : (s : ℕ) → s ≤ N .sections → (h s ≡ min (b - pathIn N z s) (high s)) × (pathIn N z s ≤ b)
+    heads-are =
+        by-parent lower (λ s. (h s ≡ min (b - pathIn N z s) (high s)) × (pathIn N z s ≤ b))
+        (let e : b - pathIn N z 0 ≡ b = omega (arith, path-pump (N .parent) (lossIn N z)) in
+        (rw e start, omega (arith, path-pump (N .parent) (lossIn N z))))
+        (λ s p l up.
         let o = all s p l in
-        let up = heads-from m (N .parent s) (omega arith) (omega arith) in
-        let st = path-step N lower z s p l in
+        let st = path-step lower (lossIn N z) s p l in
         let fits = serve-fits s p l in
-        let d : b - pathLoss N z s ≡ b - pathLoss N z (N .parent s) - N .loss s (z s) = omega (arith, st) in (
+        let d : b - pathIn N z s ≡ b - pathIn N z (N .parent s) - N .loss s (z s) = omega (arith, st) in (
           o .state ∙
               rw (up .0, d)
-              (cut-same a (b - pathLoss N z (N .parent s)) (N .loss s (z s)) (high (N .parent s)) (high s) (omega arith)
+              (cut-same a (b - pathIn N z (N .parent s)) (N .loss s (z s)) (high (N .parent s)) (high s) (omega arith)
               (usable .below s (z s) p l (o .low) (o .high) (left (N .allowed s (z s)) _ (o .met)))),
           omega (arith, up, st, fits),
         ))
-        (eq-zero-or-pos s)
 
-    serve-met : (s : ℕ) → 0 < s → s ≤ N .sections → pathLoss N z s + N .need s ≤ b
+    serve-met : (s : ℕ) → 0 < s → s ≤ N .sections → pathIn N z s + N .need s ≤ b
     serve-met s p l =
         let q : N .parent s < s = lower s p l in
-        omega (arith, heads-from (N .parent s) (N .parent s) (omega arith) (omega arith), path-step N lower z s p l, serve-fits s p l)
+        omega (arith, heads-are (N .parent s) (omega arith), path-step lower (lossIn N z) s p l, serve-fits s p l)
 
-  pub cost-at-least : (y : List ℕ) → Suits N b y → cell (planOf N high) 0 0 (min b (high 0)) ≤ costOf N y
-  unfolding costOf
+  pub cost-at-least : (y : List ℕ) → Suits N b y → cell (planOf N high) 0 0 (min b (high 0)) ≤ costIn N y
+  unfolding costIn
   cost-at-least y u = at-least (planOf N high) lower (min b (high 0)) (sizeOf y) (headsOf y) (headsOf-pump y) (suits-serve y u)
 
   module _ (z : List ℕ) (h : ℕ → ℕ) (g : Good (planOf N high) (min b (high 0)) (sizeOf z) h (N .sections)) where
-    pub cost-of : costOf N z ≡ cell (planOf N high) 0 0 (min b (high 0))
-    unfolding costOf
+    pub cost-of : costIn N z ≡ cell (planOf N high) 0 0 (min b (high 0))
+    unfolding costIn
     cost-of = good-cost (planOf N high) (min b (high 0)) (sizeOf z) h g
 
     pub best-of : length z ≡ N .sections → Best N b z
@@ -125,7 +116,7 @@ module _ (N : Net) (lower : (s : ℕ) → 0 < s → s ≤ N .sections → N .par
 
 -- 63 costs stay below the mark
 pub none-suits : (N : Net) → Sound N → (a : ℕ) (high : ℕ → ℕ) → Usable N a high → (b : ℕ) → b ≤ a → mark ≤ cell (planOf N high) 0 0 (min b (high 0)) → None N b
-unfolding costOf
+unfolding costIn
 none-suits N sound a high usable b l m =
     record {
       none = λ y u. omega (

@@ -4,20 +4,20 @@ use mathlib.Core.Path.{_≡_, refl, sym, _∙_}
 use mathlib.Core.Logic.{⊎-elim}
 use mathlib.Core.Bool.{Bool, true, false}
 use mathlib.Core.List.{List}
-use Prim.Native.Nat.{ℕ, zero, suc, _+_, _-_, _*_, _≤_, _<_, max}
-use native.Mathlib.Nat.{eq-zero-or-pos}
+use Prim.Native.Nat.{ℕ, _+_, _-_, _*_, _≤_, _<_, max}
 use native.Mathlib.Omega.{arith}
 use lib.Dec.{ltb}
 use lib.ListN.{length, getD, set, length-set}
 use lib.Seq.{getD-set-same, getD-set-other}
 use borrow.Author.Tests.{lt-ltb, ltb-true}
+use Rattle.basis.specs.Sections.{sizeOf}
+use Rattle.basis.proofs.Paths.{path-step, path-mono}
 use Rattle.basis.proofs.Sum.{sum-mono}
 use Rattle.basis.proofs.Split.{eq-or-ne}
-use Rattle.nets.specs.Net.{Net, sizeOf, pathLoss, Suits, costOf, requiredOf, Found, None}
+use Rattle.nets.specs.Net.{Net, lossIn, pathIn, Suits, costIn, headIn, Found, None}
 use Rattle.pruning.specs.Keeps.{Keeps}
 use Rattle.nets.specs.Tables.{top, netOf, Sound}
-use Rattle.nets.proofs.Paths.{path-pump, path-step}
-use Rattle.nets.proofs.Required.{required-bound, required-least, suits-required}
+use Rattle.nets.proofs.Heads.{head-bound, head-least, suits-head}
 
 module _ (a : ℕ) where
   pub keeps-self : (N : Net) → Keeps a N N
@@ -61,33 +61,20 @@ pub record Stands (N M : Net) (z y : List ℕ) : Type 0 where
   pub fine : (s : ℕ) → 0 < s → s ≤ N .sections → M .allowed s (sizeOf y s) ≡ true
   pub short : (s : ℕ) → 0 < s → s ≤ N .sections → M .loss s (sizeOf y s) ≤ N .loss s (sizeOf z s)
   pub cheap : (s : ℕ) → 0 < s → s ≤ N .sections → M .cost s (sizeOf y s) ≤ N .cost s (sizeOf z s)
-  pub asks : (s : ℕ) → 0 < s → s ≤ N .sections → pathLoss N (sizeOf z) s + M .need s ≤ requiredOf N z
+  pub asks : (s : ℕ) → 0 < s → s ≤ N .sections → pathIn N (sizeOf z) s + M .need s ≤ headIn N z
 
 module _ {N M : Net} (lower : (s : ℕ) → 0 < s → s ≤ N .sections → N .parent s < s) {z y : List ℕ} (st : Stands N M z y) where
-  lower′ : (s : ℕ) → 0 < s → s ≤ M .sections → M .parent s < s
-  lower′ s p l = rw (st .up s) (lower s p (omega (arith, st .count)))
+  path-less : (s : ℕ) → s ≤ N .sections → pathIn M (sizeOf y) s ≤ pathIn N (sizeOf z) s
+  path-less = path-mono lower (M .parent) (λ s p l. st .up s) (lossIn N (sizeOf z)) (lossIn M (sizeOf y)) (st .short)
 
-  -- by steps to the parent, of which there are at most m
-  path-from : (m s : ℕ) → s ≤ m → s ≤ N .sections → pathLoss M (sizeOf y) s ≤ pathLoss N (sizeOf z) s
-  path-from zero s b l = let e : s ≡ 0 = omega arith in rw e (omega (arith, path-pump M (sizeOf y)))
-  path-from (suc m) s b l =
-      ⊎-elim
-      (λ e. rw e (omega (arith, path-pump M (sizeOf y))))
-      (λ p.
-      let q : N .parent s < s = lower s p l in
-      let e : pathLoss M (sizeOf y) s ≡ M .loss s (sizeOf y s) + pathLoss M (sizeOf y) (N .parent s) =
-      rw (← st .up s) (path-step M lower′ (sizeOf y) s p (omega (arith, st .count))) in
-      omega (arith, path-from m (N .parent s) (omega arith) (omega arith), e, path-step N lower (sizeOf z) s p l, st .short s p l))
-      (eq-zero-or-pos s)
+  stands-met : (s : ℕ) → 0 < s → s ≤ M .sections → pathIn M (sizeOf y) s + M .need s ≤ headIn N z
+  stands-met s p l = let e = st .count in omega (arith, st .asks s p (omega arith), path-less s (omega arith))
 
-  stands-met : (s : ℕ) → 0 < s → s ≤ M .sections → pathLoss M (sizeOf y) s + M .need s ≤ requiredOf N z
-  stands-met s p l = let e = st .count in omega (arith, st .asks s p (omega arith), path-from s s (omega arith) (omega arith))
+  pub stands-head : headIn M y ≤ headIn N z
+  stands-head = head-least M y (headIn N z) stands-met
 
-  pub stands-head : requiredOf M y ≤ requiredOf N z
-  stands-head = required-least M y (requiredOf N z) stands-met
-
-  pub stands-cost : costOf M y ≤ costOf N z
-  unfolding costOf
+  pub stands-cost : costIn M y ≤ costIn N z
+  unfolding costIn
   stands-cost = rw (st .count) (sum-mono (N .sections) (λ s. M .cost s (sizeOf y s)) (λ s. N .cost s (sizeOf z s)) (st .cheap))
 
   pub stands-suits : (a : ℕ) → Suits N a z → Suits M a y
@@ -97,7 +84,7 @@ module _ {N M : Net} (lower : (s : ℕ) → 0 < s → s ≤ N .sections → N .p
         long = st .long ∙ sym e;
         sized = λ s p l. st .sized s p (omega arith);
         allowed = λ s p l. st .fine s p (omega arith);
-        met = λ s p l. omega (arith, stands-met s p l, suits-required N z a u);
+        met = λ s p l. omega (arith, stands-met s p l, suits-head N z a u);
       }
 
 -- a list of M is alike in both, and one of M stands for each of N
@@ -121,7 +108,7 @@ stands-self : (sections sizes : ℕ) (parents costs needs losses needs′ losses
     length z ≡ sections → ((s : ℕ) → 0 < s → s ≤ sections → (0 < sizeOf z s) × (sizeOf z s ≤ sizes)) →
     ((s : ℕ) → 0 < s → s ≤ sections → M .allowed s (sizeOf z s) ≡ true) →
     ((s : ℕ) → 0 < s → s ≤ sections → M .loss s (sizeOf z s) ≤ N .loss s (sizeOf z s)) →
-    ((s : ℕ) → 0 < s → s ≤ sections → pathLoss N (sizeOf z) s + M .need s ≤ requiredOf N z) → Stands N M z z
+    ((s : ℕ) → 0 < s → s ≤ sections → pathIn N (sizeOf z) s + M .need s ≤ headIn N z) → Stands N M z z
 stands-self sections sizes parents costs needs losses needs′ losses′ z l r f h k =
     record { count = refl; up = λ s. refl; long = l; sized = r; fine = f; short = h; cheap = λ s p b. omega arith; asks = k }
 
@@ -157,8 +144,8 @@ module _ (sections sizes : ℕ) (parents needs losses costs : List ℕ) (a : ℕ
     drop-back z u =
         let e : (j : ℕ) → 0 < j → j ≤ sections → getD less (j * 13 + sizeOf z j) 0 ≡ getD losses (j * 13 + sizeOf z j) 0 =
         λ j p l. left-as (j * 13 + sizeOf z j) (u .allowed j p l) in (
-          stands-self sections sizes parents costs needs losses needs less z (u .long) (u .sized) (u .allowed) (λ j p l. omega (arith, e j p l)) (required-bound N z),
-          stands-self sections sizes parents costs needs less needs losses z (u .long) (u .sized) (λ j p l. rw (← e j p l) (u .allowed j p l)) (λ j p l. omega (arith, e j p l)) (required-bound M z),
+          stands-self sections sizes parents costs needs losses needs less z (u .long) (u .sized) (u .allowed) (λ j p l. omega (arith, e j p l)) (head-bound N z),
+          stands-self sections sizes parents costs needs less needs losses z (u .long) (u .sized) (λ j p l. rw (← e j p l) (u .allowed j p l)) (λ j p l. omega (arith, e j p l)) (head-bound M z),
         )
 
     -- a list without it stands for itself
@@ -166,13 +153,13 @@ module _ (sections sizes : ℕ) (parents needs losses costs : List ℕ) (a : ℕ
     drop-same z u n =
         let e : (j : ℕ) → 0 < j → j ≤ sections → getD less (j * 13 + sizeOf z j) 0 ≡ getD losses (j * 13 + sizeOf z j) 0 =
         λ j p l. others j (sizeOf z j) (u .sized j p l .1) (λ i k. n (rw i at k)) in
-        stands-self sections sizes parents costs needs losses needs less z (u .long) (u .sized) (λ j p l. rw (e j p l) (u .allowed j p l)) (λ j p l. omega (arith, e j p l)) (required-bound N z)
+        stands-self sections sizes parents costs needs losses needs less z (u .long) (u .sized) (λ j p l. rw (e j p l) (u .allowed j p l)) (λ j p l. omega (arith, e j p l)) (head-bound N z)
 
     -- too long: no list that suits has it
     pub keeps-long : a < getD losses (s * 13 + t) 0 + getD needs s 0 → Keeps a N M
     keeps-long b =
         keeps-by a (sound .lower) (sound .lower) drop-back
-        (λ z u. (z, drop-same z u (λ e. omega (arith, rw e at (path-step N (sound .lower) (sizeOf z) s low high), u .met s low high))))
+        (λ z u. (z, drop-same z u (λ e. omega (arith, rw e at (path-step (sound .lower) (lossIn N (sizeOf z)) s low high), u .met s low high))))
 
     -- no better than size k: that takes its place
     module _ (k : ℕ) (kl : 0 < k) (kh : k ≤ sizes) (ne : k ≡ t → ⊥) (real : getD losses (s * 13 + k) 0 < top)
@@ -203,7 +190,7 @@ module _ (sections sizes : ℕ) (parents needs losses costs : List ℕ) (a : ℕ
               short = at-each (λ j v. M .loss j v ≤ N .loss j (sizeOf z j)) (rw e (omega (arith, others s k kh (λ i. ne))))
                   (λ j p l n. omega (arith, others j (sizeOf z j) (u .sized j p l .1) (λ i. absurd (n i))));
               cheap = at-each (λ j v. M .cost j v ≤ N .cost j (sizeOf z j)) (rw e cheap) (λ j p l n. omega arith);
-              asks = required-bound N z;
+              asks = head-bound N z;
             }
 
       pub keeps-worse : Keeps a N M
@@ -226,7 +213,7 @@ module _ (sections sizes : ℕ) (parents needs losses costs : List ℕ) (a : ℕ
     there-need j n = getD-set-other needs p j v 0 n
 
     module _ (asked : (z : List ℕ) → ((s : ℕ) → 0 < s → s ≤ sections → (0 < sizeOf z s) × (sizeOf z s ≤ sizes)) → 0 < p →
-        pathLoss now (sizeOf z) p + v ≤ requiredOf now z) where
+        pathIn now (sizeOf z) p + v ≤ headIn now z) where
       module _ (z : List ℕ) (l : length z ≡ sections) (r : (s : ℕ) → 0 < s → s ≤ sections → (0 < sizeOf z s) × (sizeOf z s ≤ sizes))
           (f : (s : ℕ) → 0 < s → s ≤ sections → now .allowed s (sizeOf z s) ≡ true) where
         need-up : Stands now then z z
@@ -235,7 +222,7 @@ module _ (sections sizes : ℕ) (parents needs losses costs : List ℕ) (a : ℕ
             (λ j a b.
             ⊎-elim
             (λ e. rw e (rw here-need (asked z r (omega arith))))
-            (λ n. rw (there-need j n) (required-bound now z j a b))
+            (λ n. rw (there-need j n) (head-bound now z j a b))
             (eq-or-ne j p))
 
         need-down : Stands then now z z
@@ -245,8 +232,8 @@ module _ (sections sizes : ℕ) (parents needs losses costs : List ℕ) (a : ℕ
             ⊎-elim
             (λ e.
             let k : getD needs j 0 ≤ getD (set needs p v) j 0 = rw e (rw here-need (rise (omega arith))) in
-            omega (arith, required-bound then z j a b))
-            (λ n. omega (arith, there-need j n, required-bound then z j a b))
+            omega (arith, head-bound then z j a b))
+            (λ n. omega (arith, there-need j n, head-bound then z j a b))
             (eq-or-ne j p))
 
       keeps-need : Keeps a now then
@@ -267,5 +254,5 @@ module _ (sections sizes : ℕ) (parents needs losses costs : List ℕ) (a : ℕ
       keeps-need long p v (omega arith) (λ b. omega arith)
       (λ z r b.
       let N : Net = netOf sections sizes parents needs losses costs in
-      let st : pathLoss N (sizeOf z) s ≡ N .loss s (sizeOf z s) + pathLoss N (sizeOf z) p = rw ep (path-step N (sound .lower) (sizeOf z) s low high) in
-      omega (arith, st, all (sizeOf z s) (r s low high .0) (r s low high .1), required-bound N z s low high, required-bound N z p b (omega arith)))
+      let st : pathIn N (sizeOf z) s ≡ N .loss s (sizeOf z s) + pathIn N (sizeOf z) p = rw ep (path-step (sound .lower) (lossIn N (sizeOf z)) s low high) in
+      omega (arith, st, all (sizeOf z s) (r s low high .0) (r s low high .1), head-bound N z s low high, head-bound N z p b (omega arith)))

@@ -8,14 +8,15 @@ use native.Mathlib.Omega.{arith}
 use lib.ListN.{length, getD, set, length-set}
 use lib.Seq.{getD-set-same, getD-set-other}
 use borrow.Author.Tests.{ltb-true}
+use Rattle.basis.specs.Sections.{sizeOf}
+use Rattle.basis.proofs.Paths.{path-pump, path-step}
 use Rattle.basis.proofs.Split.{eq-or-ne}
-use Rattle.nets.specs.Net.{Net, sizeOf, pathLoss, None}
+use Rattle.nets.specs.Net.{Net, lossIn, pathIn, None}
 use Rattle.pruning.specs.Keeps.{Keeps}
 use Rattle.nets.specs.Tables.{top, netOf, Sound}
 use Rattle.pruning.specs.Contracts.{Trimmed, Pruned}
 use Rattle.pruning.proofs.Keeping.{keeps-self, keeps-then, keeps-none, keeps-pump, keeps-raised}
-use Rattle.nets.proofs.Paths.{path-pump, path-step}
-use Rattle.nets.proofs.Required.{required-bound}
+use Rattle.nets.proofs.Heads.{head-bound}
 use Rattle.pruning.proofs.Trims.{sound-like}
 
 module _ (sections sizes : ℕ) (parents needs losses costs : List ℕ) (a : ℕ) (sound : Sound (netOf sections sizes parents needs losses costs)) where
@@ -80,8 +81,8 @@ module _ (sections sizes : ℕ) (parents needs losses costs : List ℕ) (a : ℕ
               ⊎-elim
               (λ (e : 0 ≡ p).
               let q : getD parents s 0 ≡ 0 = omega arith in
-              let path = path-step M (sound .lower) (sizeOf y) s low high in
-              let zero-path : pathLoss M (sizeOf y) (getD parents s 0) ≡ 0 = rw q (path-pump M (sizeOf y)) in
+              let path = path-step (sound .lower) (lossIn M (sizeOf y)) s low high in
+              let zero-path : pathIn M (sizeOf y) (getD parents s 0) ≡ 0 = rw q (path-pump (M .parent) (lossIn M (sizeOf y))) in
               omega (
                 arith,
                 ap (λ (i : ℕ). getD (set needs′ p v) i 0) e,
@@ -92,7 +93,7 @@ module _ (sections sizes : ℕ) (parents needs losses costs : List ℕ) (a : ℕ
                 n .2,
                 path,
                 t .each (sizeOf y s) (u .sized s low high .0) (u .sized s low high .1),
-                required-bound M y s low high,
+                head-bound M y s low high,
               ))
               (λ x. omega (arith, getD-set-other needs′ p 0 v 0 x, old, m .2, n .2))
               (eq-or-ne 0 p);

@@ -6,7 +6,7 @@ use mathlib.Core.List.{List}
 use Prim.Native.Nat.{ℕ, _+_, _≤_, _<_}
 use lib.Dec.{leb}
 use lib.ListN.{length, getD}
-use Rattle.nets.specs.Net.{Net, Suits, requiredOf}
+use Rattle.nets.specs.Net.{Net, Suits, headIn}
 use Rattle.nets.specs.Tables.{top, netOf}
 use Rattle.pruning.specs.Keeps.{Keeps}
 
@@ -26,4 +26,4 @@ pub record Pruned (sections sizes : ℕ) (parents needs losses costs : List ℕ)
   pub losses-long : length losses′ ≡ 832
   pub keeps : Keeps a (netOf sections sizes parents needs losses costs) (netOf sections sizes parents needs′ losses′ costs)
   pub pump : getD needs′ 0 0 ≤ a
-  pub asked : (y : List ℕ) → Suits (netOf sections sizes parents needs′ losses′ costs) a y → getD needs′ 0 0 ≤ requiredOf (netOf sections sizes parents needs′ losses′ costs) y
+  pub asked : (y : List ℕ) → Suits (netOf sections sizes parents needs′ losses′ costs) a y → getD needs′ 0 0 ≤ headIn (netOf sections sizes parents needs′ losses′ costs) y

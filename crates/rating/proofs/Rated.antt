@@ -6,6 +6,7 @@ use Prim.Native.Nat.{ℕ, _+_, _≤_, _<_}
 use native.Mathlib.Omega.{arith}
 use lib.ListN.{getD}
 use Rattle.basis.specs.Range.{concatTo}
+use Rattle.basis.specs.Sections.{sizeOf}
 use Rattle.basis.proofs.Concat.{concat-ext}
 use Rattle.basis.proofs.Slots.{slots-in}
 use Rattle.basis.proofs.Within.{Within}
@@ -16,7 +17,7 @@ use Rattle.tree.specs.Tree.{Rooted}
 use Rattle.demand.proofs.Ruling.{ruled-count, ruled-sections}
 use Rattle.heads.specs.Shape.{Given}
 use Rattle.heads.proofs.Same.{required-same, pump-same, dictating-same}
-use Rattle.sizing.specs.Losses.{sizeOf, readingOf, lossesOf}
+use Rattle.sizing.specs.Losses.{readingOf, lossesOf}
 use Rattle.rating.specs.Calls.{headsBytes, ratedBytes, rateBytes}
 use Rattle.rating.specs.Shape.{RatedAt, RatedJob}
 

@@ -9,13 +9,14 @@ use native.Mathlib.Omega.{arith}
 use lib.ListN.{set, replicate}
 use Rattle.basis.specs.Range.{anyTo}
 use Rattle.basis.specs.Slots.{slots}
+use Rattle.basis.specs.Sections.{sizeOf}
 use mathlib.Core.Logic.{⊎-elim}
 use Rattle.basis.proofs.Split.{eq-or-ne}
 use Rattle.basis.proofs.Each.{any-none, any-more, any-true}
 use Rattle.basis.proofs.Slots.{slots-none, slots-more}
 use Rattle.fields.specs.declared.Job.{Job}
 use Rattle.fields.specs.Fields.{countOf}
-use Rattle.sizing.specs.Losses.{sizeOf, overAt, overAny, readingOf, lossesOf}
+use Rattle.sizing.specs.Losses.{overAt, overAny, readingOf, lossesOf}
 use Rattle.rating.specs.Shape.{Fitting, RatedAt}
 
 module _ (job : Job) (cat list : List ℕ) where

@@ -4,15 +4,15 @@ use Prim.Native.Nat.{ℕ, _+_, _*_}
 use mathlib.Core.Bool.{Bool, not}
 use mathlib.Core.List.{List, [], _∷_, _++_}
 use Rattle.basis.specs.Range.{concatTo}
+use Rattle.basis.specs.Sections.{sizeOf}
 use Rattle.answer.specs.Checks.{firstNo, tooShort}
-use Rattle.wire.specs.Wire.{bytesOf}
+use Rattle.wire.specs.Wire.{bytesOf, bitsOf}
 use Rattle.fields.specs.declared.Job.{Job}
 use Rattle.fields.specs.Fields.{countOf}
 use Rattle.record.specs.Record.{decode}
 use Rattle.acceptance.specs.Acceptance.{inputChecks}
-use Rattle.heads.specs.Signed.{bits32Of}
 use Rattle.heads.specs.Heads.{requiredOf, pumpOf, dictatingOf}
-use Rattle.sizing.specs.Losses.{sizeOf, listOk, overAny, readingOf, lossesOf}
+use Rattle.sizing.specs.Losses.{listOk, overAny, readingOf, lossesOf}
 
 -- the length of a rating result for S sections
 abbrev pub rateLength : ℕ → ℕ
@@ -29,7 +29,7 @@ rateNo b cat list room = firstNo (rateChecks b cat list room)
 
 -- required head (4, signed), pump head (4), dictating section (1)
 unfoldable pub headsBytes : Job → (ℕ → ℕ) → List ℕ
-headsBytes job loss = bytesOf 4 (bits32Of (requiredOf job loss)) ++ (bytesOf 4 (pumpOf job loss) ++ (dictatingOf job loss ∷ []))
+headsBytes job loss = bytesOf 4 (bitsOf 32 (requiredOf job loss)) ++ (bytesOf 4 (pumpOf job loss) ++ (dictatingOf job loss ∷ []))
 
 -- velocity (2) and loss (4) of section i
 unfoldable pub ratedBytes : Job → List ℕ → List ℕ → ℕ → List ℕ

@@ -6,12 +6,13 @@ use Prim.Native.Nat.{ℕ, _+_, _≤_, _<_}
 use mathlib.Core.List.{List}
 use lib.ListN.{replicate}
 use Rattle.basis.specs.Slots.{slots}
+use Rattle.basis.specs.Sections.{sizeOf}
 use Rattle.fields.specs.declared.Job.{Job}
 use Rattle.fields.specs.Fields.{blankJob, countOf}
 use Rattle.record.specs.Record.{decode}
 use Rattle.demand.specs.Demand.{Accepted}
 use Rattle.catalogue.specs.Shape.{Listed}
-use Rattle.sizing.specs.Losses.{sizeOf, listOk, readingOf, lossesOf}
+use Rattle.sizing.specs.Losses.{listOk, readingOf, lossesOf}
 use Rattle.rating.specs.Calls.{rateLength}
 
 -- an accepted job, an accepted catalogue and a list that 12 lets pass

@@ -7,18 +7,17 @@ ghost use Prim.Native.Nat.{ℕ, _+_, _≤_, _<_};
 ghost use lib.ListN.{length, getD};
 ghost use Rattle.basis.specs.Range.{concatTo};
 ghost use Rattle.basis.specs.Stored.{stored};
-ghost use Rattle.wire.specs.Wire.{bytesOf};
+ghost use Rattle.wire.specs.Wire.{bytesOf, bitsOf};
 ghost use Rattle.fields.specs.Fields.{countOf};
-ghost use Rattle.heads.specs.Signed.{bits32Of};
 ghost use Rattle.heads.specs.Shape.{Given};
 ghost use Rattle.rating.specs.Calls.{rateLength, headsBytes};
 
 // Required head, pump head and dictating section.
 fn head_bytes(h: Heads) -> [u8; 9]
     requires { ⌜ h .dictating ≤ 63 ⌝ }
-    ensures { λ r. ⌜ r ≡ bytesOf 4 (bits32Of (h .required)) ++ (bytesOf 4 (h .pump) ++ (h .dictating ∷ [])) ⌝ }
+    ensures { λ r. ⌜ r ≡ bytesOf 4 (bitsOf 32 (h .required)) ++ (bytesOf 4 (h .pump) ++ (h .dictating ∷ [])) ⌝ }
 {
-    let required = wire::bytes32(heads::bits32(h.required));
+    let required = wire::bytes32(wire::bits32(h.required));
     let pump = wire::bytes32(h.pump);
     [
         required[0],

@@ -56,7 +56,7 @@ module _ (b : List ℕ) (byte : (k : ℕ) → byteAt b k < 256) where
       let two : part b at 10 ≡ byteAt b at ∷ byteAt b (at + 1) ∷ part b (at + 2) 8 =
       rw (part-cons b at 9 (omega arith), part-cons b (at + 1) 8 (omega arith), past) in
       rw (
-        bits-signed (beAt 2 b (at + 6)) (be-lt 2 b (at + 6) byte),
+        bits-signed 15 (beAt 2 b (at + 6)) (be-lt 2 b (at + 6) byte),
         bytes-be 2 b (at + 2) byte (omega arith),
         bytes-be 2 b (at + 4) byte (omega arith),
         bytes-be 2 b (at + 6) byte (omega arith),
@@ -112,12 +112,12 @@ head-read h rest t =
 section-read : (s : Section) → SectionFits s → sectionFrom (sectionBytes s) 0 ≡ s
 unfolding sectionFrom sectionBytes bytesOf beAt
 section-read s t =
-    let z : bitsOf (s .elevation) < 65536 = bits-lt (s .elevation) (t .elevation) in
+    let z : bitsOf 16 (s .elevation) < 65536 = bits-lt 15 (s .elevation) (t .elevation) in
     let fixtures : beAt 2 (sectionBytes s) 2 ≡ s .fixtures = omega arith in
     let decimetres : beAt 2 (sectionBytes s) 4 ≡ s .decimetres = omega arith in
-    let elevation : beAt 2 (sectionBytes s) 6 ≡ bitsOf (s .elevation) = omega arith in
+    let elevation : beAt 2 (sectionBytes s) 6 ≡ bitsOf 16 (s .elevation) = omega arith in
     let free : beAt 2 (sectionBytes s) 8 ≡ s .free = omega arith in
-    rw (fixtures, decimetres, elevation, free, signed-bits (s .elevation) (t .elevation))
+    rw (fixtures, decimetres, elevation, free, signed-bits 15 (s .elevation) (t .elevation))
 
 -- a section's fields are those of its ten bytes alone
 section-part : (b : List ℕ) (at : ℕ) → sectionFrom (part b at 10) 0 ≡ sectionFrom b at

@@ -49,7 +49,7 @@ sectionFrom b at =
       kind = byteAt b (at + 1);
       fixtures = beAt 2 b (at + 2);
       decimetres = beAt 2 b (at + 4);
-      elevation = signedOf (beAt 2 b (at + 6));
+      elevation = signedOf 16 (beAt 2 b (at + 6));
       free = beAt 2 b (at + 8);
     }
 
@@ -74,7 +74,7 @@ headBytes h =
 unfoldable pub sectionBytes : Section → List ℕ
 sectionBytes s =
     (s .parent ∷ s .kind ∷ []) ++
-    (bytesOf 2 (s .fixtures) ++ (bytesOf 2 (s .decimetres) ++ (bytesOf 2 (bitsOf (s .elevation)) ++ bytesOf 2 (s .free))))
+    (bytesOf 2 (s .fixtures) ++ (bytesOf 2 (s .decimetres) ++ (bytesOf 2 (bitsOf 16 (s .elevation)) ++ bytesOf 2 (s .free))))
 
 -- the residents of kinds 1 to 12
 unfoldable pub residentsBytes : Job → List ℕ

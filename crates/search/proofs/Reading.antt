@@ -9,7 +9,8 @@ use native.Mathlib.Omega.{arith}
 use native.Mathlib.Numerals.{add-one}
 use lib.ListN.{length, getD, set, take, length-set}
 use lib.Seq.{getD-set-same, getD-set-other, getD-take, length-take-le}
-use Rattle.nets.specs.Net.{Net, sizeOf, Found}
+use Rattle.basis.specs.Sections.{sizeOf}
+use Rattle.nets.specs.Net.{Net, Found}
 use Rattle.nets.specs.Tables.{top, netOf}
 use Rattle.plan.specs.Plan.{mark, cell, planOf}
 use Rattle.plan.proofs.Potential.{Good, good-none, good-ext, good-real, good-more, nextLeast, Cheap, cheap-ok}

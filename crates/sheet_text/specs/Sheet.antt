@@ -6,13 +6,14 @@ use mathlib.Core.List.{List, [], _∷_, _++_}
 use lib.ListN.{length, take, drop}
 use lib.Dec.{ltb, eqb}
 use Rattle.basis.specs.Range.{concatTo}
+use Rattle.basis.specs.Sections.{sizeOf}
 use Rattle.wire.specs.Wire.{beAt}
 use Rattle.fields.specs.declared.Job.{Job}
 use Rattle.fields.specs.Fields.{countOf}
 use Rattle.record.specs.Record.{decode}
 use Rattle.demand.specs.Demand.{hourOf, dayOf, meanOf, sectionFlow}
 use Rattle.heads.specs.Heads.{requiredOf, pumpOf, dictatingOf}
-use Rattle.sizing.specs.Losses.{sizeOf, readingOf, lossesOf}
+use Rattle.sizing.specs.Losses.{readingOf, lossesOf}
 use Rattle.rating.specs.Calls.{rateLength, rateNo}
 use Rattle.sheet_text.specs.Text.{decimal, signedDecimal, spaced, houseWord, sectionWord, headWord, refusedWord}
 

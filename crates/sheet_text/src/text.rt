@@ -49,7 +49,7 @@ pub fn put_signed(out: &mut [u8], at: usize, z: i32) -> usize
     requires { ⌜ at + 12 ≤ length (now out) ⌝ }
     ensures { λ r. ⌜ Wrote 12 (now (out .entry)) (now (out .exit)) at r (32 ∷ signedDecimal z) ⌝ }
 {
-    let bits = heads::bits32(z) as u64;
+    let bits = wire::bits32(z) as u64;
     if bits < 2147483648 {
         return put_figure(out, at, bits as u32);
     }

@@ -9,13 +9,14 @@ use lib.ListN.{length, getD}
 use lib.Dec.{eqb}
 use borrow.Author.Tests.{eq-eqb, ne-eqb, eqb-true}
 use Rattle.basis.specs.Range.{within, allTo}
+use Rattle.basis.specs.Sections.{sizeOf}
 use Rattle.basis.proofs.Bools.{left, never}
 use Rattle.basis.proofs.Within.{Within, within-in, in-within}
 use Rattle.basis.proofs.Each.{all-more, all-at, all-false}
 use Rattle.fields.specs.declared.Job.{Job}
 use Rattle.fields.specs.Fields.{countOf}
 use Rattle.catalogue.specs.Layout.{sizesOf}
-use Rattle.sizing.specs.Losses.{sizeOf, listOk}
+use Rattle.sizing.specs.Losses.{listOk}
 
 module _ (job : Job) (cat list : List ℕ) where
   pub other-length : (length list ≡ countOf job → ⊥) → listOk job cat list ≡ false

@@ -1,23 +1,19 @@
 -- Document 01, "Rating and choosing" and refusals 12 and 13: a list of sizes, and what each section loses with it.
 -- Assumes nothing.
-use Prim.Native.Nat.{ℕ, _+_, _-_, _*_}
+use Prim.Native.Nat.{ℕ, _+_, _*_}
 use mathlib.Core.Bool.{Bool, not, _&&_, _||_}
 use mathlib.Core.List.{List}
 use lib.ListN.{length}
 use lib.Dec.{ltb, eqb}
 use Rattle.basis.specs.Range.{within, allTo, anyTo}
+use Rattle.basis.specs.Sections.{sizeOf}
 use Rattle.basis.specs.Round.{up}
-use Rattle.wire.specs.Wire.{byteAt}
 use Rattle.fields.specs.declared.Job.{Job}
 use Rattle.fields.specs.Fields.{countOf, sectionOf}
 use Rattle.demand.specs.Demand.{sectionFlow}
 use Rattle.catalogue.specs.declared.reading.Reading.{Reading}
 use Rattle.catalogue.specs.Layout.{sizesOf, rowsOf, partOf}
 use Rattle.catalogue.specs.Reading.{readRows}
-
--- the size of section i in a list of sizes
-abbrev pub sizeOf : List ℕ → ℕ → ℕ
-sizeOf list i = byteAt list (i - 1)
 
 -- 12 finds nothing: the list is S long and names sizes
 unfoldable pub listOk : Job → List ℕ → List ℕ → Bool

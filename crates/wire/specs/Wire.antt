@@ -1,6 +1,6 @@
 -- Document 01, "The job record": big-endian numbers, and signed ones in two's complement.
 -- Assumes nothing.
-use Prim.Native.Nat.{ℕ, zero, suc, _+_, _-_, _*_, _/_, _%_}
+use Prim.Native.Nat.{ℕ, zero, suc, _+_, _-_, _*_, _/_, _%_, _^_}
 use mathlib.Core.Bool.{cond}
 use mathlib.Core.List.{List, [], _∷_, _++_}
 use lib.ListN.{getD}
@@ -21,11 +21,11 @@ unfoldable pub bytesOf : ℕ → ℕ → List ℕ
 bytesOf zero n = []
 bytesOf (suc width) n = bytesOf width (n / 256) ++ (n % 256 ∷ [])
 
--- 16 bits in two's complement: less 65,536 from 32,768 on
-unfoldable pub signedOf : ℕ → ℤ
-signedOf n = cond (ltb n 32768) (pos n) (pos n -ℤ pos 65536)
+-- `width` bits in two's complement: less 2 to the width where the highest bit is set
+unfoldable pub signedOf : ℕ → ℕ → ℤ
+signedOf width n = cond (ltb n (2 ^ (width - 1))) (pos n) (pos n -ℤ pos (2 ^ width))
 
--- and back: a negative number's bits are 65,536 more
-unfoldable pub bitsOf : ℤ → ℕ
-bitsOf (pos n) = n
-bitsOf (negsuc n) = 65536 - suc n
+-- and back: a negative number's bits are 2 to the width more
+unfoldable pub bitsOf : ℕ → ℤ → ℕ
+bitsOf width (pos n) = n
+bitsOf width (negsuc n) = 2 ^ width - suc n

@@ -1,4 +1,4 @@
-// Big-endian fields of byte slices, and 16 bits in two's complement.
+// Big-endian fields of byte slices, and two's complement.
 ghost use mathlib.Core.Path.{_≡_};
 ghost use Prim.Native.Nat.{_+_, _≤_, _<_};
 ghost use lib.ListN.{length};
@@ -79,7 +79,7 @@ pub fn put_be32(s: &mut [u8], i: usize, n: u32)
 
 // The number that 16 bits stand for in two's complement.
 pub fn signed16(n: u16) -> i16
-    ensures { λ r. ⌜ r ≡ signedOf n ⌝ }
+    ensures { λ r. ⌜ r ≡ signedOf 16 n ⌝ }
 {
     if n < 32768 {
         n as i16
@@ -90,11 +90,22 @@ pub fn signed16(n: u16) -> i16
 
 // The 16 bits of a number in two's complement.
 pub fn bits16(z: i16) -> u16
-    ensures { λ r. ⌜ r ≡ bitsOf z ⌝ }
+    ensures { λ r. ⌜ r ≡ bitsOf 16 z ⌝ }
 {
     if z < 0 {
         ((z as i32) + 65536) as u16
     } else {
         z as u16
+    }
+}
+
+// The 32 bits of a number in two's complement.
+pub fn bits32(z: i32) -> u32
+    ensures { λ r. ⌜ r ≡ bitsOf 32 z ⌝ }
+{
+    if z < 0 {
+        ((z as i64) + 4294967296) as u32
+    } else {
+        z as u32
     }
 }

@@ -6,11 +6,11 @@ use mathlib.Core.Path.{_≡_}
 use Prim.Native.Nat.{ℕ, _+_, _-_, _≤_, _<_}
 use lib.ListN.{getD}
 use Rattle.basis.specs.Slots.{slots}
+use Rattle.basis.specs.Sections.{pathOf}
 use Rattle.basis.proofs.Slots.{slots-none}
 use Rattle.fields.specs.declared.Job.{Job}
 use Rattle.fields.specs.Fields.{countOf, sectionOf}
-use Rattle.tree.specs.Tree.{Rooted}
-use Rattle.heads.specs.Heads.{pathOf}
+use Rattle.tree.specs.Tree.{parentOf, Rooted}
 use Rattle.heads.proofs.Loss.{path-next, path-more}
 use Rattle.heads.proofs.Bounds.{given-rooted, path-small}
 use Rattle.heads.proofs.paths.Statement.{statement}
@@ -18,7 +18,7 @@ use Rattle.heads.proofs.paths.Tie as tie
 
 abbrev Inv-loop : tie.InvT-loop
 Inv-loop job losses count paths₀ i₀ paths i =
-    (0 < i) × (i ≤ countOf job + 1) × (paths ≡ slots 64 1 i 0 (pathOf job (λ i. getD losses i 0)))
+    (0 < i) × (i ≤ countOf job + 1) × (paths ≡ slots 64 1 i 0 (pathOf (parentOf job) (λ i. getD losses i 0)))
 
 abbrev μ-loop : tie.MeasureT-loop
 μ-loop job losses count paths₀ i₀ paths i = countOf job + 1 - i

@@ -20,11 +20,11 @@ wide : (c : tie.After-struct-told) → SFits w32 (c .before .before .args .s .el
 wide c = sfits-widen tt (low c)
 
 module _ (c : tie.After-struct-known2) where
-  small : toZ w32 (c .before .before .before .args .s .free + c .before .before .before .args .path) ≡
-      pos (c .before .before .before .args .s .free + c .before .before .before .args .path)
+  small : toZ w32 (c .before .before .before .args .s .free + c .before .before .before .args .more) ≡
+      pos (c .before .before .before .args .s .free + c .before .before .before .args .more)
   small = toZ-pos w32 (omega arith)
 
-  fits : SFits w32 (c .before .before .before .args .s .elevation +ℤ pos (c .before .before .before .args .s .free + c .before .before .before .args .path))
+  fits : SFits w32 (c .before .before .before .args .s .elevation +ℤ pos (c .before .before .before .args .s .free + c .before .before .before .args .more))
   fits = record { sfits = add-mag (c .before .before .before .args .s .elevation) _ _ (omega (arith, low (c .before) .sfits)) }
 
 cast-result : tie.Need-cast-result

@@ -7,10 +7,10 @@ use native.Mathlib.Omega.{arith}
 use borrow.Author.Needs.{needs}
 use lib.ListN.{length}
 use Rattle.basis.specs.Range.{within, allTo}
+use Rattle.basis.specs.Sections.{sizeOf}
 use Rattle.basis.proofs.Each.{all-none}
 use Rattle.fields.specs.Fields.{countOf}
 use Rattle.catalogue.specs.Layout.{sizesOf}
-use Rattle.sizing.specs.Losses.{sizeOf}
 use Rattle.sizing.proofs.Named.{other-length, list-all, no-size, one-more}
 use Rattle.rating.proofs.sections.list_ok.Statement.{statement}
 use Rattle.rating.proofs.sections.list_ok.Tie as tie

@@ -5,6 +5,7 @@ use Prim.Native.Nat.{ℕ, _+_, _-_, _≤_, _<_}
 use native.Mathlib.Omega.{arith}
 use borrow.Author.Needs.{needs}
 use lib.ListN.{length}
+use Rattle.basis.specs.Sections.{sizeOf}
 use Rattle.basis.proofs.Bools.{apart}
 use Rattle.basis.proofs.Slots.{slots-in}
 use Rattle.basis.proofs.Within.{Within}
@@ -15,7 +16,7 @@ use Rattle.demand.specs.Demand.{sectionFlow}
 use Rattle.demand.proofs.Ruling.{ruled-count, ruled-sections}
 use Rattle.catalogue.specs.Layout.{sizesOf}
 use Rattle.sizing.specs.declared.Tried.{Tried}
-use Rattle.sizing.specs.Losses.{sizeOf, overAt}
+use Rattle.sizing.specs.Losses.{overAt}
 use Rattle.sizing.specs.Contracts.{triedAt}
 use Rattle.sizing.proofs.Named.{list-long, list-names}
 use Rattle.sizing.proofs.Trying.{tried-at, tried-not, tried-tells}
