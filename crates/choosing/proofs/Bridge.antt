@@ -29,11 +29,11 @@ use Rattle.heads.proofs.Maximum.{Reached, greatest-bound, greatest-reached}
 use Rattle.sizing.specs.Losses.{listOk, overAt, overAny, lossesOf}
 use Rattle.sizing.proofs.Named.{list-all, list-long, list-names}
 use Rattle.nets.specs.Net.{Net, lossIn, pathIn, Suits, costIn}
-use Rattle.choosing.specs.Suitable.{Suitable, priceAt, costOf}
-use Rattle.choosing.specs.Shape.{headOf, Drawn}
+use Rattle.choosing.specs.Suitable.{SuitableAt, priceAt, costOf}
+use Rattle.choosing.specs.Shape.{headFor, Drawn}
 use Rattle.choosing.proofs.Shifted.{met-reach, reach-met, add-mono}
 
-module _ (job : Job) (cat : List ℕ) (N : Net) (d : Drawn job cat N) (ruled : Ruled job) where
+module _ (job : Job) (cat : List ℕ) (N : Net) (d : Drawn job cat N) (ruled : Ruled job) (delivered : ℕ) where
   rooted : Rooted job
   rooted = ruled-rooted ruled
 
@@ -56,23 +56,23 @@ module _ (job : Job) (cat : List ℕ) (N : Net) (d : Drawn job cat N) (ruled : R
 
     -- the end of section i: its free head at the delivered head, and what the search asks there
     module _ (i : ℕ) (low : 0 < i) (high : i ≤ countOf job) where
-      pub met-of : leZ (pos (job .head .meter) +ℤ reachOf job (lossesOf job cat list) i) (pos (job .head .delivered)) ≡ true →
-          pathIn N (sizeOf list) i + N .need i ≤ headOf job
+      pub met-of : leZ (pos (job .head .meter) +ℤ reachOf job (lossesOf job cat list) i) (pos delivered) ≡ true →
+          pathIn N (sizeOf list) i + N .need i ≤ headFor job delivered
       unfolding reachOf
       met-of e =
           rw (path-is i high)
           (reach-met (sectionOf job i .elevation) (sectionOf job i .free) (pathOf (parentOf job) (lossesOf job cat list) i) (job .head .meter)
-          (job .head .delivered) (N .need i) (head-in (job .head) (ruled .head) .meter) (d .need i low high) e)
+          delivered (N .need i) (head-in (job .head) (ruled .head) .meter) (d .need i low high) e)
 
-      pub of-met : pathIn N (sizeOf list) i + N .need i ≤ headOf job →
-          leZ (pos (job .head .meter) +ℤ reachOf job (lossesOf job cat list) i) (pos (job .head .delivered)) ≡ true
+      pub of-met : pathIn N (sizeOf list) i + N .need i ≤ headFor job delivered →
+          leZ (pos (job .head .meter) +ℤ reachOf job (lossesOf job cat list) i) (pos delivered) ≡ true
       unfolding reachOf
       of-met h =
           met-reach (sectionOf job i .elevation) (sectionOf job i .free) (pathOf (parentOf job) (lossesOf job cat list) i) (job .head .meter)
-          (job .head .delivered) (N .need i) (head-in (job .head) (ruled .head) .meter) (d .need i low high) (rw (path-is i high) at h)
+          delivered (N .need i) (head-in (job .head) (ruled .head) .meter) (d .need i low high) (rw (path-is i high) at h)
 
   -- document 01's words to the search's
-  pub suits-net : (list : List ℕ) → Suitable job cat list → Suits N (headOf job) list
+  pub suits-net : (list : List ℕ) → SuitableAt job cat delivered list → Suits N (headFor job delivered) list
   unfolding requiredOf
   suits-net list s =
       record {
@@ -81,17 +81,17 @@ module _ (job : Job) (cat : List ℕ) (N : Net) (d : Drawn job cat N) (ruled : R
         allowed = λ i h k. let w = list-names job cat list (s .sizes) i h (inside i k) in
             d .allowed i (sizeOf list i) h (inside i k) (w .low) (w .high) ∙ rw (under list (s .sizes) (s .serves) i h (inside i k));
         met = λ i h k. met-of list (s .sizes) (s .serves) i h (inside i k)
-            (le-trans (pos (job .head .meter) +ℤ reachOf job (lossesOf job cat list) i) (requiredOf job (lossesOf job cat list)) (pos (job .head .delivered))
+            (le-trans (pos (job .head .meter) +ℤ reachOf job (lossesOf job cat list) i) (requiredOf job (lossesOf job cat list)) (pos delivered)
             (add-mono (job .head .meter) (reachOf job (lossesOf job cat list) i) (greatestTo (countOf job) (reachOf job (lossesOf job cat list)))
             (greatest-bound (reachOf job (lossesOf job cat list)) (countOf job) i h (inside i k)))
-            (s .head));
+            (s .reaches));
       }
     where
       inside : (i : ℕ) → i ≤ N .sections → i ≤ countOf job
       inside i k = rw (← d .sections) k
 
   -- and back
-  module _ (list : List ℕ) (s : Suits N (headOf job) list) where
+  module _ (list : List ℕ) (s : Suits N (headFor job delivered) list) where
     outside : (i : ℕ) → i ≤ countOf job → i ≤ N .sections
     outside i k = rw (d .sections) k
 
@@ -113,14 +113,14 @@ module _ (job : Job) (cat : List ℕ) (N : Net) (d : Drawn job cat N) (ruled : R
         (λ i h k. let w = names i h k in
         not-true (overAt job cat (sizeOf list i) i) (sym (d .allowed i (sizeOf list i) h k (w .low) (w .high)) ∙ s .allowed i h (outside i k)))
 
-    pub net-suits : Suitable job cat list
+    pub net-suits : SuitableAt job cat delivered list
     unfolding requiredOf
     net-suits =
         let r : Reached (countOf job) (reachOf job (lossesOf job cat list)) = greatest-reached (reachOf job (lossesOf job cat list)) (countOf job) (ruled-count ruled .low) in
         record {
           sizes = named;
           serves = serving;
-          head = rw (r .reached) (of-met list named serving (r .place) (r .low) (r .high) (s .met (r .place) (r .low) (outside (r .place) (r .high))));
+          reaches = rw (r .reached) (of-met list named serving (r .place) (r .low) (r .high) (s .met (r .place) (r .low) (outside (r .place) (r .high))));
         }
 
   -- the same cost

@@ -11,7 +11,7 @@ use Rattle.fields.specs.Fields.{countOf}
 use Rattle.record.specs.Record.{decode}
 use Rattle.acceptance.specs.Acceptance.{inputNo}
 use Rattle.acceptance.proofs.Accepting.{input-stops, input-passes}
-use Rattle.choosing.specs.Calls.{chooseLength, workLength, chooseChecks, chooseNo}
+use Rattle.choosing.specs.Calls.{chooseLength, workOf, chooseChecks, chooseNo}
 
 module _ (b cat : List ℕ) (room work : ℕ) where
   pub choose-inputs : (inputNo b cat ≡ 0 → ⊥) → chooseNo b cat room work ≡ inputNo b cat
@@ -19,7 +19,7 @@ module _ (b cat : List ℕ) (room work : ℕ) where
   choose-inputs n = input-stops b cat _ n
 
   module _ (none : inputNo b cat ≡ 0) where
-    past : chooseNo b cat room work ≡ firstNo (tooShort room (chooseLength (countOf (decode b))) ∷ (ltb work (workLength (decode b)), 15) ∷ [])
+    past : chooseNo b cat room work ≡ firstNo (tooShort room (chooseLength (countOf (decode b))) ∷ (ltb work (workOf (decode b)), 15) ∷ [])
     unfolding chooseNo chooseChecks
     past = input-passes b cat _ none
 
@@ -27,11 +27,11 @@ module _ (b cat : List ℕ) (room work : ℕ) where
     choose-short h = past ∙ short-found room (chooseLength (countOf (decode b))) _ h
 
     module _ (fits : chooseLength (countOf (decode b)) ≤ room) where
-      last : chooseNo b cat room work ≡ firstNo ((ltb work (workLength (decode b)), 15) ∷ [])
+      last : chooseNo b cat room work ≡ firstNo ((ltb work (workOf (decode b)), 15) ∷ [])
       last = past ∙ short-next room (chooseLength (countOf (decode b))) _ fits
 
-      pub choose-narrow : work < workLength (decode b) → chooseNo b cat room work ≡ 15
-      choose-narrow h = last ∙ first-found 15 [] (lt-ltb work (workLength (decode b)) h)
+      pub choose-narrow : work < workOf (decode b) → chooseNo b cat room work ≡ 15
+      choose-narrow h = last ∙ first-found 15 [] (lt-ltb work (workOf (decode b)) h)
 
-      pub choose-ready : workLength (decode b) ≤ work → chooseNo b cat room work ≡ 0
-      choose-ready h = last ∙ first-next 15 [] (le-ltb work (workLength (decode b)) h) ∙ first-none
+      pub choose-ready : workOf (decode b) ≤ work → chooseNo b cat room work ≡ 0
+      choose-ready h = last ∙ first-next 15 [] (le-ltb work (workOf (decode b)) h) ∙ first-none

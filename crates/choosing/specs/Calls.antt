@@ -20,19 +20,23 @@ use Rattle.choosing.specs.Suitable.{Suitable, costOf}
 abbrev pub chooseLength : ℕ → ℕ
 chooseLength count = 4 + count
 
--- the workspace: 4 × (S + 1) × (H + 1,001) bytes
-abbrev pub workLength : Job → ℕ
-workLength job = 4 * ((countOf job + 1) * (job .head .delivered + 1001))
+-- the workspace for S sections at a delivered head H: 4 × (S + 1) × (H + 1,001) bytes
+abbrev pub workLength : ℕ → ℕ → ℕ
+workLength count delivered = 4 * ((count + 1) * (delivered + 1001))
+
+-- for a job at its own H
+abbrev pub workOf : Job → ℕ
+workOf job = workLength (countOf job) (job .head .delivered)
 
 -- result space and workspace are enough when neither 14 nor 15 applies
 pub record Ample (b out work : List ℕ) : Type 0 where
   pub result : chooseLength (countOf (decode b)) ≤ length out
-  pub space : workLength (decode b) ≤ length work
+  pub space : workOf (decode b) ≤ length work
 
 -- 1 to 11, 14, 15: what is checked before the search
 unfoldable pub chooseChecks : List ℕ → List ℕ → ℕ → ℕ → List (Bool × ℕ)
 chooseChecks b cat room work =
-    inputChecks b cat ++ (tooShort room (chooseLength (countOf (decode b))) ∷ (ltb work (workLength (decode b)), 15) ∷ [])
+    inputChecks b cat ++ (tooShort room (chooseLength (countOf (decode b))) ∷ (ltb work (workOf (decode b)), 15) ∷ [])
 
 -- the number of the first that finds something, 0 where none does
 unfoldable pub chooseNo : List ℕ → List ℕ → ℕ → ℕ → ℕ

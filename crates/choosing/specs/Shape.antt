@@ -19,15 +19,15 @@ use Rattle.sizing.specs.Losses.{overAt, lossAt}
 use Rattle.nets.specs.Net.{Net}
 use Rattle.nets.specs.Tables.{top}
 use Rattle.sizing.specs.Contracts.{triedOf}
-use Rattle.choosing.specs.Suitable.{Suitable, priceAt, costOf}
+use Rattle.choosing.specs.Suitable.{SuitableAt, priceAt, costOf}
 
 -- heads of the search are 1,000 cm more than those of document 01, so that none is negative
 abbrev pub shift : ℕ
 shift = 1000
 
--- the delivered head less the meter loss, shifted
-abbrev pub headOf : Job → ℕ
-headOf job = job .head .delivered + shift - job .head .meter
+-- a delivered head less the meter loss, shifted
+abbrev pub headFor : Job → ℕ → ℕ
+headFor job delivered = delivered + shift - job .head .meter
 
 -- N is the tree of a job: for each section and size of the catalogue its loss and its cost where it serves the flow within the limit
 pub record Drawn (job : Job) (cat : List ℕ) (N : Net) : Type 0 where
@@ -76,8 +76,8 @@ pub record Ended (job : Job) (parents needs : List ℕ) : Type 0 where
   pub parent : (i : ℕ) → 0 < i → i ≤ countOf job → getD parents i 0 ≡ sectionOf job i .parent
   pub need : (i : ℕ) → 0 < i → i ≤ countOf job → pos (getD needs i 0) ≡ sectionOf job i .elevation +ℤ pos (sectionOf job i .free + shift)
 
--- a list that suits, at the cost c, and no list that suits costs less
-pub record Least (job : Job) (cat : List ℕ) (c : ℕ) (list : List ℕ) : Type 0 where
-  pub suits : Suitable job cat list
+-- a list that suits at a delivered head, at the cost c, and no list that suits there costs less
+pub record Least (job : Job) (cat : List ℕ) (delivered c : ℕ) (list : List ℕ) : Type 0 where
+  pub suits : SuitableAt job cat delivered list
   pub cost : c ≡ costOf job cat list
-  pub least : (y : List ℕ) → Suitable job cat y → costOf job cat list ≤ costOf job cat y
+  pub least : (y : List ℕ) → SuitableAt job cat delivered y → costOf job cat list ≤ costOf job cat y

@@ -14,13 +14,18 @@ use Rattle.catalogue.specs.Layout.{priceOf}
 use Rattle.heads.specs.Heads.{requiredOf}
 use Rattle.sizing.specs.Losses.{listOk, overAny, lossesOf}
 
-pub record Suitable (job : Job) (cat list : List ℕ) : Type 0 where
+-- when a list suits at a delivered head
+pub record SuitableAt (job : Job) (cat : List ℕ) (delivered : ℕ) (list : List ℕ) : Type 0 where
   -- each section has one of the catalogue's sizes
   pub sizes : listOk job cat list ≡ true
   -- every section's size serves its flow, and no velocity passes the limit
   pub serves : overAny job cat list ≡ false
-  -- the required head is at most H
-  pub head : leZ (requiredOf job (lossesOf job cat list)) (pos (job .head .delivered)) ≡ true
+  -- the required head is at most the delivered head
+  pub reaches : leZ (requiredOf job (lossesOf job cat list)) (pos delivered) ≡ true
+
+-- at the job's own H
+abbrev pub Suitable : Job → List ℕ → List ℕ → Type 0
+Suitable job cat list = SuitableAt job cat (job .head .delivered) list
 
 -- the price of size s for the length of section i, in tenths of the price unit
 unfoldable pub priceAt : Job → List ℕ → ℕ → ℕ → ℕ

@@ -34,10 +34,11 @@ pub fn choose(b: &[u8], cat: &[u8], work: &mut [u8], out: &mut [u8]) -> Answer
     if out.len() < 4 + count {
         return Answer::Room;
     }
-    if work.len() < 4 * ((count + 1) * (job.head.delivered as usize + 1001)) {
+    let delivered = job.head.delivered as usize;
+    if work.len() < 4 * ((count + 1) * (delivered + 1001)) {
         return Answer::Workspace;
     }
-    let choice = cheapest(job, cat, work);
+    let choice = cheapest(job, cat, delivered, work);
     if !choice.found {
         return Answer::Unsuitable;
     }

@@ -11,19 +11,18 @@ ghost use lib.ListN.{length, take};
 ghost use Rattle.fields.specs.Fields.{countOf};
 ghost use Rattle.demand.specs.Demand.{Accepted};
 ghost use Rattle.catalogue.specs.Shape.{Listed};
-ghost use Rattle.choosing.specs.Suitable.{Suitable};
+ghost use Rattle.choosing.specs.Suitable.{SuitableAt};
 ghost use Rattle.choosing.specs.Calls.{workLength};
 ghost use Rattle.choosing.specs.Shape.{Least};
 
-// A cheapest suitable list, found over the lent workspace. Heads of the search are 1,000 cm more than the job's, so that none is negative.
-pub fn cheapest(job: Job, cat: &[u8], work: &mut [u8]) -> Choice
-    requires { ⌜ Accepted job × Listed (now cat) × (workLength job ≤ length (now work)) ⌝ }
-    ensures none { λ r. ⌜ (r .found ≡ false → (y : List ℕ) → Suitable job (now (cat .entry)) y → ⊥) ⌝ }
-    ensures found { λ r. ⌜ (r .found ≡ true → Least job (now (cat .entry)) (r .cost) (take (countOf job) (r .sizes))) ⌝ }
+// A cheapest list that suits at a delivered head, found over the lent workspace. Heads of the search are 1,000 cm more than the job's, so that none is negative.
+pub fn cheapest(job: Job, cat: &[u8], delivered: usize, work: &mut [u8]) -> Choice
+    requires { ⌜ Accepted job × Listed (now cat) × (delivered ≤ 6000) × (workLength (countOf job) delivered ≤ length (now work)) ⌝ }
+    ensures none { λ r. ⌜ (r .found ≡ false → (y : List ℕ) → SuitableAt job (now (cat .entry)) delivered y → ⊥) ⌝ }
+    ensures found { λ r. ⌜ (r .found ≡ true → Least job (now (cat .entry)) delivered (r .cost) (take (countOf job) (r .sizes))) ⌝ }
 {
     let count = job.head.sections as usize;
     let sizes = catalogue::sizes_of(cat) as usize;
-    let delivered = job.head.delivered as usize;
     let meter = job.head.meter as usize;
     let ends = ends_of(job);
     let parents = ends.parents;

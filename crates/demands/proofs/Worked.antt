@@ -49,7 +49,7 @@ use Rattle.catalogue.specs.Layout.{boreOf, priceOf, partOf, flowAt, velocityAt,
 use Rattle.catalogue.specs.Rules.{shapeOk, rowOk, risesAt, rowsOk, sizeOk, sizesOk, catChecks, catNo}
 use Rattle.catalogue.specs.Reading.{between, servesAt, readRows}
 use Rattle.heads.specs.Signed.{greater, clamped}
-use Rattle.heads.specs.Heads.{reachOf, greatestTo, requiredOf, pumpOf, lowestTo, dictatingOf}
+use Rattle.heads.specs.Heads.{reachOf, greatestTo, requiredOf, pumpAt, pumpOf, lowestTo, dictatingOf}
 use Rattle.sizing.specs.Losses.{listOk, readingOf, overBy, overAt, overAny, lossOf, lossAt, lossesOf}
 use Rattle.acceptance.specs.Acceptance.{inputChecks}
 use Rattle.rating.specs.Calls.{rateChecks, rateNo}
@@ -104,13 +104,13 @@ computed =
       accepted-921 = refl;
       accepted-920 = refl;
       listed = refl;
-      suits = record { sizes = refl; serves = refl; head = refl };
+      suits = record { sizes = refl; serves = refl; reaches = refl };
       bytes = refl;
       short = refl;
     }
 
 none-suits : (y : List ℕ) → Suitable (decode job920) ownCat y → ⊥
-none-suits y s = apart (rw (only-two 3 152 y s) at (s .head)) (computed .short)
+none-suits y s = apart (rw (only-two 3 152 y s) at (s .reaches)) (computed .short)
 
 -- the call on either job, with enough of both buffers
 module _ {out₀ work₀ : List ℕ} where
@@ -130,7 +130,7 @@ module _ {out₀ work₀ : List ℕ} where
 
 -- the rest is computed too, but for the statements over every list and over the call
 pub own-case : OwnCase
-unfolding computed dayNorms drawSumOf hourOf dayOf meanOf clamped pumpOf lowestTo dictatingOf inputChecks rateChecks rateNo chooseChecks chooseNo
+unfolding computed dayNorms drawSumOf hourOf dayOf meanOf clamped pumpAt lowestTo dictatingOf inputChecks rateChecks rateNo chooseChecks chooseNo
 own-case =
     record {
       job = computed .own;

@@ -6,7 +6,7 @@ use Rattle.basis.proofs.Paths.{path-ext}
 use Rattle.fields.specs.declared.Job.{Job}
 use Rattle.fields.specs.Fields.{countOf}
 use Rattle.tree.specs.Tree.{parentOf, Rooted}
-use Rattle.heads.specs.Heads.{reachOf, greatestTo, requiredOf, pumpOf, dictatingOf}
+use Rattle.heads.specs.Heads.{reachOf, greatestTo, requiredOf, pumpAt, pumpOf, dictatingOf}
 use Rattle.heads.proofs.Loss.{parent-lower}
 use Rattle.heads.proofs.Maximum.{greatest-ext}
 use Rattle.heads.proofs.Lowest.{lowest-ext}
@@ -25,7 +25,7 @@ module _ (job : Job) (r : Rooted job) (some : 0 < countOf job) (loss loss′ : �
   required-same = rw greatest-same
 
   pub pump-same : pumpOf job loss ≡ pumpOf job loss′
-  unfolding pumpOf
+  unfolding pumpAt
   pump-same = rw required-same
 
   pub dictating-same : dictatingOf job loss ≡ dictatingOf job loss′

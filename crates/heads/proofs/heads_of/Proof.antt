@@ -12,7 +12,7 @@ use mir.Facts.{toZ-ofZ, toZ-pos, fits-natAbs}
 use Rattle.fields.specs.declared.Job.{Job}
 use Rattle.fields.specs.Fields.{countOf}
 use Rattle.heads.specs.Signed.{clamped}
-use Rattle.heads.specs.Heads.{reachOf, greatestTo, requiredOf, pumpOf}
+use Rattle.heads.specs.Heads.{reachOf, greatestTo, requiredOf, pumpAt, pumpOf}
 use Rattle.heads.proofs.Signed.{less-mag, clamped-above, clamped-none}
 use Rattle.heads.proofs.Bounds.{given-head, greatest-small, required-small}
 use Rattle.heads.proofs.heads_of.Statement.{statement}
@@ -58,7 +58,7 @@ module _ (c : tie.After-dictating) where
       (record { sfits = less-mag (requiredOf job loss) (job .head .guaranteed) _ (omega (arith, given-head g .guaranteed, required-small g)) })
 
   pump-is : clamped (toZ w32 (ofZ w32 over)) ≡ pumpOf job loss
-  unfolding pumpOf
+  unfolding pumpAt
   pump-is = ap clamped (toZ-ofZ over-fits ∙ over-is)
 
 returns : tie.Need-returns

@@ -16,7 +16,7 @@ use Rattle.demand.proofs.Ruling.{ruled-count}
 use Rattle.rules.proofs.HeadBounds.{head-in}
 use Rattle.acceptance.specs.Acceptance.{inputNo}
 use Rattle.acceptance.proofs.Accepting.{input-fields, input-accepted, input-listed}
-use Rattle.choosing.specs.Calls.{chooseLength, workLength, chooseNo}
+use Rattle.choosing.specs.Calls.{chooseLength, workOf, chooseNo}
 use Rattle.choosing.proofs.Ordering.{choose-inputs, choose-short, choose-narrow, choose-ready}
 use Rattle.choosing.proofs.Promised.{chosen-refused, chosen-none, chosen-least}
 use Rattle.choosing.proofs.call.choose.Statement.{statement}
@@ -58,8 +58,8 @@ space c =
     let r = accepted c .ruled in
     mul-le-mul {n₂ = 64} {m₂ = 7001} (omega (arith, ruled-count r .high)) (omega (arith, head-in _ (r .head) .delivered))
 
-needed : (c : tie.Else1) → workLength (c .before .before .accept-both .result .job) ≡ workLength (decode (c .before .before .before .before .before .before .before .args .b .now))
-needed c = ap workLength (fields c)
+needed : (c : tie.Else1) → workOf (c .before .before .accept-both .result .job) ≡ workOf (decode (c .before .before .before .before .before .before .before .args .b .now))
+needed c = ap workOf (fields c)
 
 returns-3 : tie.Need-returns-3
 returns-3 c =
@@ -75,7 +75,7 @@ ready c =
 
 cheapest-requires : tie.Need-cheapest-requires
 cheapest-requires c κs =
-    let one = c .before .before .before .before .before .before in (accepted one, input-listed _ _ (passed one), c .before .if3 .left)
+    let one = c .before .before .before .before .before .before in (accepted one, input-listed _ _ (passed one), head-in _ (accepted one .ruled .head) .delivered, c .before .if3 .left)
 
 -- 16
 returns-4 : tie.Need-returns-4

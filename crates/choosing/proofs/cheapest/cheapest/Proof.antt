@@ -15,7 +15,7 @@ use Rattle.catalogue.proofs.Listed.{listed-counts}
 use Rattle.catalogue.proofs.ShapeBounds.{shape-in}
 use Rattle.nets.specs.Net.{Net}
 use Rattle.nets.specs.Tables.{netOf, Sound}
-use Rattle.choosing.specs.Shape.{headOf, Drawn}
+use Rattle.choosing.specs.Shape.{headFor, Drawn}
 use Rattle.choosing.proofs.Drawing.{drawn, sound}
 use Rattle.choosing.proofs.Promised.{none-suitable, least-suitable}
 use Rattle.choosing.proofs.cheapest.cheapest.Statement.{statement}
@@ -31,17 +31,17 @@ cast-sizes : tie.Need-cast-sizes
 cast-sizes c = omega (arith, listed-counts (c .before .before .before .before .pre .1) .0 .high)
 
 put-options-requires : tie.Need-put-options-requires
-put-options-requires c κs = let p = c .before .before .before .before .before .before .before .before .before .before .before .pre in (p .0, p .1, (refl, refl))
+put-options-requires c κs = let p = c .before .before .before .before .before .before .before .before .before .before .pre in (p .0, p .1, (refl, refl))
 
 module _ (c : tie.After-put-options) where
   abbrev start : tie.Start
-  start = c .before .before .before .before .before .before .before .before .before .before .before .before
+  start = c .before .before .before .before .before .before .before .before .before .before .before
 
   bytes : (k : ℕ) → byteAt (start .args .cat .now) k < 256
-  bytes k = omega (arith, c .before .before .before .before .before .before .before .before .before .before .before .shared-slice-known .given k)
+  bytes k = omega (arith, c .before .before .before .before .before .before .before .before .before .before .shared-slice-known .given k)
 
   abbrev read : tie.After-sizes-of
-  read = c .before .before .before .before .before .before .before .before
+  read = c .before .before .before .before .before .before .before
 
   -- the tables as a net of so many sizes
   abbrev netWith : ℕ → Net
@@ -66,11 +66,12 @@ choose-requires : tie.Need-choose-requires
 choose-requires c κs =
     let options = c .before .before .before .before .before in
     let p = start options .pre in
+    let d = start options .args .delivered in
     let j = start options .args .job in (
       taken options,
       (
-        omega (arith, head (start options) .delivered),
-        omega (arith, p .2, mul-le-mul {n₁ = countOf j + 1} {m₁ = headOf j + 1} {n₂ = countOf j + 1} {m₂ = j .head .delivered + 1001} (omega arith) (omega arith)),
+        omega (arith, p .2),
+        omega (arith, p .3, mul-le-mul {n₁ = countOf j + 1} {m₁ = headFor j d + 1} {n₂ = countOf j + 1} {m₂ = d + 1001} (omega arith) (omega arith)),
       ),
     )
 
@@ -84,6 +85,6 @@ returns c =
 pub cheapest-spec : {M : Type 1} → statement M
 cheapest-spec =
     tie.close
-    (tie.spec (λ c. search needs) sizes-of-requires cast-sizes (λ c. search needs) (λ c. search needs) (λ c κs. search needs) put-options-requires
-    (λ c. omega (arith, head (c .before .before .before .before .before .before .before .before .before .before .before .before .before .before .before .before .before) .delivered)) (λ c. omega (arith, head (c .before .before .before .before .before .before .before .before .before .before .before .before .before .before .before .before .before) .meter))
+    (tie.spec (λ c. search needs) sizes-of-requires cast-sizes (λ c. search needs) (λ c κs. search needs) put-options-requires
+    (λ c. omega (arith, c .before .before .before .before .before .before .before .before .before .before .before .before .before .before .before .before .pre .2)) (λ c. omega (arith, head (c .before .before .before .before .before .before .before .before .before .before .before .before .before .before .before .before) .meter))
     choose-requires (λ c. search needs) returns)
