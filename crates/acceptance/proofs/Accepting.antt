@@ -13,11 +13,11 @@ use Rattle.record.specs.Record.{decode}
 use Rattle.job.specs.Calls.{readChecks, readNo, readJob, fieldsAfter}
 use Rattle.job.proofs.Stages.{stage-first, stage-second, fields-given}
 use Rattle.job.proofs.Decided.{readable, read-numbered}
-use Rattle.job.proofs.RoundTrip.{read-head}
-use Rattle.demand.specs.Demand.{demandChecks, Ruled, Accepted}
+use Rattle.job.proofs.RoundTrip.{read-header}
+use Rattle.demand.specs.Demand.{demandChecks, Valid, Accepted}
 use Rattle.catalogue.specs.Rules.{catChecks, catNo}
-use Rattle.catalogue.specs.Shape.{Listed}
-use Rattle.catalogue.proofs.Listed.{cat-numbered, listed-of}
+use Rattle.catalogue.specs.Contracts.{AcceptedCat}
+use Rattle.catalogue.proofs.AcceptedCat.{cat-numbered, cat-of}
 use Rattle.acceptance.specs.Acceptance.{jobChecks, jobNo, acceptedJob, inputChecks, inputNo, inputJob}
 
 demand-numbered : (job : Job) → Numbered (demandChecks job)
@@ -43,14 +43,14 @@ module _ (b : List ℕ) where
   accept-fields e = fields-given (jobChecks b) (decode b) e
 
   -- a record that the reader accepts keeps its rules, and one that is accepted its bounds
-  pub read-ruled : readNo b ≡ 0 → Ruled (decode b)
-  read-ruled e = record { head = read-head b e; fields = readable b e .fields }
+  pub read-valid : readNo b ≡ 0 → Valid (decode b)
+  read-valid e = record { header = read-header b e; fields = readable b e .fields }
 
   pub accept-accepted : jobNo b ≡ 0 → Accepted (decode b)
   unfolding jobNo jobChecks readNo
   accept-accepted e =
       let parts = first-split (readChecks b) (demandChecks (decode b)) (read-numbered b) e in
-      record { ruled = read-ruled (parts .0); demand = parts .1 }
+      record { valid = read-valid (parts .0); demand = parts .1 }
 
   -- a call that takes a job goes on with the rest of its checks where the job is accepted
   module _ (rest : List (Bool × ℕ)) where
@@ -88,8 +88,8 @@ module _ (b cat : List ℕ) where
     pub input-accepted : Accepted (decode b)
     input-accepted = accept-accepted b (both .0)
 
-    pub input-listed : Listed cat
-    input-listed = listed-of cat (both .1)
+    pub input-listed : AcceptedCat cat
+    input-listed = cat-of cat (both .1)
 
   module _ (rest : List (Bool × ℕ)) where
     pub input-stops : (inputNo b cat ≡ 0 → ⊥) → firstNo (inputChecks b cat ++ rest) ≡ inputNo b cat

@@ -5,7 +5,7 @@ use Prim.Native.Nat.{ℕ, _+_, _-_, _≤_, _<_}
 use mathlib.Core.List.{List}
 use native.Mathlib.Omega.{arith}
 use Rattle.catalogue.specs.Layout.{flowAt}
-use Rattle.catalogue.specs.Shape.{Above}
+use Rattle.catalogue.specs.Contracts.{Above}
 
 pub record Span (rows : List ℕ) (n q lo hi : ℕ) : Type 0 where
   pub order : lo ≤ hi

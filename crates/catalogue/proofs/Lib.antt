@@ -1,6 +1,6 @@
 pub mod Halving
 pub mod Lines
-pub mod Listed
+pub mod AcceptedCat
 pub mod Places
 pub mod Readings
 pub mod Rising

@@ -9,7 +9,7 @@ use lib.ListN.{length}
 use Rattle.basis.specs.Part.{part}
 use Rattle.basis.proofs.Part.{part-length}
 use Rattle.catalogue.specs.Layout.{rowsOf, sizeLength, sizeFrom, partOf}
-use Rattle.catalogue.specs.Shape.{Sized}
+use Rattle.catalogue.specs.Contracts.{Sized}
 
 next : (s m : ℕ) → 0 < s → s * m ≡ (s - 1) * m + m
 next s m h =

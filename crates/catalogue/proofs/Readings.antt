@@ -11,10 +11,10 @@ use Rattle.basis.specs.Round.{line}
 use Rattle.basis.proofs.Split.{either}
 use Rattle.wire.specs.Wire.{byteAt}
 use Rattle.wire.proofs.Fields.{be-lt}
-use Rattle.catalogue.specs.declared.reading.Reading.{Reading}
+use Rattle.catalogue.specs.declared.reading.SizeAtFlow.{SizeAtFlow}
 use Rattle.catalogue.specs.Layout.{flowAt, velocityAt, slopeAt}
 use Rattle.catalogue.specs.Reading.{between, servesAt, readRows}
-use Rattle.catalogue.specs.Shape.{Rows, Above}
+use Rattle.catalogue.specs.Contracts.{Rows, Above}
 use Rattle.catalogue.proofs.Rising.{Rises, rises, flows-rise}
 use Rattle.catalogue.proofs.Lines.{Rising, rising-le, between-first, between-line, between-high}
 
@@ -32,11 +32,11 @@ module _ (rows : List ℕ) (n q : ℕ) where
   reading-over h = rw (lt-leb q (flowAt rows (n - 1)) h)
 
 -- the first row
-abbrev pub onFirst : List ℕ → Reading
+abbrev pub onFirst : List ℕ → SizeAtFlow
 onFirst rows = record { serves = true; velocity = velocityAt rows 0; slope = slopeAt rows 0 }
 
 -- rows i and j, with the straight line between them at q
-abbrev pub onLine : List ℕ → ℕ → ℕ → ℕ → Reading
+abbrev pub onLine : List ℕ → ℕ → ℕ → ℕ → SizeAtFlow
 onLine rows i j q =
     record {
       serves = true;

@@ -15,7 +15,7 @@ use Rattle.basis.proofs.Within.{Within, within-in, in-within}
 use Rattle.wire.specs.Wire.{byteAt, beAt}
 use Rattle.catalogue.specs.Layout.{sizesOf, rowsOf, sizeLength}
 use Rattle.catalogue.specs.Rules.{shapeOk}
-use Rattle.catalogue.specs.Shape.{Sized}
+use Rattle.catalogue.specs.Contracts.{Sized}
 
 pub record ShapeIn (cat : List ℕ) : Type 0 where
   pub long : 7 ≤ length cat

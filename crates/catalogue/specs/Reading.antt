@@ -5,7 +5,7 @@ use mathlib.Core.Bool.{Bool, cond}
 use mathlib.Core.List.{List}
 use lib.Dec.{leb}
 use Rattle.basis.specs.Round.{line}
-use Rattle.catalogue.specs.declared.reading.Reading.{Reading}
+use Rattle.catalogue.specs.declared.reading.SizeAtFlow.{SizeAtFlow}
 use Rattle.catalogue.specs.Layout.{flowAt, velocityAt, slopeAt}
 
 -- the value at q of rows 0 to n, given by their flows and values: the straight line between the two rows around q, up;
@@ -20,7 +20,7 @@ unfoldable pub servesAt : List ℕ → ℕ → ℕ → Bool
 servesAt rows n q = leb q (flowAt rows (n - 1))
 
 -- n rows of a part read at q; velocity and slope are 0 where the size can't serve
-unfoldable pub readRows : List ℕ → ℕ → ℕ → Reading
+unfoldable pub readRows : List ℕ → ℕ → ℕ → SizeAtFlow
 readRows rows n q =
     record {
       serves = servesAt rows n q;

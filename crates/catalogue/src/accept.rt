@@ -8,6 +8,7 @@ use crate::layout::rows_of;
 use crate::layout::size_from;
 use crate::layout::sizes_of;
 use answer::Answer;
+use numbers::wide32;
 ghost use mathlib.Core.Path.{_≡_};
 ghost use Prim.Native.Nat.{_+_, _*_, _≤_, _<_};
 ghost use mathlib.Core.Bool.{true};
@@ -15,13 +16,7 @@ ghost use lib.ListN.{length};
 ghost use Rattle.answer.specs.Answer.{numberOf};
 ghost use Rattle.catalogue.specs.Layout.{rowsOf, partOf};
 ghost use Rattle.catalogue.specs.Rules.{shapeOk, rowOk, risesAt, rowsOk, sizeOk, sizesOk, catNo};
-ghost use Rattle.catalogue.specs.Shape.{Sized};
-
-fn wide32(x: u32) -> usize
-    ensures { λ r. ⌜ r ≡ x ⌝ }
-{
-    x as usize
-}
+ghost use Rattle.catalogue.specs.Contracts.{Sized};
 
 // 10: length, version and counts.
 fn shape_ok(cat: &[u8]) -> bool
@@ -147,10 +142,10 @@ pub fn catalogue_refusal(cat: &[u8]) -> Answer
     ensures { λ r. ⌜ numberOf r ≡ catNo (now (cat .entry)) ⌝ }
 {
     if !shape_ok(cat) {
-        return Answer::Catalogue;
+        return Answer::CatalogueShape;
     }
     if !sizes_ok(cat) {
-        return Answer::Rows;
+        return Answer::CatalogueRules;
     }
     Answer::Done
 }

@@ -1,15 +1,10 @@
 // Where the fields of a size and of a row stand.
+use numbers::wide8;
 ghost use mathlib.Core.Path.{_≡_};
 ghost use Prim.Native.Nat.{_+_, _*_, _≤_, _<_};
 ghost use lib.ListN.{length};
 ghost use Rattle.catalogue.specs.Layout.{sizesOf, rowsOf, sizeFrom, boreOf, priceOf, flowAt, velocityAt, slopeAt};
-ghost use Rattle.catalogue.specs.Shape.{Sized};
-
-fn wide(x: u8) -> usize
-    ensures { λ r. ⌜ (r ≡ x) × (r ≤ 255) ⌝ }
-{
-    x as usize
-}
+ghost use Rattle.catalogue.specs.Contracts.{Sized};
 
 // The number of sizes, and of rows of each size.
 pub fn sizes_of(cat: &[u8]) -> u8
@@ -31,7 +26,7 @@ pub fn size_from(cat: &[u8], s: usize) -> usize
     requires { ⌜ Sized (now cat) s ⌝ }
     ensures { λ r. ⌜ r ≡ sizeFrom (now (cat .entry)) s ⌝ }
 {
-    7 + (s - 1) * (4 + 8 * wide(rows_of(cat)))
+    7 + (s - 1) * (4 + 8 * wide8(rows_of(cat)))
 }
 
 // The bore of size s in mm.

@@ -7,5 +7,5 @@ pub use accept::catalogue_refusal;
 pub use layout::bore;
 pub use layout::price;
 pub use layout::sizes_of;
-pub use reading::Reading;
+pub use reading::SizeAtFlow;
 pub use reading::read_size;

@@ -9,10 +9,10 @@ ghost use Prim.Native.Nat.{_+_, _-_, _*_, _≤_, _<_};
 ghost use lib.ListN.{length};
 ghost use Rattle.catalogue.specs.Layout.{rowsOf, sizesOf, partOf, flowAt};
 ghost use Rattle.catalogue.specs.Reading.{readRows};
-ghost use Rattle.catalogue.specs.Shape.{Rows, Listed, Above};
+ghost use Rattle.catalogue.specs.Contracts.{Rows, AcceptedCat, Above};
 
 // Velocity in mm/s and slope in mm per metre, 0 where the size can't serve.
-pub struct Reading {
+pub struct SizeAtFlow {
     pub serves: bool,
     pub velocity: u32,
     pub slope: u32,
@@ -37,12 +37,12 @@ fn row_above(rows: &[u8], n: usize, q: u32) -> usize
 }
 
 // n rows of a part read at q.
-fn read_rows(rows: &[u8], n: usize, q: u32) -> Reading
+fn read_rows(rows: &[u8], n: usize, q: u32) -> SizeAtFlow
     requires { ⌜ Rows (now rows) n ⌝ }
     ensures { λ r. ⌜ r ≡ readRows (now (rows .entry)) n q ⌝ }
 {
     if row_flow(rows, n - 1) < q {
-        return Reading {
+        return SizeAtFlow {
             serves: false,
             velocity: 0,
             slope: 0,
@@ -50,7 +50,7 @@ fn read_rows(rows: &[u8], n: usize, q: u32) -> Reading
     }
     let k = row_above(rows, n, q);
     if k == 0 {
-        return Reading {
+        return SizeAtFlow {
             serves: true,
             velocity: row_velocity(rows, 0) as u32,
             slope: row_slope(rows, 0) as u32,
@@ -72,7 +72,7 @@ fn read_rows(rows: &[u8], n: usize, q: u32) -> Reading
         row_slope(rows, k) as u32,
         q,
     );
-    Reading {
+    SizeAtFlow {
         serves: true,
         velocity,
         slope,
@@ -80,8 +80,8 @@ fn read_rows(rows: &[u8], n: usize, q: u32) -> Reading
 }
 
 // Size s of an accepted catalogue read at q.
-pub fn read_size(cat: &[u8], s: usize, q: u32) -> Reading
-    requires { ⌜ Listed (now cat) × (0 < s) × (s ≤ sizesOf (now cat)) ⌝ }
+pub fn read_size(cat: &[u8], s: usize, q: u32) -> SizeAtFlow
+    requires { ⌜ AcceptedCat (now cat) × (0 < s) × (s ≤ sizesOf (now cat)) ⌝ }
     ensures { λ r. ⌜ r ≡ readRows (partOf (now (cat .entry)) s) (rowsOf (now (cat .entry))) q ⌝ }
 {
     let n = rows_of(cat) as usize;

@@ -18,9 +18,9 @@ use Rattle.fields.specs.declared.Job.{Job}
 use Rattle.fields.specs.Fields.{countOf, sectionOf}
 use Rattle.tree.specs.Tree.{parentOf, Rooted}
 use Rattle.tree.proofs.Below.{parent-at}
-use Rattle.rules.proofs.HeadBounds.{head-in}
-use Rattle.demand.specs.Demand.{Ruled}
-use Rattle.demand.proofs.Ruling.{ruled-rooted, ruled-count}
+use Rattle.rules.proofs.HeaderBounds.{header-in}
+use Rattle.demand.specs.Demand.{Valid}
+use Rattle.demand.proofs.Validity.{valid-rooted, valid-count}
 use Rattle.catalogue.specs.Layout.{sizesOf}
 use Rattle.heads.specs.Heads.{reachOf, greatestTo, requiredOf}
 use Rattle.heads.proofs.Loss.{parent-lower}
@@ -30,12 +30,12 @@ use Rattle.sizing.specs.Losses.{listOk, overAt, overAny, lossesOf}
 use Rattle.sizing.proofs.Named.{list-all, list-long, list-names}
 use Rattle.nets.specs.Net.{Net, lossIn, pathIn, Suits, costIn}
 use Rattle.choosing.specs.Suitable.{SuitableAt, priceAt, costOf}
-use Rattle.choosing.specs.Shape.{headFor, Drawn}
+use Rattle.choosing.specs.Contracts.{headFor, TreeOf}
 use Rattle.choosing.proofs.Shifted.{met-reach, reach-met, add-mono}
 
-module _ (job : Job) (cat : List ℕ) (N : Net) (d : Drawn job cat N) (ruled : Ruled job) (delivered : ℕ) where
+module _ (job : Job) (cat : List ℕ) (N : Net) (d : TreeOf job cat N) (valid : Valid job) (delivered : ℕ) where
   rooted : Rooted job
-  rooted = ruled-rooted ruled
+  rooted = valid-rooted valid
 
   pub lower : (s : ℕ) → 0 < s → s ≤ N .sections → N .parent s < s
   lower s h k = let l : s ≤ countOf job = rw (← d .sections) k in rw (d .parent s h l) (rooted .lower s h l)
@@ -56,20 +56,20 @@ module _ (job : Job) (cat : List ℕ) (N : Net) (d : Drawn job cat N) (ruled : R
 
     -- the end of section i: its free head at the delivered head, and what the search asks there
     module _ (i : ℕ) (low : 0 < i) (high : i ≤ countOf job) where
-      pub met-of : leZ (pos (job .head .meter) +ℤ reachOf job (lossesOf job cat list) i) (pos delivered) ≡ true →
+      pub met-of : leZ (pos (job .header .meter) +ℤ reachOf job (lossesOf job cat list) i) (pos delivered) ≡ true →
           pathIn N (sizeOf list) i + N .need i ≤ headFor job delivered
       unfolding reachOf
       met-of e =
           rw (path-is i high)
-          (reach-met (sectionOf job i .elevation) (sectionOf job i .free) (pathOf (parentOf job) (lossesOf job cat list) i) (job .head .meter)
-          delivered (N .need i) (head-in (job .head) (ruled .head) .meter) (d .need i low high) e)
+          (reach-met (sectionOf job i .elevation) (sectionOf job i .free) (pathOf (parentOf job) (lossesOf job cat list) i) (job .header .meter)
+          delivered (N .need i) (header-in (job .header) (valid .header) .meter) (d .need i low high) e)
 
       pub of-met : pathIn N (sizeOf list) i + N .need i ≤ headFor job delivered →
-          leZ (pos (job .head .meter) +ℤ reachOf job (lossesOf job cat list) i) (pos delivered) ≡ true
+          leZ (pos (job .header .meter) +ℤ reachOf job (lossesOf job cat list) i) (pos delivered) ≡ true
       unfolding reachOf
       of-met h =
-          met-reach (sectionOf job i .elevation) (sectionOf job i .free) (pathOf (parentOf job) (lossesOf job cat list) i) (job .head .meter)
-          delivered (N .need i) (head-in (job .head) (ruled .head) .meter) (d .need i low high) (rw (path-is i high) at h)
+          met-reach (sectionOf job i .elevation) (sectionOf job i .free) (pathOf (parentOf job) (lossesOf job cat list) i) (job .header .meter)
+          delivered (N .need i) (header-in (job .header) (valid .header) .meter) (d .need i low high) (rw (path-is i high) at h)
 
   -- document 01's words to the search's
   pub suits-net : (list : List ℕ) → SuitableAt job cat delivered list → Suits N (headFor job delivered) list
@@ -81,8 +81,8 @@ module _ (job : Job) (cat : List ℕ) (N : Net) (d : Drawn job cat N) (ruled : R
         allowed = λ i h k. let w = list-names job cat list (s .sizes) i h (inside i k) in
             d .allowed i (sizeOf list i) h (inside i k) (w .low) (w .high) ∙ rw (under list (s .sizes) (s .serves) i h (inside i k));
         met = λ i h k. met-of list (s .sizes) (s .serves) i h (inside i k)
-            (le-trans (pos (job .head .meter) +ℤ reachOf job (lossesOf job cat list) i) (requiredOf job (lossesOf job cat list)) (pos delivered)
-            (add-mono (job .head .meter) (reachOf job (lossesOf job cat list) i) (greatestTo (countOf job) (reachOf job (lossesOf job cat list)))
+            (le-trans (pos (job .header .meter) +ℤ reachOf job (lossesOf job cat list) i) (requiredOf job (lossesOf job cat list)) (pos delivered)
+            (add-mono (job .header .meter) (reachOf job (lossesOf job cat list) i) (greatestTo (countOf job) (reachOf job (lossesOf job cat list)))
             (greatest-bound (reachOf job (lossesOf job cat list)) (countOf job) i h (inside i k)))
             (s .reaches));
       }
@@ -116,7 +116,7 @@ module _ (job : Job) (cat : List ℕ) (N : Net) (d : Drawn job cat N) (ruled : R
     pub net-suits : SuitableAt job cat delivered list
     unfolding requiredOf
     net-suits =
-        let r : Reached (countOf job) (reachOf job (lossesOf job cat list)) = greatest-reached (reachOf job (lossesOf job cat list)) (countOf job) (ruled-count ruled .low) in
+        let r : Reached (countOf job) (reachOf job (lossesOf job cat list)) = greatest-reached (reachOf job (lossesOf job cat list)) (countOf job) (valid-count valid .low) in
         record {
           sizes = named;
           serves = serving;

@@ -8,16 +8,16 @@ use native.Mathlib.Nat.{mul-le-mul}
 use Rattle.fields.specs.declared.Job.{Job}
 use Rattle.fields.specs.Fields.{sectionOf}
 use Rattle.wire.specs.Wire.{byteAt}
-use Rattle.rules.proofs.HeadBounds.{HeadIn, head-in}
+use Rattle.rules.proofs.HeaderBounds.{HeaderIn, header-in}
 use Rattle.rules.proofs.SectionBounds.{SectionIn}
 use Rattle.rules.proofs.Kept.{sections-in}
-use Rattle.demand.proofs.Ruling.{ruled-sections}
-use Rattle.catalogue.proofs.Listed.{listed-price}
+use Rattle.demand.proofs.Validity.{valid-sections}
+use Rattle.catalogue.proofs.AcceptedCat.{cat-price}
 use Rattle.sizing.specs.Losses.{readingOf, overAt, lossAt}
 use Rattle.nets.specs.Tables.{top}
 use Rattle.sizing.proofs.Trying.{read-top, tried-over, tried-not}
 use Rattle.choosing.specs.Suitable.{priceAt}
-use Rattle.choosing.specs.Shape.{entryOf, lossEntry, Pair}
+use Rattle.choosing.specs.Contracts.{entryOf, lossEntry, Pair}
 
 pub entry-over : (job : Job) (cat : List ℕ) (i s : ℕ) → overAt job cat s i ≡ true → top ≡ lossEntry job cat i s
 unfolding lossEntry readingOf
@@ -33,14 +33,14 @@ cost-top a b = mul-le-mul {n₂ = 10000} {m₂ = 5000} a b
 
 module _ {job : Job} {cat : List ℕ} {i s : ℕ} (p : Pair job cat i s) where
   pub pair-section : SectionIn i (sectionOf job i)
-  pair-section = sections-in job (ruled-sections (p .accepted .ruled)) i (p .first) (p .last)
+  pair-section = sections-in job (valid-sections (p .accepted .valid)) i (p .first) (p .last)
 
-  pub pair-head : HeadIn (job .head)
-  pair-head = head-in (job .head) (p .accepted .ruled .head)
+  pub pair-head : HeaderIn (job .header)
+  pair-head = header-in (job .header) (p .accepted .valid .header)
 
   pub price-top : priceAt job cat s i ≤ 50000000
   unfolding priceAt
-  price-top = cost-top (listed-price (p .listed) s (p .low) (p .high) .high) (pair-section .decimetres .high)
+  price-top = cost-top (cat-price (p .listed) s (p .low) (p .high) .high) (pair-section .decimetres .high)
 
   pub slope-top : ((k : ℕ) → byteAt cat k < 256) → readingOf job cat s i .slope ≤ 65535
   unfolding readingOf

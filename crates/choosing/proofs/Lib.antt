@@ -3,6 +3,6 @@ pub mod Bridge
 pub mod Promised
 pub mod Placed
 pub mod Entries
-pub mod Drawing
+pub mod Trees
 pub mod Ordering
 pub mod Whole

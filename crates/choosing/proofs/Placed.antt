@@ -8,7 +8,7 @@ use native.Mathlib.Omega.{arith}
 use lib.ListN.{length, getD, set, length-set}
 use lib.Seq.{getD-set-same, getD-set-other}
 use Rattle.basis.proofs.Split.{eq-or-ne}
-use Rattle.choosing.specs.Shape.{Entered, Tabled}
+use Rattle.choosing.specs.Contracts.{Entered, Tabled}
 
 -- P holds of what stands at each of the places 1 to i - 1
 pub record Placed (P : ℕ → ℕ → Type 0) (i : ℕ) (l : List ℕ) : Type 0 where

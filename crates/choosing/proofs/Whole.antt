@@ -15,8 +15,8 @@ use Rattle.wire.specs.Wire.{beAt, bytesOf}
 use Rattle.wire.proofs.Fields.{be-bytes}
 use Rattle.record.specs.Record.{decode}
 use Rattle.demand.specs.Demand.{Accepted}
-use Rattle.demand.proofs.Ruling.{ruled-count}
-use Rattle.catalogue.specs.Shape.{Listed}
+use Rattle.demand.proofs.Validity.{valid-count}
+use Rattle.catalogue.specs.Contracts.{AcceptedCat}
 use Rattle.acceptance.specs.Acceptance.{inputNo}
 use Rattle.sizing.proofs.Named.{list-names}
 use Rattle.acceptance.proofs.Accepting.{input-accepted, input-listed}
@@ -26,10 +26,10 @@ use Rattle.choosing.proofs.Entries.{price-top}
 use Rattle.choosing.proofs.Ordering.{choose-ready}
 
 -- 63 sections at 50,000,000 each
-pub cost-top : {job : Job} {cat list : List ℕ} → Accepted job → Listed cat → Suitable job cat list → costOf job cat list ≤ 3150000000
+pub cost-top : {job : Job} {cat list : List ℕ} → Accepted job → AcceptedCat cat → Suitable job cat list → costOf job cat list ≤ 3150000000
 unfolding costOf
 cost-top {job} {cat} {list} a l s =
-    let few = ruled-count (a .ruled) .high in
+    let few = valid-count (a .valid) .high in
     let sum = sum-le (countOf job) 50000000 (λ i. priceAt job cat (sizeOf list i) i)
     (λ i h k. let w = list-names job cat list (s .sizes) i h k in
     price-top (record { accepted = a; listed = l; first = h; last = k; low = w .low; high = w .high })) in

@@ -26,7 +26,7 @@ workLength count delivered = 4 * ((count + 1) * (delivered + 1001))
 
 -- for a job at its own H
 abbrev pub workOf : Job → ℕ
-workOf job = workLength (countOf job) (job .head .delivered)
+workOf job = workLength (countOf job) (job .header .delivered)
 
 -- result space and workspace are enough when neither 14 nor 15 applies
 pub record Ample (b out work : List ℕ) : Type 0 where

@@ -25,7 +25,7 @@ pub record SuitableAt (job : Job) (cat : List ℕ) (delivered : ℕ) (list : Lis
 
 -- at the job's own H
 abbrev pub Suitable : Job → List ℕ → List ℕ → Type 0
-Suitable job cat list = SuitableAt job cat (job .head .delivered) list
+Suitable job cat list = SuitableAt job cat (job .header .delivered) list
 
 -- the price of size s for the length of section i, in tenths of the price unit
 unfoldable pub priceAt : Job → List ℕ → ℕ → ℕ → ℕ

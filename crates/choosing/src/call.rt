@@ -30,17 +30,17 @@ pub fn choose(b: &[u8], cat: &[u8], work: &mut [u8], out: &mut [u8]) -> Answer
         return answer;
     }
     let job = accepted.job;
-    let count = job.head.sections as usize;
+    let count = job.header.sections as usize;
     if out.len() < 4 + count {
-        return Answer::Room;
+        return Answer::ResultShort;
     }
-    let delivered = job.head.delivered as usize;
+    let delivered = job.header.delivered as usize;
     if work.len() < 4 * ((count + 1) * (delivered + 1001)) {
-        return Answer::Workspace;
+        return Answer::WorkShort;
     }
     let choice = cheapest(job, cat, delivered, work);
     if !choice.found {
-        return Answer::Unsuitable;
+        return Answer::NoSuitableList;
     }
     let sizes = choice.sizes;
     put_result(out, choice.cost, sizes, count);

@@ -6,8 +6,8 @@ ghost use mathlib.Core.Bool.{true};
 ghost use Prim.Native.Nat.{_+_};
 ghost use lib.IntN.{pos, _+ℤ_};
 ghost use Rattle.rules.specs.Rules.{elevationOk};
-ghost use Rattle.demand.specs.Demand.{Ruled};
-ghost use Rattle.choosing.specs.Shape.{shift, Ended};
+ghost use Rattle.demand.specs.Demand.{Valid};
+ghost use Rattle.choosing.specs.Contracts.{shift, EndsOf};
 
 // The parent of each section, and elevation + free head at its end, 1,000 cm more so that it is not negative; at the section's place.
 pub struct Ends {
@@ -24,10 +24,10 @@ fn need(s: Section) -> u32
 }
 
 pub fn ends_of(job: Job) -> Ends
-    requires { ⌜ Ruled job ⌝ }
-    ensures { λ r. ⌜ Ended job (r .parents) (r .needs) ⌝ }
+    requires { ⌜ Valid job ⌝ }
+    ensures { λ r. ⌜ EndsOf job (r .parents) (r .needs) ⌝ }
 {
-    let count = job.head.sections as usize;
+    let count = job.header.sections as usize;
     let mut parents = [0u8; 64];
     let mut needs = [0u32; 64];
     let mut i: usize = 1;

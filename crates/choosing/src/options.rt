@@ -1,5 +1,5 @@
 // What each section may have: loss and cost with each size of the catalogue.
-use fields::Head;
+use fields::Header;
 use fields::Job;
 use fields::Section;
 use nets::TOP;
@@ -10,9 +10,9 @@ ghost use lib.ListN.{length};
 ghost use Rattle.fields.specs.Fields.{countOf};
 ghost use Rattle.demand.specs.Demand.{Accepted};
 ghost use Rattle.catalogue.specs.Layout.{sizesOf, priceOf};
-ghost use Rattle.catalogue.specs.Shape.{Listed};
+ghost use Rattle.catalogue.specs.Contracts.{AcceptedCat};
 ghost use Rattle.choosing.specs.Suitable.{priceAt};
-ghost use Rattle.choosing.specs.Shape.{entryOf, lossBy, lossEntry, Entered, Tabled};
+ghost use Rattle.choosing.specs.Contracts.{entryOf, lossBy, lossEntry, Entered, Tabled};
 
 // The loss of a section with a size, or the mark where the section may not have it.
 fn entry(t: Tried) -> u32
@@ -23,7 +23,7 @@ fn entry(t: Tried) -> u32
 
 // Row i of both tables, of the section there with each size at its flow.
 fn put_row(
-    head: Head,
+    head: Header,
     section: Section,
     cat: &[u8],
     i: usize,
@@ -31,7 +31,7 @@ fn put_row(
     losses: &mut [u32; 832],
     costs: &mut [u32; 832],
 )
-    requires { ⌜ Listed (now cat) × (i < 64) × ((section .decimetres ≤ 5000) × (head .tenths ≤ 3)) ⌝ }
+    requires { ⌜ AcceptedCat (now cat) × (i < 64) × ((section .decimetres ≤ 5000) × (head .tenths ≤ 3)) ⌝ }
     requires { ⌜ (length (now losses) ≡ 832) × (length (now costs) ≡ 832) ⌝ }
     ensures losses { λ _. ⌜ Entered (lossBy head section (now (cat .entry)) flow) i (sizesOf (now (cat .entry))) (now (losses .entry))
         (now (losses .exit)) ⌝ }
@@ -50,15 +50,15 @@ fn put_row(
 
 // Both tables.
 pub fn put_options(job: Job, cat: &[u8], losses: &mut [u32; 832], costs: &mut [u32; 832])
-    requires { ⌜ Accepted job × Listed (now cat) × ((length (now losses) ≡ 832) × (length (now costs) ≡ 832)) ⌝ }
+    requires { ⌜ Accepted job × AcceptedCat (now cat) × ((length (now losses) ≡ 832) × (length (now costs) ≡ 832)) ⌝ }
     ensures losses { λ _. ⌜ Tabled (lossEntry job (now (cat .entry))) (countOf job) (sizesOf (now (cat .entry))) (now (losses .exit)) ⌝ }
     ensures costs { λ _. ⌜ Tabled (λ i s. priceAt job (now (cat .entry)) s i) (countOf job) (sizesOf (now (cat .entry))) (now (costs .exit)) ⌝ }
 {
-    let count = job.head.sections as usize;
+    let count = job.header.sections as usize;
     let flows = demand::flows(job);
     let mut i: usize = 1;
     while i <= count {
-        put_row(job.head, job.sections[i], cat, i, flows[i], losses, costs);
+        put_row(job.header, job.sections[i], cat, i, flows[i], losses, costs);
         i += 1;
     }
 }

@@ -10,8 +10,8 @@ use Rattle.fields.specs.declared.Job.{Job}
 use Rattle.fields.specs.Fields.{residentsOf}
 use Rattle.tree.specs.Tree.{houseOf}
 use Rattle.norms.specs.Norms.{normOf}
-use Rattle.demand.specs.Demand.{serviceOf, normAt, shareOf, mOf, tapSumOf, flowOf, fixturesOf}
-use Rattle.demand.proofs.Equations.{share-is, m-is, taps-is, flow-is}
+use Rattle.demand.specs.Demand.{serviceOf, normAt, shareOf, mOf, fixtureSumOf, flowOf, fixturesOf}
+use Rattle.demand.proofs.Equations.{share-is, m-is, fixture-is, flow-is}
 use Rattle.demand.proofs.Shares.{share-zero}
 
 -- two jobs, each with a vector, whose shares agree
@@ -20,17 +20,17 @@ module _ (a b : Job) (n n′ : ℕ → ℕ) (services : serviceOf a ≡ serviceO
   m-agree : mOf a n ≡ mOf b n′
   m-agree = m-is a n ∙ sum-ext 12 _ _ shares ∙ sym (m-is b n′)
 
-  tap-agree : (kind : ℕ) → normAt a kind .tap ≡ normAt b kind .tap
-  tap-agree kind = ap (λ s. normOf s kind .tap) services
+  fixture-agree : (kind : ℕ) → normAt a kind .fixture ≡ normAt b kind .fixture
+  fixture-agree kind = ap (λ s. normOf s kind .fixture) services
 
-  taps-agree : tapSumOf a n ≡ tapSumOf b n′
-  taps-agree =
-      taps-is a n ∙
-      sum-ext 12 _ _ (λ kind p q. ap (λ x. x * normAt a kind .tap) (shares kind p q) ∙ ap (λ x. shareOf b n′ kind * x) (tap-agree kind)) ∙
-      sym (taps-is b n′)
+  weighted-agree : fixtureSumOf a n ≡ fixtureSumOf b n′
+  weighted-agree =
+      fixture-is a n ∙
+      sum-ext 12 _ _ (λ kind p q. ap (λ x. x * normAt a kind .fixture) (shares kind p q) ∙ ap (λ x. shareOf b n′ kind * x) (fixture-agree kind)) ∙
+      sym (fixture-is b n′)
 
   flow-agree : flowOf a n ≡ flowOf b n′
-  flow-agree = flow-is a n ∙ rw (taps-agree, m-agree) (sym (flow-is b n′))
+  flow-agree = flow-is a n ∙ rw (weighted-agree, m-agree) (sym (flow-is b n′))
 
 module _ (job : Job) (n n′ : ℕ → ℕ) (same : (kind : ℕ) → 0 < kind → kind ≤ 12 → n kind ≡ n′ kind) where
   share-same : (kind : ℕ) → 0 < kind → kind ≤ 12 → shareOf job n kind ≡ shareOf job n′ kind
@@ -39,8 +39,8 @@ module _ (job : Job) (n n′ : ℕ → ℕ) (same : (kind : ℕ) → 0 < kind �
   pub m-same : mOf job n ≡ mOf job n′
   m-same = m-agree job job n n′ refl share-same
 
-  pub taps-same : tapSumOf job n ≡ tapSumOf job n′
-  taps-same = taps-agree job job n n′ refl share-same
+  pub weighted-same : fixtureSumOf job n ≡ fixtureSumOf job n′
+  weighted-same = weighted-agree job job n n′ refl share-same
 
   pub flow-same : flowOf job n ≡ flowOf job n′
   flow-same = flow-agree job job n n′ refl share-same

@@ -10,7 +10,7 @@ use Rattle.fields.specs.declared.Job.{Job}
 use Rattle.fields.specs.Fields.{countOf}
 use Rattle.tree.specs.Tree.{servedOf, houseOf, Rooted}
 use Rattle.tree.proofs.Served.{served-house}
-use Rattle.demand.specs.Demand.{mOf, fixturesOf, hourSumOf, crowded, overSum, overProbability, demandChecks}
+use Rattle.demand.specs.Demand.{mOf, fixturesOf, hourSumOf, needsTableOne, overSum, overProbability, demandChecks}
 use Rattle.demand.proofs.Agreeing.{m-same, fixtures-same}
 
 -- row 0 of the counts is the house
@@ -36,21 +36,21 @@ module _ (job : Job) where
       unfolding overSum
       not-over = rw (le-ltb 400000000 (mOf job (houseOf job)) m, le-ltb 400000000 (hourSumOf job) hour)
 
-      pub crowded-house : crowded (mOf job (houseOf job)) (fixturesOf (houseOf job)) ≡ true → firstNo (demandChecks job) ≡ 9
+      pub table-one-house : needsTableOne (mOf job (houseOf job)) (fixturesOf (houseOf job)) ≡ true → firstNo (demandChecks job) ≡ 9
       unfolding demandChecks firstNo overProbability
-      crowded-house e = rw (not-over, e)
+      table-one-house e = rw (not-over, e)
 
-      module _ (house : crowded (mOf job (houseOf job)) (fixturesOf (houseOf job)) ≡ false) where
-        pub crowded-any : anyTo (countOf job) (λ i. crowded (mOf job (servedOf job i)) (fixturesOf (servedOf job i))) ≡ true →
+      module _ (house : needsTableOne (mOf job (houseOf job)) (fixturesOf (houseOf job)) ≡ false) where
+        pub table-one-any : anyTo (countOf job) (λ i. needsTableOne (mOf job (servedOf job i)) (fixturesOf (servedOf job i))) ≡ true →
             firstNo (demandChecks job) ≡ 9
         unfolding demandChecks firstNo overProbability
-        crowded-any e = rw (not-over, house, e)
+        table-one-any e = rw (not-over, house, e)
 
-        module _ (any : anyTo (countOf job) (λ i. crowded (mOf job (servedOf job i)) (fixturesOf (servedOf job i))) ≡ false) where
-          pub crowded-hour : crowded (hourSumOf job) (fixturesOf (houseOf job)) ≡ true → firstNo (demandChecks job) ≡ 9
+        module _ (any : anyTo (countOf job) (λ i. needsTableOne (mOf job (servedOf job i)) (fixturesOf (servedOf job i))) ≡ false) where
+          pub table-one-hour : needsTableOne (hourSumOf job) (fixturesOf (houseOf job)) ≡ true → firstNo (demandChecks job) ≡ 9
           unfolding demandChecks firstNo overProbability
-          crowded-hour e = rw (not-over, house, any, e)
+          table-one-hour e = rw (not-over, house, any, e)
 
-          pub not-crowded : crowded (hourSumOf job) (fixturesOf (houseOf job)) ≡ false → firstNo (demandChecks job) ≡ 0
+          pub not-needsTableOne : needsTableOne (hourSumOf job) (fixturesOf (houseOf job)) ≡ false → firstNo (demandChecks job) ≡ 0
           unfolding demandChecks firstNo overProbability
-          not-crowded e = rw (not-over, house, any, e)
+          not-needsTableOne e = rw (not-over, house, any, e)

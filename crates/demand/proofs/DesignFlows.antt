@@ -8,9 +8,9 @@ use Rattle.basis.proofs.Round.{up-le}
 use Rattle.fields.specs.declared.Job.{Job}
 use Rattle.coefficient.specs.Alpha.{alphaOf}
 use Rattle.coefficient.proofs.Coefficient.{alpha-ceiling}
-use Rattle.demand.specs.Demand.{mOf, tapSumOf, flowOf, hourSumOf, drawSumOf, hourOf}
+use Rattle.demand.specs.Demand.{mOf, fixtureSumOf, flowOf, hourSumOf, hourlySumOf, hourOf}
 use Rattle.demand.proofs.Equations.{flow-is, hour-is}
-use Rattle.demand.proofs.Totals.{tap-sum-le, draw-sum-le}
+use Rattle.demand.proofs.Totals.{fixture-sum-le, hourly-sum-le}
 
 -- a sum of at most b times α
 pub alpha-product : (t b m : ℕ) → t ≤ b → t * alphaOf m ≤ b * 91900000
@@ -24,13 +24,13 @@ module _ (job : Job) (n : ℕ → ℕ) where
   pub flow-top : 0 < mOf job n → flowOf job n ≤ 137850
   flow-top h =
       rw (flow-is job n)
-      (alpha-quotient (tapSumOf job n) (30 * mOf job n) (20000 * mOf job n) (mOf job n) (omega arith) (tap-sum-le job n) (omega arith))
+      (alpha-quotient (fixtureSumOf job n) (30 * mOf job n) (20000 * mOf job n) (mOf job n) (omega arith) (fixture-sum-le job n) (omega arith))
 
 module _ (job : Job) where
   pub hour-top : 0 < hourSumOf job → hourOf job ≤ 137850
   hour-top h =
       rw (hour-is job)
-      (alpha-quotient (drawSumOf job) (300 * hourSumOf job) (200000 * hourSumOf job) (hourSumOf job) (omega arith) (draw-sum-le job) (omega arith))
+      (alpha-quotient (hourlySumOf job) (300 * hourSumOf job) (200000 * hourSumOf job) (hourSumOf job) (omega arith) (hourly-sum-le job) (omega arith))
 
-  pub hour-product : (m : ℕ) → hourSumOf job ≤ 400000000 → drawSumOf job * alphaOf m ≤ 11028000000000000000
-  hour-product m h = alpha-product (drawSumOf job) 120000000000 m (omega (arith, draw-sum-le job))
+  pub hour-product : (m : ℕ) → hourSumOf job ≤ 400000000 → hourlySumOf job * alphaOf m ≤ 11028000000000000000
+  hour-product m h = alpha-product (hourlySumOf job) 120000000000 m (omega (arith, hourly-sum-le job))

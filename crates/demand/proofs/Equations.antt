@@ -12,21 +12,21 @@ use Rattle.tree.specs.Tree.{houseOf}
 use Rattle.coefficient.specs.Alpha.{alphaOf}
 use Rattle.norms.specs.declared.Norm.{Norm}
 use Rattle.norms.proofs.Bounds.{NormIn, norm-in}
-use Rattle.demand.specs.Demand.{serviceOf, normAt, shareOf, mOf, tapSumOf, flowOf, hourShareOf, hourSumOf, drawSumOf, hourOf}
+use Rattle.demand.specs.Demand.{serviceOf, normAt, shareOf, mOf, fixtureSumOf, flowOf, hourShareOf, hourSumOf, hourlySumOf, hourOf}
 
 -- the share by a kind's norms, its residents, and its fixtures, n of the house's: rate × n / (base × house)
 abbrev pub rateBy : Norm → ℕ → ℕ
 rateBy norm residents = 25000 * norm .hour * residents
 
 abbrev pub baseBy : Norm → ℕ
-baseBy norm = 9 * norm .tap
+baseBy norm = 9 * norm .fixture
 
 unfoldable pub shareBy : Norm → ℕ → ℕ → ℕ → ℕ
 shareBy norm residents n house = cond (eqb house 0) 0 (up (rateBy norm residents * n) (baseBy norm * house))
 
 -- and for the hour
 unfoldable pub hourShareBy : Norm → ℕ → ℕ
-hourShareBy norm residents = up (100000 * norm .hour * residents) (norm .draw)
+hourShareBy norm residents = up (100000 * norm .hour * residents) (norm .hourly)
 
 module _ (job : Job) (kind : ℕ) where
   pub norm-at : 0 < kind → kind ≤ 12 → NormIn (normAt job kind)
@@ -45,11 +45,11 @@ module _ (job : Job) (n : ℕ → ℕ) where
   unfolding mOf
   m-is = refl
 
-  pub taps-is : tapSumOf job n ≡ sumTo 12 (λ kind. shareOf job n kind * normAt job kind .tap)
-  unfolding tapSumOf
-  taps-is = refl
+  pub fixture-is : fixtureSumOf job n ≡ sumTo 12 (λ kind. shareOf job n kind * normAt job kind .fixture)
+  unfolding fixtureSumOf
+  fixture-is = refl
 
-  pub flow-is : flowOf job n ≡ up (tapSumOf job n * alphaOf (mOf job n)) (20000 * mOf job n)
+  pub flow-is : flowOf job n ≡ up (fixtureSumOf job n * alphaOf (mOf job n)) (20000 * mOf job n)
   unfolding flowOf
   flow-is = refl
 
@@ -58,10 +58,10 @@ module _ (job : Job) where
   unfolding hourSumOf
   hour-sum-is = refl
 
-  pub draws-is : drawSumOf job ≡ sumTo 12 (λ kind. hourShareOf job kind * normAt job kind .draw)
-  unfolding drawSumOf
-  draws-is = refl
+  pub hourly-is : hourlySumOf job ≡ sumTo 12 (λ kind. hourShareOf job kind * normAt job kind .hourly)
+  unfolding hourlySumOf
+  hourly-is = refl
 
-  pub hour-is : hourOf job ≡ up (drawSumOf job * alphaOf (hourSumOf job)) (200000 * hourSumOf job)
+  pub hour-is : hourOf job ≡ up (hourlySumOf job * alphaOf (hourSumOf job)) (200000 * hourSumOf job)
   unfolding hourOf
   hour-is = refl

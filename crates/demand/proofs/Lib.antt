@@ -1,7 +1,7 @@
 pub mod Cells
 pub mod Partial
 pub mod Tops
-pub mod Ruling
+pub mod Validity
 pub mod Serving
 pub mod Equations
 pub mod Shares

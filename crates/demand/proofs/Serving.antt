@@ -19,8 +19,8 @@ use Rattle.tree.proofs.Served.{own-served, served-child, served-le}
 use Rattle.rules.specs.Rules.{childless, childlessZero}
 use Rattle.rules.proofs.Ends.{childlessZeroAt}
 use Rattle.rules.proofs.Kept.{sections-in}
-use Rattle.demand.specs.Demand.{Ruled}
-use Rattle.demand.proofs.Ruling.{ruled-rooted, ruled-kinds, ruled-sections, ruled-ends, ruled-count}
+use Rattle.demand.specs.Demand.{Valid}
+use Rattle.demand.proofs.Validity.{valid-rooted, valid-kinds, valid-sections, valid-ends, valid-count}
 
 -- a kind of which a vector has fixtures
 pub record Serves (n : ℕ → ℕ) : Type 0 where
@@ -36,9 +36,9 @@ own-kind : (job : Job) (i : ℕ) → ownOf job (sectionOf job i .kind) i ≡ sec
 unfolding ownOf
 own-kind job i = rw (eq-eqb (sectionOf job i .kind) (sectionOf job i .kind) refl)
 
-module _ {job : Job} (r : Ruled job) where
+module _ {job : Job} (r : Valid job) where
   abbrev rooted : Rooted job
-  rooted = ruled-rooted r
+  rooted = valid-rooted r
 
   module _ (i : ℕ) (a : 0 < i) (b : i ≤ countOf job) where
     -- the kind at the end of a section that is nobody's parent
@@ -46,16 +46,16 @@ module _ {job : Job} (r : Ruled job) where
     unfolding childlessZero
     end-kind c =
         pos-of-ne-zero
-        (λ z. not-both _ _ (any-at (countOf job) (childlessZeroAt job) (ruled-ends r) i a b) (eq-eqb (sectionOf job i .kind) 0 z) c)
+        (λ z. not-both _ _ (any-at (countOf job) (childlessZeroAt job) (valid-ends r) i a b) (eq-eqb (sectionOf job i .kind) 0 z) c)
 
     end-serves : childless job i ≡ true → Serves (servedOf job i)
     end-serves c =
         let p : 0 < sectionOf job i .kind = end-kind c in
-        let f : 1 ≤ sectionOf job i .fixtures = sections-in job (ruled-sections r) i a b .kinds .fitted p in
+        let f : 1 ≤ sectionOf job i .fixtures = sections-in job (valid-sections r) i a b .kinds .fitted p in
         record {
           kind = sectionOf job i .kind;
           low = p;
-          high = ruled-kinds r .twelve i a b;
+          high = valid-kinds r .twelve i a b;
           some = omega (arith, own-kind job i, own-served rooted i (sectionOf job i .kind) a b);
         }
 
@@ -80,4 +80,4 @@ module _ {job : Job} (r : Ruled job) where
   serves i a b = serves-from (suc (countOf job)) i (omega arith) a b
 
   pub house-serves : Serves (houseOf job)
-  house-serves = serves-more (served-le rooted 1) (serves 1 (omega arith) (ruled-count r .low))
+  house-serves = serves-more (served-le rooted 1) (serves 1 (omega arith) (valid-count r .low))

@@ -39,11 +39,11 @@ module _ (norm : Norm) (u : ℕ) where
     by-pos : (n house : ℕ) → 0 < u → 0 < n → 0 < house → 0 < shareBy norm u n house
     by-pos n house a b c =
         rw (by-some n house c)
-        (up-pos _ _ (mul-pos (mul-pos (omega (arith, in-range .hour .low)) a) b) (mul-pos (omega (arith, in-range .tap .low)) c))
+        (up-pos _ _ (mul-pos (mul-pos (omega (arith, in-range .hour .low)) a) b) (mul-pos (omega (arith, in-range .fixture .low)) c))
 
     hour-by-pos : 0 < u → 0 < hourShareBy norm u
     unfolding hourShareBy
-    hour-by-pos a = up-pos _ _ (mul-pos (omega (arith, in-range .hour .low)) a) (omega (arith, in-range .draw .low))
+    hour-by-pos a = up-pos _ _ (mul-pos (omega (arith, in-range .hour .low)) a) (omega (arith, in-range .hourly .low))
 
 module _ (job : Job) (kind : ℕ) (n : ℕ → ℕ) where
   pub share-zero : n kind ≡ 0 → shareOf job n kind ≡ 0

@@ -16,7 +16,7 @@ pub record ShareFits (norm : Norm) (residents n house : ℕ) : Type 0 where
   pub norms : NormIn norm
   pub people : 25000 * norm .hour * residents ≤ 491512500000
   pub over : 25000 * norm .hour * residents * n ≤ 2029310116312500000
-  pub under : Within 126 1114750350 (9 * norm .tap * house)
+  pub under : Within 126 1114750350 (9 * norm .fixture * house)
 
 -- the product of an hour's share
 pub record HourFits (norm : Norm) (residents : ℕ) : Type 0 where
@@ -28,11 +28,11 @@ module _ {norm : Norm} {kind : ℕ} (e : norm ≡ normOf 0 kind) (k : (1 ≤ kin
   norm-known = rw e (norm-in 0 kind (k .0) (k .1))
 
   -- a share times its norm
-  pub tap-top : {share : ℕ} → share ≤ 16105635843750000 → share * norm .tap ≤ 483169075312500000
-  tap-top s = mul-le-mul {n₂ = 16105635843750000} {m₂ = 30} s (norm-known .tap .high)
+  pub fixture-top : {share : ℕ} → share ≤ 16105635843750000 → share * norm .fixture ≤ 483169075312500000
+  fixture-top s = mul-le-mul {n₂ = 16105635843750000} {m₂ = 30} s (norm-known .fixture .high)
 
-  pub draw-top : {share : ℕ} → share ≤ 24575625000 → share * norm .draw ≤ 7372687500000
-  draw-top s = mul-le-mul {n₂ = 24575625000} {m₂ = 300} s (norm-known .draw .high)
+  pub hourly-top : {share : ℕ} → share ≤ 24575625000 → share * norm .hourly ≤ 7372687500000
+  hourly-top s = mul-le-mul {n₂ = 24575625000} {m₂ = 300} s (norm-known .hourly .high)
 
   module _ {residents : ℕ} (r : residents < 65536) where
     pub share-fits : {n house : ℕ} → n ≤ 4128705 → 0 < house → house ≤ 4128705 → ShareFits norm residents n house
@@ -59,16 +59,16 @@ module _ {norm : Norm} {kind : ℕ} (e : norm ≡ normOf 0 kind) (k : (1 ≤ kin
     day-top = let i = norm-known in mul-le-mul {n₂ = 400} {m₂ = 65535} (omega arith) (omega arith)
 
 pub share-top : {norm : Norm} {residents n house : ℕ} → ShareFits norm residents n house →
-    up (25000 * norm .hour * residents * n) (9 * norm .tap * house) ≤ 16105635843750000
+    up (25000 * norm .hour * residents * n) (9 * norm .fixture * house) ≤ 16105635843750000
 share-top {norm} {residents} {n} {house} f =
     up-le (25000 * norm .hour * residents * n) 16105635843750000 (omega arith)
     (omega (arith, mul-le-mul-left 16105635843750000 (f .under .low)))
 
 pub hour-share-top : {norm : Norm} {residents : ℕ} → HourFits norm residents →
-    up (100000 * norm .hour * residents) (norm .draw) ≤ 24575625000
+    up (100000 * norm .hour * residents) (norm .hourly) ≤ 24575625000
 hour-share-top {norm} {residents} f =
     up-le (100000 * norm .hour * residents) 24575625000 (omega arith)
-    (omega (arith, mul-le-mul-left 24575625000 (f .norms .draw .low)))
+    (omega (arith, mul-le-mul-left 24575625000 (f .norms .hourly .low)))
 
 -- the mean hour is at most the day
 pub mean-top : (day : ℕ) {hours : ℕ} → 0 < hours → up day hours ≤ day

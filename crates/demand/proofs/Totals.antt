@@ -16,11 +16,11 @@ use Rattle.fields.specs.declared.Job.{Job}
 use Rattle.fields.specs.Fields.{countOf}
 use Rattle.tree.specs.Tree.{servedOf, houseOf}
 use Rattle.tree.proofs.Served.{served-le}
-use Rattle.demand.specs.Demand.{normAt, shareOf, mOf, tapSumOf, hourShareOf, hourSumOf, drawSumOf}
-use Rattle.demand.specs.Demand.{overSum, overProbability, demandChecks, Ruled, Accepted}
-use Rattle.demand.proofs.Ruling.{ruled-rooted, residents-match}
+use Rattle.demand.specs.Demand.{normAt, shareOf, mOf, fixtureSumOf, hourShareOf, hourSumOf, hourlySumOf}
+use Rattle.demand.specs.Demand.{overSum, overProbability, demandChecks, Valid, Accepted}
+use Rattle.demand.proofs.Validity.{valid-rooted, residents-match}
 use Rattle.demand.proofs.Serving.{Serves, serves, house-serves}
-use Rattle.demand.proofs.Equations.{norm-at, m-is, taps-is, hour-sum-is, draws-is}
+use Rattle.demand.proofs.Equations.{norm-at, m-is, fixture-is, hour-sum-is, hourly-is}
 use Rattle.demand.proofs.Shares.{share-mono, share-pos, hour-share-pos}
 
 -- the sum of share × norm, by the norm's bound
@@ -33,19 +33,19 @@ module _ (job : Job) where
   pub m-mono : (n n′ : ℕ → ℕ) → ((kind : ℕ) → 0 < kind → kind ≤ 12 → n kind ≤ n′ kind) → mOf job n ≤ mOf job n′
   m-mono n n′ h = rw (m-is job n, m-is job n′) (sum-mono 12 _ _ (λ kind p q. share-mono job kind n n′ (h kind p q)))
 
-  pub tap-sum-le : (n : ℕ → ℕ) → tapSumOf job n ≤ 30 * mOf job n
-  tap-sum-le n =
-      rw (taps-is job n, m-is job n)
-      (weighed 30 (shareOf job n) (λ kind. normAt job kind .tap) (λ kind p q. norm-at job kind p q .tap .high))
+  pub fixture-sum-le : (n : ℕ → ℕ) → fixtureSumOf job n ≤ 30 * mOf job n
+  fixture-sum-le n =
+      rw (fixture-is job n, m-is job n)
+      (weighed 30 (shareOf job n) (λ kind. normAt job kind .fixture) (λ kind p q. norm-at job kind p q .fixture .high))
 
-  pub draw-sum-le : drawSumOf job ≤ 300 * hourSumOf job
-  draw-sum-le =
-      rw (draws-is job, hour-sum-is job)
-      (weighed 300 (hourShareOf job) (λ kind. normAt job kind .draw) (λ kind p q. norm-at job kind p q .draw .high))
+  pub hourly-sum-le : hourlySumOf job ≤ 300 * hourSumOf job
+  hourly-sum-le =
+      rw (hourly-is job, hour-sum-is job)
+      (weighed 300 (hourShareOf job) (λ kind. normAt job kind .hourly) (λ kind p q. norm-at job kind p q .hourly .high))
 
-module _ {job : Job} (r : Ruled job) where
+module _ {job : Job} (r : Valid job) where
   pub section-m-le : (i : ℕ) → mOf job (servedOf job i) ≤ mOf job (houseOf job)
-  section-m-le i = m-mono job (servedOf job i) (houseOf job) (λ kind p q. served-le (ruled-rooted r) i kind)
+  section-m-le i = m-mono job (servedOf job i) (houseOf job) (λ kind p q. served-le (valid-rooted r) i kind)
 
   -- a vector of some of the house's fixtures
   some-m-pos : (n : ℕ → ℕ) → ((kind : ℕ) → n kind ≤ houseOf job kind) → Serves n → 0 < mOf job n
@@ -56,7 +56,7 @@ module _ {job : Job} (r : Ruled job) where
       rw (m-is job n) (omega (arith, sum-at 12 k (shareOf job n) (s .low) (s .high)))
 
   pub m-pos : (i : ℕ) → 0 < i → i ≤ countOf job → 0 < mOf job (servedOf job i)
-  m-pos i a b = some-m-pos (servedOf job i) (served-le (ruled-rooted r) i) (serves r i a b)
+  m-pos i a b = some-m-pos (servedOf job i) (served-le (valid-rooted r) i) (serves r i a b)
 
   pub hour-sum-pos : 0 < hourSumOf job
   hour-sum-pos =
@@ -81,4 +81,4 @@ module _ {job : Job} (a : Accepted job) where
   hour-sum-top = ltb-false 400000000 (hourSumOf job) (tops .1)
 
   pub section-m-top : (i : ℕ) → mOf job (servedOf job i) ≤ 400000000
-  section-m-top i = omega (arith, house-m-top, section-m-le (a .ruled) i)
+  section-m-top i = omega (arith, house-m-top, section-m-le (a .valid) i)

@@ -12,7 +12,7 @@ use Rattle.answer.specs.Checks.{firstNo}
 use Rattle.fields.specs.declared.Job.{Job}
 use Rattle.fields.specs.Fields.{countOf, residentsOf}
 use Rattle.tree.specs.Tree.{servedOf, houseOf}
-use Rattle.rules.specs.Rules.{headOk, fieldChecks}
+use Rattle.rules.specs.Rules.{headerOk, fieldChecks}
 use Rattle.coefficient.specs.Alpha.{alphaOf}
 use Rattle.norms.specs.declared.Norm.{Norm}
 use Rattle.norms.specs.Norms.{normOf}
@@ -29,19 +29,19 @@ normAt job kind = normOf (serviceOf job) kind
 unfoldable pub shareOf : Job → (ℕ → ℕ) → ℕ → ℕ
 shareOf job n kind =
     cond (eqb (houseOf job kind) 0) 0
-    (up (25000 * normAt job kind .hour * residentsOf job kind * n kind) (9 * normAt job kind .tap * houseOf job kind))
+    (up (25000 * normAt job kind .hour * residentsOf job kind * n kind) (9 * normAt job kind .fixture * houseOf job kind))
 
 -- m, the sum of the shares
 unfoldable pub mOf : Job → (ℕ → ℕ) → ℕ
 mOf job n = sumTo 12 (λ kind. shareOf job n kind)
 
 -- sum of share × Z
-unfoldable pub tapSumOf : Job → (ℕ → ℕ) → ℕ
-tapSumOf job n = sumTo 12 (λ kind. shareOf job n kind * normAt job kind .tap)
+unfoldable pub fixtureSumOf : Job → (ℕ → ℕ) → ℕ
+fixtureSumOf job n = sumTo 12 (λ kind. shareOf job n kind * normAt job kind .fixture)
 
 -- design flow in ml/s: (sum of share × Z) × α / (20,000 × m), up
 unfoldable pub flowOf : Job → (ℕ → ℕ) → ℕ
-flowOf job n = up (tapSumOf job n * alphaOf (mOf job n)) (20000 * mOf job n)
+flowOf job n = up (fixtureSumOf job n * alphaOf (mOf job n)) (20000 * mOf job n)
 
 -- the flow of section i
 abbrev pub sectionFlow : Job → ℕ → ℕ
@@ -49,19 +49,19 @@ sectionFlow job i = flowOf job (servedOf job i)
 
 -- for the hour a kind's share is 100,000 × Q × U / O, up
 unfoldable pub hourShareOf : Job → ℕ → ℕ
-hourShareOf job kind = up (100000 * normAt job kind .hour * residentsOf job kind) (normAt job kind .draw)
+hourShareOf job kind = up (100000 * normAt job kind .hour * residentsOf job kind) (normAt job kind .hourly)
 
 -- the sum of the hour's shares
 unfoldable pub hourSumOf : Job → ℕ
 hourSumOf job = sumTo 12 (λ kind. hourShareOf job kind)
 
 -- sum of share × O
-unfoldable pub drawSumOf : Job → ℕ
-drawSumOf job = sumTo 12 (λ kind. hourShareOf job kind * normAt job kind .draw)
+unfoldable pub hourlySumOf : Job → ℕ
+hourlySumOf job = sumTo 12 (λ kind. hourShareOf job kind * normAt job kind .hourly)
 
 -- the hour's flow in l/h: (sum of share × O) × α / (200,000 × sum of shares), up, with α at that sum of shares
 unfoldable pub hourOf : Job → ℕ
-hourOf job = up (drawSumOf job * alphaOf (hourSumOf job)) (200000 * hourSumOf job)
+hourOf job = up (hourlySumOf job * alphaOf (hourSumOf job)) (200000 * hourSumOf job)
 
 -- the day: sum of D × U
 unfoldable pub dayOf : Job → ℕ
@@ -69,7 +69,7 @@ dayOf job = sumTo 12 (λ kind. normAt job kind .day * residentsOf job kind)
 
 -- the mean hour: day / T, up
 unfoldable pub meanOf : Job → ℕ
-meanOf job = up (dayOf job) (job .head .hours)
+meanOf job = up (dayOf job) (job .header .hours)
 
 -- all fixtures of a vector
 unfoldable pub fixturesOf : (ℕ → ℕ) → ℕ
@@ -80,26 +80,26 @@ unfoldable pub overSum : Job → Bool
 overSum job = ltb 400000000 (mOf job (houseOf job)) || ltb 400000000 (hourSumOf job)
 
 -- m over 100,000 × fixtures with at most 200 fixtures
-unfoldable pub crowded : ℕ → ℕ → Bool
-crowded m fixtures = leb fixtures 200 && ltb (100000 * fixtures) m
+unfoldable pub needsTableOne : ℕ → ℕ → Bool
+needsTableOne m fixtures = leb fixtures 200 && ltb (100000 * fixtures) m
 
 -- 9: so for the house, any section, or the house's hour
 unfoldable pub overProbability : Job → Bool
 overProbability job =
-    crowded (mOf job (houseOf job)) (fixturesOf (houseOf job)) ||
-    (anyTo (countOf job) (λ i. crowded (mOf job (servedOf job i)) (fixturesOf (servedOf job i))) ||
-    crowded (hourSumOf job) (fixturesOf (houseOf job)))
+    needsTableOne (mOf job (houseOf job)) (fixturesOf (houseOf job)) ||
+    (anyTo (countOf job) (λ i. needsTableOne (mOf job (servedOf job i)) (fixturesOf (servedOf job i))) ||
+    needsTableOne (hourSumOf job) (fixturesOf (houseOf job)))
 
 -- 8 and 9 in their order
 unfoldable pub demandChecks : Job → List (Bool × ℕ)
 demandChecks job = (overSum job, 8) ∷ (overProbability job, 9) ∷ []
 
 -- a job whose fields 3 and 5 to 7 let pass
-pub record Ruled (job : Job) : Type 0 where
-  pub head : headOk (job .head) ≡ true
+pub record Valid (job : Job) : Type 0 where
+  pub header : headerOk (job .header) ≡ true
   pub fields : firstNo (fieldChecks job) ≡ 0
 
 -- a job whose fields 8 and 9 let pass too
 pub record Accepted (job : Job) : Type 0 where
-  pub ruled : Ruled job
+  pub valid : Valid job
   pub demand : firstNo (demandChecks job) ≡ 0

@@ -1,7 +1,7 @@
 // The house's hour, day and mean hour.
 use crate::sums::hour_sums;
-use crate::sums::wide16;
 use fields::Job;
+use numbers::long16;
 ghost use mathlib.Core.Path.{_≡_};
 ghost use Rattle.demand.specs.Demand.{hourOf, dayOf, meanOf, Accepted};
 
@@ -14,7 +14,7 @@ pub fn hour_of(job: Job) -> u32
     let s = hour_sums(job);
     let sum = s.shares;
     let alpha = coefficient::alpha(&table, sum as u32) as u64;
-    round::divide_up(s.draws * alpha, 200000 * sum) as u32
+    round::divide_up(s.weighted * alpha, 200000 * sum) as u32
 }
 
 // The greatest day in litres.
@@ -26,7 +26,7 @@ pub fn day_of(job: Job) -> u32
     while kind <= 12 {
         let c = kind - 1;
         let norm = norms::norm_of(kind);
-        day = day + norm.day * wide16(job.residents[c]);
+        day = day + norm.day * long16(job.residents[c]);
         kind += 1;
     }
     day as u32
@@ -38,6 +38,6 @@ pub fn mean_of(job: Job) -> u32
     ensures { λ r. ⌜ r ≡ meanOf job ⌝ }
 {
     let day = day_of(job) as u64;
-    let hours = job.head.hours as u64;
+    let hours = job.header.hours as u64;
     round::divide_up(day, hours) as u32
 }

@@ -16,16 +16,16 @@ ghost use Rattle.coefficient.specs.Alpha.{alphaOf};
 ghost use Rattle.fields.specs.Fields.{countOf};
 ghost use Rattle.tree.specs.Tree.{servedOf, Rooted};
 ghost use Rattle.tree.specs.Rows.{Counted};
-ghost use Rattle.demand.specs.Demand.{mOf, fixturesOf, crowded, sectionFlow, demandChecks, Ruled, Accepted};
+ghost use Rattle.demand.specs.Demand.{mOf, fixturesOf, needsTableOne, sectionFlow, demandChecks, Valid, Accepted};
 
 // The design flow of sums that 8 let pass.
 fn flow(t: &[u32; 972], s: Sums) -> u32
-    requires { ⌜ (now t ≡ table) × (0 < s .m) × (s .m ≤ 400000000) × (s .taps ≤ 30 * s .m) ⌝ }
-    ensures { λ r. ⌜ r ≡ up (s .taps * alphaOf (s .m)) (20000 * s .m) ⌝ }
+    requires { ⌜ (now t ≡ table) × (0 < s .m) × (s .m ≤ 400000000) × (s .weighted ≤ 30 * s .m) ⌝ }
+    ensures { λ r. ⌜ r ≡ up (s .weighted * alphaOf (s .m)) (20000 * s .m) ⌝ }
 {
     let m = s.m;
     let alpha = coefficient::alpha(t, m as u32) as u64;
-    round::divide_up(s.taps * alpha, 20000 * m) as u32
+    round::divide_up(s.weighted * alpha, 20000 * m) as u32
 }
 
 // The flow of each section, at the section's place.
@@ -33,7 +33,7 @@ pub fn flows(job: Job) -> [u32; 64]
     requires { ⌜ Accepted job ⌝ }
     ensures { λ r. ⌜ r ≡ slots 64 1 (countOf job + 1) 0 (sectionFlow job) ⌝ }
 {
-    let count = job.head.sections as usize;
+    let count = job.header.sections as usize;
     let served = tree::counts(job);
     let table = coefficient::table2();
     let mut flows = [0u32; 64];
@@ -46,8 +46,8 @@ pub fn flows(job: Job) -> [u32; 64]
 }
 
 // m over 100,000 × fixtures with at most 200 fixtures.
-fn is_crowded(m: u64, fixtures: u64) -> bool
-    ensures { λ r. ⌜ r ≡ crowded m fixtures ⌝ }
+fn needs_table_one(m: u64, fixtures: u64) -> bool
+    ensures { λ r. ⌜ r ≡ needsTableOne m fixtures ⌝ }
 {
     if 200 < fixtures {
         return false;
@@ -55,15 +55,15 @@ fn is_crowded(m: u64, fixtures: u64) -> bool
     100000 * fixtures < m
 }
 
-fn crowded_section(job: Job, served: &[u32; 768]) -> bool
+fn section_needs_table_one(job: Job, served: &[u32; 768]) -> bool
     requires { ⌜ Rooted job × Counted job (now served) ⌝ }
-    ensures { λ r. ⌜ r ≡ anyTo (countOf job) (λ i. crowded (mOf job (servedOf job i)) (fixturesOf (servedOf job i))) ⌝ }
+    ensures { λ r. ⌜ r ≡ anyTo (countOf job) (λ i. needsTableOne (mOf job (servedOf job i)) (fixturesOf (servedOf job i))) ⌝ }
 {
-    let count = job.head.sections as usize;
+    let count = job.header.sections as usize;
     let mut i: usize = 1;
     while i <= count {
         let s = sums_of(job, served, i);
-        if is_crowded(s.m, s.fixtures) {
+        if needs_table_one(s.m, s.fixtures) {
             return true;
         }
         i += 1;
@@ -73,26 +73,26 @@ fn crowded_section(job: Job, served: &[u32; 768]) -> bool
 
 // 8 and 9, of a job that 3 and 5 to 7 let pass.
 pub fn demand_refusal(job: Job) -> Answer
-    requires { ⌜ Ruled job ⌝ }
+    requires { ⌜ Valid job ⌝ }
     ensures { λ r. ⌜ numberOf r ≡ firstNo (demandChecks job) ⌝ }
 {
     let served = tree::counts(job);
     let house = sums_of(job, &served, 0);
     let hour = hour_sums(job);
     if 400000000 < house.m {
-        return Answer::Sum;
+        return Answer::DemandOverTable;
     }
     if 400000000 < hour.shares {
-        return Answer::Sum;
+        return Answer::DemandOverTable;
     }
-    if is_crowded(house.m, house.fixtures) {
-        return Answer::Probability;
+    if needs_table_one(house.m, house.fixtures) {
+        return Answer::DemandOverFixtures;
     }
-    if crowded_section(job, &served) {
-        return Answer::Probability;
+    if section_needs_table_one(job, &served) {
+        return Answer::DemandOverFixtures;
     }
-    if is_crowded(hour.shares, house.fixtures) {
-        return Answer::Probability;
+    if needs_table_one(hour.shares, house.fixtures) {
+        return Answer::DemandOverFixtures;
     }
     Answer::Done
 }

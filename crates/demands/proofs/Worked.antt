@@ -18,29 +18,29 @@ use Rattle.basis.proofs.Bools.{apart}
 use Rattle.basis.proofs.Split.{eq-or-ne}
 use Rattle.answer.specs.Checks.{firstNo}
 use Rattle.wire.specs.Wire.{beAt, bytesOf, signedOf}
-use Rattle.record.specs.Record.{headAt, residentsAt, sectionFrom, decode}
+use Rattle.record.specs.Record.{headerAt, residentsAt, sectionFrom, decode}
 use Rattle.tree.specs.Tree.{parentOf, reaches, below, ownOf, servedOf, houseOf}
-use Rattle.rules.specs.Rules.{headOk, kindOk, elevationOk, sectionOk, sectionsOk, childless, childlessZero, unmatched, fieldChecks}
+use Rattle.rules.specs.Rules.{headerOk, kindOk, elevationOk, sectionOk, sectionsOk, childless, childlessZero, unmatched, fieldChecks}
 use Rattle.job.specs.Calls.{wrongLength, wrongVersion, wrongCount, shapeChecks, readChecks}
-use Rattle.norms.specs.Norms.{dayNorms, hourNorms, tapNorms, drawNorms, normOf}
+use Rattle.norms.specs.Norms.{dayNorms, hourNorms, fixtureNorms, hourlyNorms, normOf}
 use Rattle.coefficient.specs.Table.{table}
 use Rattle.coefficient.specs.Alpha.{along, alphaOf}
 use Rattle.coefficient.proofs.Worked.{worked as alpha}
 use Rattle.demand.specs.Demand.{
   shareOf,
   mOf,
-  tapSumOf,
+  fixtureSumOf,
   flowOf,
   sectionFlow,
   hourShareOf,
   hourSumOf,
-  drawSumOf,
+  hourlySumOf,
   hourOf,
   dayOf,
   meanOf,
   fixturesOf,
   overSum,
-  crowded,
+  needsTableOne,
   overProbability,
   demandChecks,
 }
@@ -63,14 +63,14 @@ use Rattle.choosing.proofs.Ordering.{choose-ready}
 -- size 1 is over the limit, whatever H is
 over-one : (high low : ℕ) → overAny (decode (jobOf high low)) ownCat (1 ∷ []) ≡ true
 unfolding
-    sumTo anyTo up line tabulate slots beAt headAt residentsAt sectionFrom decode
-    parentOf reaches below ownOf servedOf houseOf hourNorms tapNorms normOf along table alphaOf shareOf mOf tapSumOf flowOf
+    sumTo anyTo up line tabulate slots beAt headerAt residentsAt sectionFrom decode
+    parentOf reaches below ownOf servedOf houseOf hourNorms fixtureNorms normOf along table alphaOf shareOf mOf fixtureSumOf flowOf
     partOf flowAt velocityAt between servesAt readRows readingOf overBy overAt overAny
 over-one high low = refl
 
 -- so a list that suits is size 2 alone
 only-two : (high low : ℕ) (y : List ℕ) → Suitable (decode (jobOf high low)) ownCat y → y ≡ 2 ∷ []
-unfolding decode headAt
+unfolding decode headerAt
 only-two high low [] s = absurd (omega (arith, list-long (decode (jobOf high low)) ownCat [] (s .sizes)))
 only-two high low (x ∷ []) s =
     let w = list-names (decode (jobOf high low)) ownCat (x ∷ []) (s .sizes) 1 (omega arith) (omega arith) in
@@ -88,14 +88,14 @@ pub record Computed : Type 0 where
   pub listed : catNo ownCat ≡ 0
   pub suits : Suitable (decode job921) ownCat (2 ∷ [])
   pub bytes : chooseBytes (decode job921) ownCat (2 ∷ []) ≡ 0 ∷ 1 ∷ 251 ∷ 208 ∷ 2 ∷ []
-  pub short : leZ (requiredOf (decode job920) (lossesOf (decode job920) ownCat (2 ∷ []))) (pos (decode job920 .head .delivered)) ≡ false
+  pub short : leZ (requiredOf (decode job920) (lossesOf (decode job920) ownCat (2 ∷ []))) (pos (decode job920 .header .delivered)) ≡ false
 
 computed : Computed
 unfolding
     over-one allTo firstNo signedOf bytesOf
-    headOk kindOk elevationOk sectionOk sectionsOk childless childlessZero unmatched fieldChecks
+    headerOk kindOk elevationOk sectionOk sectionsOk childless childlessZero unmatched fieldChecks
     wrongLength wrongVersion wrongCount shapeChecks readChecks
-    hourShareOf hourSumOf drawNorms fixturesOf overSum crowded overProbability demandChecks jobChecks jobNo
+    hourShareOf hourSumOf hourlyNorms fixturesOf overSum needsTableOne overProbability demandChecks jobChecks jobNo
     boreOf priceOf slopeAt shapeOk rowOk risesAt rowsOk sizeOk sizesOk catChecks catNo
     greater lossOf lossAt pathFrom pathOf reachOf greatestTo requiredOf listOk priceAt costOf chooseBytes
 computed =
@@ -130,7 +130,7 @@ module _ {out₀ work₀ : List ℕ} where
 
 -- the rest is computed too, but for the statements over every list and over the call
 pub own-case : OwnCase
-unfolding computed dayNorms drawSumOf hourOf dayOf meanOf clamped pumpAt lowestTo dictatingOf inputChecks rateChecks rateNo chooseChecks chooseNo
+unfolding computed dayNorms hourlySumOf hourOf dayOf meanOf clamped pumpAt lowestTo dictatingOf inputChecks rateChecks rateNo chooseChecks chooseNo
 own-case =
     record {
       job = computed .own;

@@ -13,14 +13,14 @@ blankSection = record { parent = 0; kind = 0; fixtures = 0; decimetres = 0; elev
 unfoldable pub blankJob : Job
 blankJob =
     record {
-      head = record { tenths = 0; sections = 0; hours = 0; meter = 0; guaranteed = 0; delivered = 0; limit = 0 };
+      header = record { tenths = 0; sections = 0; hours = 0; meter = 0; guaranteed = 0; delivered = 0; limit = 0 };
       residents = replicate 12 0;
       sections = replicate 64 blankSection;
     }
 
 -- S
 abbrev pub countOf : Job → ℕ
-countOf job = job .head .sections
+countOf job = job .header .sections
 
 -- section i
 abbrev pub sectionOf : Job → ℕ → Section

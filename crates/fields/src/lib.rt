@@ -13,7 +13,7 @@ pub struct Section {
 }
 
 // The head of a job: k, S, T, meter loss, G, H and velocity limit.
-pub struct Head {
+pub struct Header {
     pub tenths: u8,
     pub sections: u8,
     pub hours: u8,
@@ -25,7 +25,7 @@ pub struct Head {
 
 // A job. The residents of kind c are at place c - 1, section i at place i; place 0 stands for the pump.
 pub struct Job {
-    pub head: Head,
+    pub header: Header,
     pub residents: [u16; 12],
     pub sections: [Section; 64],
 }
@@ -48,7 +48,7 @@ pub fn blank_section() -> Section
 pub fn blank_job() -> Job
     ensures { λ r. ⌜ r ≡ blankJob ⌝ }
 {
-    let head = Head {
+    let head = Header {
         tenths: 0,
         sections: 0,
         hours: 0,
@@ -59,7 +59,7 @@ pub fn blank_job() -> Job
     };
     let blank = blank_section();
     Job {
-        head,
+        header: head,
         residents: [0u16; 12],
         sections: [blank; 64],
     }

@@ -42,7 +42,7 @@ fn put_result(out: &mut [u8], job: Job)
     requires { ⌜ Accepted job × (flowLength (countOf job) ≤ length (now out)) ⌝ }
     ensures { λ _. ⌜ now (out .exit) ≡ stored (now (out .entry)) 0 (flowBytes job) ⌝ }
 {
-    let count = job.head.sections as usize;
+    let count = job.header.sections as usize;
     let flows = demand::flows(job);
     put_house(
         out,
@@ -63,9 +63,9 @@ pub fn flow(b: &[u8], out: &mut [u8]) -> Answer
     if answer::number(answer) != 0 {
         return answer;
     }
-    let count = accepted.job.head.sections as usize;
+    let count = accepted.job.header.sections as usize;
     if out.len() < 12 + 4 * count {
-        return Answer::Room;
+        return Answer::ResultShort;
     }
     put_result(out, accepted.job);
     answer

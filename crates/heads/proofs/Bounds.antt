@@ -13,20 +13,20 @@ use Rattle.basis.specs.Sections.{pathOf}
 use Rattle.fields.specs.declared.Job.{Job}
 use Rattle.fields.specs.Fields.{countOf, sectionOf}
 use Rattle.tree.specs.Tree.{parentOf, Rooted}
-use Rattle.rules.proofs.HeadBounds.{HeadIn, head-in}
+use Rattle.rules.proofs.HeaderBounds.{HeaderIn, header-in}
 use Rattle.rules.proofs.SectionBounds.{SectionIn}
 use Rattle.rules.proofs.Kept.{rooted-of, sections-in}
 use Rattle.rules.proofs.Elevation.{elevation-small}
 use Rattle.heads.specs.Heads.{reachOf, greatestTo, requiredOf, dictatingOf}
-use Rattle.heads.specs.Shape.{Given}
+use Rattle.heads.specs.Contracts.{Given}
 use Rattle.heads.proofs.Signed.{add-mag}
 use Rattle.heads.proofs.Loss.{path-top, path-held}
 use Rattle.heads.proofs.Lowest.{lowest-top}
 use Rattle.heads.proofs.Maximum.{Reached, greatest-reached}
 
 module _ {job : Job} {losses : List ℕ} (g : Given job losses) where
-  pub given-head : HeadIn (job .head)
-  given-head = head-in (job .head) (g .head)
+  pub given-head : HeaderIn (job .header)
+  given-head = header-in (job .header) (g .header)
 
   pub given-rooted : Rooted job
   given-rooted = rooted-of job (omega (arith, given-head .sections .high)) (g .sections)
@@ -54,7 +54,7 @@ module _ {job : Job} {losses : List ℕ} (g : Given job losses) where
   pub required-small : mag (requiredOf job (λ i. getD losses i 0)) < 268373829
   unfolding requiredOf
   required-small =
-      add-mag (pos (job .head .meter)) (greatestTo (countOf job) (reachOf job (λ i. getD losses i 0))) 268373829 (omega (arith, given-head .meter, greatest-small))
+      add-mag (pos (job .header .meter)) (greatestTo (countOf job) (reachOf job (λ i. getD losses i 0))) 268373829 (omega (arith, given-head .meter, greatest-small))
 
   pub dictating-small : (loss : ℕ → ℕ) → dictatingOf job loss ≤ 63
   unfolding dictatingOf

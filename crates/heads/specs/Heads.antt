@@ -22,7 +22,7 @@ greatestTo (suc n) f = greater (greatestTo n f) (f (suc n))
 
 -- required head: meter loss + the greatest over the ends of all sections; it may be negative
 unfoldable pub requiredOf : Job → (ℕ → ℕ) → ℤ
-requiredOf job loss = pos (job .head .meter) +ℤ greatestTo (countOf job) (reachOf job loss)
+requiredOf job loss = pos (job .header .meter) +ℤ greatestTo (countOf job) (reachOf job loss)
 
 -- pump head at a guaranteed head G: required head - G, or 0 if less
 unfoldable pub pumpAt : Job → (ℕ → ℕ) → ℕ → ℕ
@@ -30,7 +30,7 @@ pumpAt job loss guaranteed = clamped (requiredOf job loss -ℤ pos guaranteed)
 
 -- at the job's own G
 abbrev pub pumpOf : Job → (ℕ → ℕ) → ℕ
-pumpOf job loss = pumpAt job loss (job .head .guaranteed)
+pumpOf job loss = pumpAt job loss (job .header .guaranteed)
 
 -- the lowest of 1 to n that passes a test, 0 where none does
 unfoldable pub lowestTo : ℕ → (ℕ → Bool) → ℕ

@@ -1,3 +1,3 @@
 pub mod Signed
 pub mod Heads
-pub mod Shape
+pub mod Contracts

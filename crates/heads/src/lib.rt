@@ -10,7 +10,7 @@ ghost use Rattle.basis.specs.Sections.{pathOf};
 ghost use Rattle.fields.specs.Fields.{countOf};
 ghost use Rattle.tree.specs.Tree.{parentOf};
 ghost use Rattle.heads.specs.Heads.{reachOf, greatestTo, requiredOf, pumpOf, dictatingOf};
-ghost use Rattle.heads.specs.Shape.{Given};
+ghost use Rattle.heads.specs.Contracts.{Given};
 
 // Required head in cm, pump head in cm, and the dictating section.
 pub struct Heads {
@@ -30,7 +30,7 @@ pub fn paths(job: Job, losses: [u32; 64]) -> [u32; 64]
     requires { ⌜ Given job losses ⌝ }
     ensures { λ r. ⌜ r ≡ slots 64 1 (countOf job + 1) 0 (pathOf (parentOf job) (λ i. getD losses i 0)) ⌝ }
 {
-    let count = job.head.sections as usize;
+    let count = job.header.sections as usize;
     let mut paths = [0u32; 64];
     let mut i: usize = 1;
     while i <= count {
@@ -54,7 +54,7 @@ fn dictating(job: Job, losses: [u32; 64]) -> Greatest
     requires { ⌜ Given job losses ⌝ }
     ensures { λ r. ⌜ (r .reach ≡ greatestTo (countOf job) (reachOf job (λ i. getD losses i 0))) × (r .section ≡ dictatingOf job (λ i. getD losses i 0)) ⌝ }
 {
-    let count = job.head.sections as usize;
+    let count = job.header.sections as usize;
     let paths = paths(job, losses);
     let mut best = Greatest {
         reach: reach(job.sections[1], paths[1]),
@@ -80,8 +80,8 @@ pub fn heads_of(job: Job, losses: [u32; 64]) -> Heads
     ensures { λ r. ⌜ (r .required ≡ requiredOf job (λ i. getD losses i 0)) × (r .pump ≡ pumpOf job (λ i. getD losses i 0)) × (r .dictating ≡ dictatingOf job (λ i. getD losses i 0)) ⌝ }
 {
     let best = dictating(job, losses);
-    let required = (job.head.meter as i32) + best.reach;
-    let over = required - (job.head.guaranteed as i32);
+    let required = (job.header.meter as i32) + best.reach;
+    let over = required - (job.header.guaranteed as i32);
     let mut pump: u32 = 0;
     if 0 < over {
         pump = over as u32;

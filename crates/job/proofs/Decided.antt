@@ -13,7 +13,7 @@ use Rattle.answer.specs.Checks.{firstNo, tooShort}
 use Rattle.answer.proofs.First.{Numbered, first-none, first-found, first-next, short-found, short-next, first-clear, first-after, first-before, first-split, numbered-append}
 use Rattle.fields.specs.declared.Job.{Job}
 use Rattle.fields.specs.Fields.{blankJob, countOf}
-use Rattle.rules.specs.Rules.{headOk, fieldChecks}
+use Rattle.rules.specs.Rules.{headerOk, fieldChecks}
 use Rattle.record.specs.Record.{lengthOf, decode}
 use Rattle.job.proofs.Stages.{stage-first, stage-second, fields-given}
 use Rattle.job.specs.Calls.{shapeChecks, readChecks, readNo, fieldsAfter, readJob, writeChecks, writeNo, copyChecks, copyNo}
@@ -67,11 +67,11 @@ module _ (b : List ℕ) (room : ℕ) where
 
 -- writing: 3, else 5 to 7, else 14
 module _ (job : Job) (room : ℕ) where
-  pub write-range : headOk (job .head) ≡ false → writeNo job room ≡ 3
+  pub write-range : headerOk (job .header) ≡ false → writeNo job room ≡ 3
   unfolding writeNo writeChecks
   write-range e = first-found 3 _ (rw e)
 
-  module _ (head : headOk (job .head) ≡ true) where
+  module _ (head : headerOk (job .header) ≡ true) where
     pub write-fields : (firstNo (fieldChecks job) ≡ 0 → ⊥) → writeNo job room ≡ firstNo (fieldChecks job)
     unfolding writeNo writeChecks
     write-fields n = first-next 3 _ (rw head) ∙ first-before (fieldChecks job) _ (fields-numbered job) n
@@ -89,18 +89,18 @@ module _ (job : Job) (room : ℕ) where
 
 -- what holds where the writer finds nothing
 pub record Writable (job : Job) (room : ℕ) : Type 0 where
-  pub head : headOk (job .head) ≡ true
+  pub header : headerOk (job .header) ≡ true
   pub fields : firstNo (fieldChecks job) ≡ 0
   pub fits : lengthOf (countOf job) ≤ room
 
 pub writable : (job : Job) (room : ℕ) → writeNo job room ≡ 0 → Writable job room
 unfolding writeNo writeChecks
 writable job room e =
-    let three = first-clear (not (headOk (job .head))) 3 _ (omega arith) e in
+    let three = first-clear (not (headerOk (job .header))) 3 _ (omega arith) e in
     let rest = first-split (fieldChecks job) _ (fields-numbered job) (three .1) in
     let last = first-clear (ltb room (lengthOf (countOf job))) 14 [] (omega arith) (rest .1) in
     record {
-      head = not-false (headOk (job .head)) (three .0);
+      header = not-false (headerOk (job .header)) (three .0);
       fields = rest .0;
       fits = ltb-false room (lengthOf (countOf job)) (last .0);
     }

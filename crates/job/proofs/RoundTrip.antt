@@ -13,13 +13,13 @@ use Rattle.wire.specs.Wire.{byteAt, beAt, bytesOf}
 use Rattle.wire.proofs.Fields.{be-bytes}
 use Rattle.fields.specs.declared.Job.{Job}
 use Rattle.fields.specs.Fields.{blankSection, countOf, sectionOf}
-use Rattle.rules.specs.Rules.{headOk, fieldChecks}
-use Rattle.rules.proofs.HeadBounds.{HeadIn, head-in}
+use Rattle.rules.specs.Rules.{headerOk, fieldChecks}
+use Rattle.rules.proofs.HeaderBounds.{HeaderIn, header-in}
 use Rattle.rules.proofs.SectionBounds.{SectionIn}
 use Rattle.rules.proofs.Elevation.{elevation-small}
 use Rattle.rules.proofs.Kept.{sections-in, kept-of}
 use Rattle.rules.proofs.Same.{checks-same}
-use Rattle.record.specs.Record.{lengthOf, headAt, headBytes, decode, encode, kept, SectionFits, JobFits}
+use Rattle.record.specs.Record.{lengthOf, headerAt, headerBytes, decode, encode, kept, SectionFits, JobFits}
 use Rattle.record.proofs.Lengths.{encode-length}
 use Rattle.record.proofs.RoundTrip.{encode-decode, decode-encode}
 use Rattle.job.specs.Calls.{readNo, readJob, writeNo, copyNo}
@@ -31,12 +31,12 @@ module _ (b : List ℕ) (accepted : readNo b ≡ 0) where
   read-shaped : Shaped b
   read-shaped = shaped b (readable b accepted .shape)
 
-  pub read-head : headOk (decode b .head) ≡ true
+  pub read-header : headerOk (decode b .header) ≡ true
   unfolding decode
-  read-head = read-shaped .head
+  read-header = read-shaped .header
 
   read-length : lengthOf (countOf (decode b)) ≡ length b
-  unfolding decode headAt
+  unfolding decode headerAt
   read-length = sym (read-shaped .whole)
 
   fields-read : readJob b ≡ decode b
@@ -49,7 +49,7 @@ module _ (b : List ℕ) (accepted : readNo b ≡ 0) where
 
   -- the writer gives 14 or nothing, as the room is
   pub rewritten : (room : ℕ) → writeNo (readJob b) room ≡ firstNo (tooShort room (length b) ∷ [])
-  rewritten room = rw fields-read (write-room (decode b) room read-head (readable b accepted .fields) ∙ rw read-length)
+  rewritten room = rw fields-read (write-room (decode b) room read-header (readable b accepted .fields) ∙ rw read-length)
 
   -- and copying gives what the writer gives
   pub copied : (room : ℕ) → copyNo b room ≡ writeNo (readJob b) room
@@ -70,8 +70,8 @@ module _ (job : Job) (sixteen : Sixteen job) (room : ℕ) (done : writeNo job ro
   may : Writable job room
   may = writable job room done
 
-  bounds : HeadIn (job .head)
-  bounds = head-in (job .head) (may .head)
+  bounds : HeaderIn (job .header)
+  bounds = header-in (job .header) (may .header)
 
   section-fits : (i : ℕ) → 0 < i → i ≤ countOf job → SectionFits (sectionOf job i)
   section-fits i a h =
@@ -85,9 +85,9 @@ module _ (job : Job) (sixteen : Sixteen job) (room : ℕ) (done : writeNo job ro
 
   fits : JobFits job
   fits =
-      let h : HeadIn (job .head) = bounds in
+      let h : HeaderIn (job .header) = bounds in
       record {
-        head = record { meter = omega arith; guaranteed = omega arith; delivered = omega arith; limit = omega arith };
+        header = record { meter = omega arith; guaranteed = omega arith; delivered = omega arith; limit = omega arith };
         kinds = sixteen .kinds;
         residents = sixteen .residents;
         sections = section-fits;
@@ -106,9 +106,9 @@ module _ (job : Job) (sixteen : Sixteen job) (room : ℕ) (done : writeNo job ro
   again : decode (encode job) ≡ kept job
   again = decode-encode job fits
 
-  head-again : headAt (encode job) ≡ job .head
+  head-again : headerAt (encode job) ≡ job .header
   unfolding decode kept
-  head-again = ap (λ (j : Job). j .head) again
+  head-again = ap (λ (j : Job). j .header) again
 
   same-checks : fieldChecks job ≡ fieldChecks (kept job)
   unfolding kept
@@ -118,24 +118,24 @@ module _ (job : Job) (sixteen : Sixteen job) (room : ℕ) (done : writeNo job ro
   fields-again = rw (again, ← same-checks) (may .fields)
 
   stated-again : beAt 4 (encode job) 0 ≡ length (encode job)
-  unfolding encode headBytes
+  unfolding encode headerBytes
   stated-again =
       let few : countOf job ≤ 63 = few-again in
       rw (encode-length job, append-assoc (bytesOf 4 (lengthOf (countOf job))) _ _) (be-bytes 4 (lengthOf (countOf job)) _ (omega arith))
 
   version-again : byteAt (encode job) 4 ≡ 1
-  unfolding encode headBytes bytesOf
+  unfolding encode headerBytes bytesOf
   version-again = refl
 
   shape-again : length (encode job) ≡ lengthOf (byteAt (encode job) 6)
-  unfolding encode headBytes bytesOf
+  unfolding encode headerBytes bytesOf
   shape-again = encode-length job
 
   -- it is accepted, with the fields that a record keeps
   pub accepted-again : readNo (encode job) ≡ 0
   accepted-again =
       let long : 40 ≤ length (encode job) = rw (encode-length job) (omega arith) in
-      let head : headOk (headAt (encode job)) ≡ true = rw head-again (may .head) in
+      let head : headerOk (headerAt (encode job)) ≡ true = rw head-again (may .header) in
       read-fields (encode job) (well-formed (encode job) long stated-again version-again head shape-again) .0 ∙ fields-again
 
   pub same-fields : readJob (encode job) ≡ kept job

@@ -11,9 +11,9 @@ use borrow.Author.Tests.{lt-ltb, le-ltb, ltb-false, eq-eqb, ne-eqb, eqb-true, no
 use Rattle.answer.specs.Checks.{firstNo}
 use Rattle.answer.proofs.First.{first-clear}
 use Rattle.wire.specs.Wire.{byteAt, beAt}
-use Rattle.rules.specs.Rules.{headOk}
-use Rattle.rules.proofs.HeadBounds.{head-in}
-use Rattle.record.specs.Record.{lengthOf, headAt}
+use Rattle.rules.specs.Rules.{headerOk}
+use Rattle.rules.proofs.HeaderBounds.{header-in}
+use Rattle.record.specs.Record.{lengthOf, headerAt}
 use Rattle.job.specs.Calls.{wrongLength, wrongVersion, wrongCount, shapeChecks}
 
 -- the number that the code gives, each test after those before it
@@ -41,11 +41,11 @@ module _ (b : List ℕ) where
         unfolding wrongVersion
         right-version = rw (eq-eqb (byteAt b 4) 1 version)
 
-        pub out-of-range : headOk (headAt b) ≡ false → firstNo (shapeChecks b) ≡ 3
+        pub out-of-range : headerOk (headerAt b) ≡ false → firstNo (shapeChecks b) ≡ 3
         unfolding shapeChecks firstNo
         out-of-range e = rw (right-length, right-version, e)
 
-        module _ (head : headOk (headAt b) ≡ true) where
+        module _ (head : headerOk (headerAt b) ≡ true) where
           pub other-count : (length b ≡ lengthOf (byteAt b 6) → ⊥) → firstNo (shapeChecks b) ≡ 4
           unfolding shapeChecks firstNo wrongCount
           other-count n = rw (right-length, right-version, head, ne-eqb (length b) (lengthOf (byteAt b 6)) n)
@@ -59,7 +59,7 @@ pub record Shaped (b : List ℕ) : Type 0 where
   pub long : 40 ≤ length b
   pub stated : beAt 4 b 0 ≡ length b
   pub version : byteAt b 4 ≡ 1
-  pub head : headOk (headAt b) ≡ true
+  pub header : headerOk (headerAt b) ≡ true
   pub whole : length b ≡ lengthOf (byteAt b 6)
 
 neither : (s t : Bool) → (s || not t) ≡ false → (s ≡ false) × (t ≡ true)
@@ -78,10 +78,10 @@ shaped b e =
       long = ltb-false (length b) 40 (lengths .0);
       stated = eqb-true (beAt 4 b 0) (length b) (lengths .1);
       version = eqb-true (byteAt b 4) 1 (not-false _ (two .0));
-      head = not-false (headOk (headAt b)) (three .0);
+      header = not-false (headerOk (headerAt b)) (three .0);
       whole = eqb-true (length b) (lengthOf (byteAt b 6)) (not-false _ (four .0));
     }
 
 pub few : {b : List ℕ} → Shaped b → byteAt b 6 ≤ 63
-unfolding headAt
-few {b} s = head-in (headAt b) (s .head) .sections .high
+unfolding headerAt
+few {b} s = header-in (headerAt b) (s .header) .sections .high

@@ -9,8 +9,8 @@ use Rattle.answer.specs.Checks.{firstNo, tooShort}
 use Rattle.wire.specs.Wire.{byteAt, beAt}
 use Rattle.fields.specs.declared.Job.{Job}
 use Rattle.fields.specs.Fields.{blankJob, countOf}
-use Rattle.rules.specs.Rules.{headOk, fieldChecks}
-use Rattle.record.specs.Record.{lengthOf, headAt, decode}
+use Rattle.rules.specs.Rules.{headerOk, fieldChecks}
+use Rattle.record.specs.Record.{lengthOf, headerAt, decode}
 
 -- 1: job under 40 bytes, or its length isn't the bytes lent
 unfoldable pub wrongLength : List ℕ → Bool
@@ -26,7 +26,7 @@ wrongCount b = not (eqb (length b) (lengthOf (byteAt b 6)))
 
 -- 1 to 4, of the record as it stands
 unfoldable pub shapeChecks : List ℕ → List (Bool × ℕ)
-shapeChecks b = (wrongLength b, 1) ∷ (wrongVersion b, 2) ∷ (not (headOk (headAt b)), 3) ∷ (wrongCount b, 4) ∷ []
+shapeChecks b = (wrongLength b, 1) ∷ (wrongVersion b, 2) ∷ (not (headerOk (headerAt b)), 3) ∷ (wrongCount b, 4) ∷ []
 
 -- reading: 1 to 4, and then 5 to 7 of its fields
 unfoldable pub readChecks : List ℕ → List (Bool × ℕ)
@@ -44,7 +44,7 @@ readJob b = fieldsAfter (readChecks b) (decode b)
 
 -- writing into so many bytes: 3, 5 to 7, and 14 where the result buffer is too short
 unfoldable pub writeChecks : Job → ℕ → List (Bool × ℕ)
-writeChecks job room = (not (headOk (job .head)), 3) ∷ (fieldChecks job ++ (tooShort room (lengthOf (countOf job)) ∷ []))
+writeChecks job room = (not (headerOk (job .header)), 3) ∷ (fieldChecks job ++ (tooShort room (lengthOf (countOf job)) ∷ []))
 
 unfoldable pub writeNo : Job → ℕ → ℕ
 writeNo job room = firstNo (writeChecks job room)

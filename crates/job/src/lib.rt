@@ -1,6 +1,7 @@
 // Reading a job record and writing one.
 use answer::Answer;
 use fields::Job;
+use numbers::wide32;
 ghost use mathlib.Core.Path.{_≡_};
 ghost use mathlib.Core.Bool.{cond};
 ghost use Prim.Native.Nat.{_≤_};
@@ -38,31 +39,25 @@ pub fn reading_of(answer: Answer, job: Job) -> Reading
     Reading { answer, job }
 }
 
-fn wide(x: u32) -> usize
-    ensures { λ r. ⌜ r ≡ x ⌝ }
-{
-    x as usize
-}
-
 // 1 to 4, of the record as it stands.
 fn shape_refusal(b: &[u8]) -> Answer
     ensures { λ r. ⌜ numberOf r ≡ firstNo (shapeChecks (now (b .entry))) ⌝ }
 {
     if b.len() < 40 {
-        return Answer::Length;
+        return Answer::JobLength;
     }
-    if wide(wire::be32(b, 0)) != b.len() {
-        return Answer::Length;
+    if wide32(wire::be32(b, 0)) != b.len() {
+        return Answer::JobLength;
     }
     if b[4] != 1 {
-        return Answer::Version;
+        return Answer::JobVersion;
     }
-    let head = record::head_of(b);
-    if !rules::head_ok(head) {
-        return Answer::Range;
+    let head = record::header_of(b);
+    if !rules::header_ok(head) {
+        return Answer::HeaderRange;
     }
     if b.len() != record::length_of(head.sections) {
-        return Answer::Count;
+        return Answer::SectionBytes;
     }
     Answer::Done
 }
@@ -83,15 +78,15 @@ pub fn read(b: &[u8]) -> Reading
 fn write_refusal(job: Job, room: usize) -> Answer
     ensures { λ r. ⌜ numberOf r ≡ writeNo job room ⌝ }
 {
-    if !rules::head_ok(job.head) {
-        return Answer::Range;
+    if !rules::header_ok(job.header) {
+        return Answer::HeaderRange;
     }
     let answer = rules::broken_rule(job);
     if answer::number(answer) != 0 {
         return answer;
     }
-    if room < record::length_of(job.head.sections) {
-        return Answer::Room;
+    if room < record::length_of(job.header.sections) {
+        return Answer::ResultShort;
     }
     Answer::Done
 }

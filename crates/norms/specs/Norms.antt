@@ -14,12 +14,12 @@ unfoldable pub hourNorms : List ℕ
 hourNorms = 200 ∷ 104 ∷ 120 ∷ 125 ∷ 190 ∷ 224 ∷ 280 ∷ 300 ∷ 84 ∷ 26 ∷ 40 ∷ 27 ∷ []
 
 -- Z, hundredths of a litre a second of a fixture
-unfoldable pub tapNorms : List ℕ
-tapNorms = 30 ∷ 20 ∷ 20 ∷ 30 ∷ 20 ∷ 30 ∷ 30 ∷ 30 ∷ 20 ∷ 20 ∷ 14 ∷ 14 ∷ []
+unfoldable pub fixtureNorms : List ℕ
+fixtureNorms = 30 ∷ 20 ∷ 20 ∷ 30 ∷ 20 ∷ 30 ∷ 30 ∷ 30 ∷ 20 ∷ 20 ∷ 14 ∷ 14 ∷ []
 
 -- O, litres an hour of a fixture
-unfoldable pub drawNorms : List ℕ
-drawNorms = 300 ∷ 100 ∷ 100 ∷ 300 ∷ 115 ∷ 250 ∷ 280 ∷ 300 ∷ 100 ∷ 80 ∷ 80 ∷ 100 ∷ []
+unfoldable pub hourlyNorms : List ℕ
+hourlyNorms = 300 ∷ 100 ∷ 100 ∷ 300 ∷ 115 ∷ 250 ∷ 280 ∷ 300 ∷ 100 ∷ 80 ∷ 80 ∷ 100 ∷ []
 
 -- the norms of a kind, total (cold plus hot) whatever the service
 unfoldable pub normOf : ℕ → ℕ → Norm
@@ -27,6 +27,6 @@ normOf service kind =
     record {
       day = getD dayNorms (kind - 1) 0;
       hour = getD hourNorms (kind - 1) 0;
-      tap = getD tapNorms (kind - 1) 0;
-      draw = getD drawNorms (kind - 1) 0;
+      fixture = getD fixtureNorms (kind - 1) 0;
+      hourly = getD hourlyNorms (kind - 1) 0;
     }

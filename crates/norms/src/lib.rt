@@ -13,17 +13,17 @@ const DAY: [u16; 12] = [400, 100, 160, 120, 230, 200, 250, 300, 115, 15, 16, 20]
 const HOUR: [u16; 12] = [200, 104, 120, 125, 190, 224, 280, 300, 84, 26, 40, 27];
 
 // Hundredths of a litre a second of a fixture.
-const TAP: [u16; 12] = [30, 20, 20, 30, 20, 30, 30, 30, 20, 20, 14, 14];
+const FIXTURE: [u16; 12] = [30, 20, 20, 30, 20, 30, 30, 30, 20, 20, 14, 14];
 
 // Litres an hour of a fixture.
-const DRAW: [u16; 12] = [300, 100, 100, 300, 115, 250, 280, 300, 100, 80, 80, 100];
+const HOURLY: [u16; 12] = [300, 100, 100, 300, 115, 250, 280, 300, 100, 80, 80, 100];
 
 // D, Q, Z and O of a kind.
 pub struct Norm {
     pub day: u64,
     pub hour: u64,
-    pub tap: u64,
-    pub draw: u64,
+    pub fixture: u64,
+    pub hourly: u64,
 }
 
 // The norms of a kind, 1 to 12.
@@ -35,7 +35,7 @@ pub fn norm_of(kind: usize) -> Norm
     Norm {
         day: long16(DAY[c]),
         hour: long16(HOUR[c]),
-        tap: long16(TAP[c]),
-        draw: long16(DRAW[c]),
+        fixture: long16(FIXTURE[c]),
+        hourly: long16(HOURLY[c]),
     }
 }

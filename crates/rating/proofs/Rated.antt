@@ -14,12 +14,12 @@ use Rattle.wire.specs.Wire.{bytesOf}
 use Rattle.fields.specs.declared.Job.{Job}
 use Rattle.fields.specs.Fields.{countOf}
 use Rattle.tree.specs.Tree.{Rooted}
-use Rattle.demand.proofs.Ruling.{ruled-count, ruled-sections}
-use Rattle.heads.specs.Shape.{Given}
+use Rattle.demand.proofs.Validity.{valid-count, valid-sections}
+use Rattle.heads.specs.Contracts.{Given}
 use Rattle.heads.proofs.Same.{required-same, pump-same, dictating-same}
 use Rattle.sizing.specs.Losses.{readingOf, lossesOf}
 use Rattle.rating.specs.Calls.{headsBytes, ratedBytes, rateBytes}
-use Rattle.rating.specs.Shape.{RatedAt, RatedJob}
+use Rattle.rating.specs.Contracts.{RatedAt, RatedJob}
 
 module _ (job : Job) (cat list : List ℕ) {v w : List ℕ} (rated : RatedAt job cat list v w) (few : countOf job ≤ 63) where
   pub velocity-at : (i : ℕ) → 0 < i → i ≤ countOf job → getD v i 0 ≡ readingOf job cat (sizeOf list i) i .velocity
@@ -53,12 +53,12 @@ module _ (job : Job) (cat list : List ℕ) {v w : List ℕ} (rated : RatedAt job
 -- what a job that is rated gives those that write it
 module _ {b cat list : List ℕ} {room : ℕ} {job : Job} {v w : List ℕ} (r : RatedJob b cat list room job v w) where
   pub rated-count : Within 1 63 (countOf job)
-  rated-count = ruled-count (r .accepted .ruled)
+  rated-count = valid-count (r .accepted .valid)
 
   pub rated-given : Given job w
   rated-given =
       record {
-        head = r .accepted .ruled .head;
-        sections = ruled-sections (r .accepted .ruled);
+        header = r .accepted .valid .header;
+        sections = valid-sections (r .accepted .valid);
         top = loss-small job cat list (r .at) (rated-count .high);
       }

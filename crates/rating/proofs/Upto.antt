@@ -17,7 +17,7 @@ use Rattle.basis.proofs.Slots.{slots-none, slots-more}
 use Rattle.fields.specs.declared.Job.{Job}
 use Rattle.fields.specs.Fields.{countOf}
 use Rattle.sizing.specs.Losses.{overAt, overAny, readingOf, lossesOf}
-use Rattle.rating.specs.Shape.{Fitting, RatedAt}
+use Rattle.rating.specs.Contracts.{Fitting, RatedAt}
 
 module _ (job : Job) (cat list : List ℕ) where
   -- sections 1 to i - 1 are not over, and their velocities and losses stand at their places

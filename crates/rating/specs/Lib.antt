@@ -1,2 +1,2 @@
 pub mod Calls
-pub mod Shape
+pub mod Contracts

@@ -12,7 +12,7 @@ ghost use Rattle.answer.specs.Answer.{numberOf};
 ghost use Rattle.answer.specs.Checks.{bufferAfter};
 ghost use Rattle.record.specs.Record.{decode};
 ghost use Rattle.rating.specs.Calls.{rateNo, rateBytes};
-ghost use Rattle.rating.specs.Shape.{RatedJob, Blank};
+ghost use Rattle.rating.specs.Contracts.{RatedJob, Blank};
 
 // What a rating comes to with a result buffer of so many bytes.
 pub fn outcome(b: &[u8], cat: &[u8], list: &[u8], room: usize) -> Outcome
@@ -28,15 +28,15 @@ pub fn outcome(b: &[u8], cat: &[u8], list: &[u8], room: usize) -> Outcome
     }
     let job = accepted.job;
     if !list_ok(job, cat, list) {
-        return refused(Answer::Sizes);
+        return refused(Answer::SizeList);
     }
-    let count = job.head.sections as usize;
+    let count = job.header.sections as usize;
     if room < 9 + 6 * count {
-        return refused(Answer::Room);
+        return refused(Answer::ResultShort);
     }
     let rated = rate_sections(job, cat, list);
     if rated.over {
-        return refused(Answer::Capacity);
+        return refused(Answer::SizeTooSmall);
     }
     let velocities = rated.velocities;
     let losses = rated.losses;

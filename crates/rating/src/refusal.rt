@@ -2,7 +2,7 @@
 use answer::Answer;
 use fields::Job;
 ghost use mathlib.Core.Path.{_≡_};
-ghost use Rattle.rating.specs.Shape.{Blank};
+ghost use Rattle.rating.specs.Contracts.{Blank};
 
 // The answer, and where it is a result the job with the velocities and losses at the sections' places; all zero after a refusal.
 pub struct Outcome {

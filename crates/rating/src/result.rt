@@ -9,7 +9,7 @@ ghost use Rattle.basis.specs.Range.{concatTo};
 ghost use Rattle.basis.specs.Stored.{stored};
 ghost use Rattle.wire.specs.Wire.{bytesOf, bitsOf};
 ghost use Rattle.fields.specs.Fields.{countOf};
-ghost use Rattle.heads.specs.Shape.{Given};
+ghost use Rattle.heads.specs.Contracts.{Given};
 ghost use Rattle.rating.specs.Calls.{rateLength, headsBytes};
 
 // Required head, pump head and dictating section.
@@ -63,7 +63,7 @@ pub fn put_result(out: &mut [u8], job: Job, velocities: [u32; 64], losses: [u32;
     ensures { λ _. ⌜ now (out .exit) ≡ stored (now (out .entry)) 0
         (headsBytes job (λ i. getD losses i 0) ++ concatTo (countOf job) (λ i. bytesOf 2 (getD velocities i 0) ++ bytesOf 4 (getD losses i 0))) ⌝ }
 {
-    let count = job.head.sections as usize;
+    let count = job.header.sections as usize;
     let x = head_bytes(heads::heads_of(job, losses));
     wire::put(out, 0, &x);
     put_sections(out, velocities, losses, count);

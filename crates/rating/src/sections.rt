@@ -1,12 +1,13 @@
 // Velocity and loss of each section.
 use fields::Job;
+use numbers::wide8;
 use sizing::try_size;
 ghost use mathlib.Core.Path.{_≡_};
 ghost use mathlib.Core.Bool.{true, false};
 ghost use Prim.Native.Nat.{_≤_};
 ghost use lib.ListN.{length};
 ghost use Rattle.sizing.specs.Losses.{listOk, overAny};
-ghost use Rattle.rating.specs.Shape.{Rateable, RatedAt};
+ghost use Rattle.rating.specs.Contracts.{Rateable, RatedAt};
 
 // The velocities and losses at the sections' places, and whether a section is over its last row or the limit.
 pub struct Rated {
@@ -15,18 +16,12 @@ pub struct Rated {
     pub losses: [u32; 64],
 }
 
-fn wide(x: u8) -> usize
-    ensures { λ r. ⌜ r ≡ x ⌝ }
-{
-    x as usize
-}
-
 // 12: the list is S long and names sizes.
 pub fn list_ok(job: Job, cat: &[u8], list: &[u8]) -> bool
     requires { ⌜ 7 ≤ length (now cat) ⌝ }
     ensures { λ r. ⌜ r ≡ listOk job (now (cat .entry)) (now (list .entry)) ⌝ }
 {
-    let count = job.head.sections as usize;
+    let count = job.header.sections as usize;
     let sizes = catalogue::sizes_of(cat);
     if list.len() != count {
         return false;
@@ -50,9 +45,9 @@ pub fn rate_sections(job: Job, cat: &[u8], list: &[u8]) -> Rated
     ensures over { λ r. ⌜ r .over ≡ overAny job (now (cat .entry)) (now (list .entry)) ⌝ }
     ensures at { λ r. ⌜ (r .over ≡ false → RatedAt job (now (cat .entry)) (now (list .entry)) (r .velocities) (r .losses)) ⌝ }
 {
-    let count = job.head.sections as usize;
-    let limit = job.head.limit;
-    let tenths = job.head.tenths;
+    let count = job.header.sections as usize;
+    let limit = job.header.limit;
+    let tenths = job.header.tenths;
     let flows = demand::flows(job);
     let mut velocities = [0u32; 64];
     let mut losses = [0u32; 64];
@@ -60,7 +55,7 @@ pub fn rate_sections(job: Job, cat: &[u8], list: &[u8]) -> Rated
     while i <= count {
         let t = try_size(
             cat,
-            wide(list[i - 1]),
+            wide8(list[i - 1]),
             flows[i],
             limit,
             job.sections[i].decimetres,

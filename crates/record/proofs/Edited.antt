@@ -14,7 +14,7 @@ use Rattle.basis.proofs.Slots.{tabulate-ext, slots-length, slots-in, slots-full
 use Rattle.wire.specs.Wire.{byteAt, beAt, bytesOf}
 use Rattle.wire.proofs.Fields.{be-same, be-bytes, bytes-length}
 use Rattle.fields.specs.Fields.{blankSection, sectionOf}
-use Rattle.record.specs.Record.{sectionsFrom, placeOf, headAt, residentsAt, sectionFrom, sectionAt, decode}
+use Rattle.record.specs.Record.{sectionsFrom, placeOf, headerAt, residentsAt, sectionFrom, sectionAt, decode}
 use Rattle.record.specs.Edited.{meterPlace, residentsPlace, fixturesPlace, freePlace, edited, SameBut, withMeter, withResidents, withSection, fitted}
 
 -- any field: its own value, and every other byte as it was
@@ -45,8 +45,8 @@ module _ {at width : ℕ} {b e : List ℕ} (same : SameBut at width b e) where
   pub field-kept : (w j : ℕ) → ((k : ℕ) → k < w → at ≤ j + k → j + k < at + width → ⊥) → beAt w e j ≡ beAt w b j
   field-kept w j apart = be-same w e b j j (λ k h. same .bytes (j + k) (apart k h))
 
-  head-kept : 16 ≤ at → headAt e ≡ headAt b
-  unfolding headAt
+  head-kept : 16 ≤ at → headerAt e ≡ headerAt b
+  unfolding headerAt
   head-kept h =
       rw (
         same .bytes 5 (λ c d. omega arith),
@@ -96,7 +96,7 @@ module _ {at width : ℕ} {b e : List ℕ} (same : SameBut at width b e) where
 
 -- the meter loss
 pub edited-meter : (b : List ℕ) (n : ℕ) → meterPlace + 2 ≤ length b → n < 65536 → decode (edited 2 b meterPlace n) ≡ withMeter (decode b) n
-unfolding decode withMeter headAt
+unfolding decode withMeter headerAt
 edited-meter b n fits h =
     let same = edited-same 2 b meterPlace n fits in
     rw (

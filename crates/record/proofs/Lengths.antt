@@ -11,13 +11,13 @@ use Rattle.basis.proofs.Stored.{stored-next}
 use Rattle.wire.specs.Wire.{bytesOf}
 use Rattle.wire.proofs.Fields.{bytes-length}
 use Rattle.fields.specs.declared.Section.{Section}
-use Rattle.fields.specs.declared.Head.{Head}
+use Rattle.fields.specs.declared.Header.{Header}
 use Rattle.fields.specs.declared.Job.{Job}
 use Rattle.fields.specs.Fields.{countOf, sectionOf, residentsOf}
-use Rattle.record.specs.Record.{lengthOf, headBytes, sectionBytes, residentsBytes, sectionsBytes, encode}
+use Rattle.record.specs.Record.{lengthOf, headerBytes, sectionBytes, residentsBytes, sectionsBytes, encode}
 
-pub head-length : (h : Head) → length (headBytes h) ≡ 16
-unfolding headBytes bytesOf
+pub head-length : (h : Header) → length (headerBytes h) ≡ 16
+unfolding headerBytes bytesOf
 head-length h = refl
 
 pub section-length : (s : Section) → length (sectionBytes s) ≡ 10
@@ -35,21 +35,21 @@ sections-length job = concat-length 10 (λ i. sectionBytes (sectionOf job i)) (�
 pub encode-length : (job : Job) → length (encode job) ≡ lengthOf (countOf job)
 unfolding encode
 encode-length job =
-    length-append (headBytes (job .head)) _ ∙
-    rw (length-append (residentsBytes job) (sectionsBytes job), head-length (job .head), residents-length job, sections-length job)
+    length-append (headerBytes (job .header)) _ ∙
+    rw (length-append (residentsBytes job) (sectionsBytes job), head-length (job .header), residents-length job, sections-length job)
     (omega arith)
 
 -- the head, the residents and the sections, written one after another, are the whole record
 pub whole-stored : (l : List ℕ) (job : Job) → lengthOf (countOf job) ≤ length l →
-    stored (stored (stored l 0 (headBytes (job .head))) 16 (residentsBytes job)) 40 (sectionsBytes job) ≡ stored l 0 (encode job)
+    stored (stored (stored l 0 (headerBytes (job .header))) 16 (residentsBytes job)) 40 (sectionsBytes job) ≡ stored l 0 (encode job)
 unfolding encode
 whole-stored l job h =
-    let a : 16 ≡ 0 + length (headBytes (job .head)) = rw (head-length (job .head)) in
-    let n : length (headBytes (job .head) ++ residentsBytes job) ≡ 40 =
-    rw (length-append (headBytes (job .head)) (residentsBytes job), head-length (job .head), residents-length job) in
-    let b : 40 ≡ 0 + length (headBytes (job .head) ++ residentsBytes job) = rw n in
+    let a : 16 ≡ 0 + length (headerBytes (job .header)) = rw (head-length (job .header)) in
+    let n : length (headerBytes (job .header) ++ residentsBytes job) ≡ 40 =
+    rw (length-append (headerBytes (job .header)) (residentsBytes job), head-length (job .header), residents-length job) in
+    let b : 40 ≡ 0 + length (headerBytes (job .header) ++ residentsBytes job) = rw n in
     rw (
-      stored-next l 0 (headBytes (job .head)) 16 (residentsBytes job) a (omega arith),
-      stored-next l 0 (headBytes (job .head) ++ residentsBytes job) 40 (sectionsBytes job) b (omega arith),
-      append-assoc (headBytes (job .head)) (residentsBytes job) (sectionsBytes job),
+      stored-next l 0 (headerBytes (job .header)) 16 (residentsBytes job) a (omega arith),
+      stored-next l 0 (headerBytes (job .header) ++ residentsBytes job) 40 (sectionsBytes job) b (omega arith),
+      append-assoc (headerBytes (job .header)) (residentsBytes job) (sectionsBytes job),
     )

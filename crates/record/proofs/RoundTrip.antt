@@ -16,16 +16,16 @@ use Rattle.wire.specs.Wire.{byteAt, beAt, bytesOf, bitsOf}
 use Rattle.wire.proofs.Fields.{be-lt, be-part, be-written, bytes-be, bytes-length}
 use Rattle.wire.proofs.Signed.{bits-signed, signed-bits, bits-lt}
 use Rattle.fields.specs.declared.Section.{Section}
-use Rattle.fields.specs.declared.Head.{Head}
+use Rattle.fields.specs.declared.Header.{Header}
 use Rattle.fields.specs.declared.Job.{Job}
 use Rattle.fields.specs.Fields.{countOf, blankSection, sectionOf, residentsOf}
-use Rattle.record.specs.Record.{lengthOf, placeOf, headAt, residentsAt, sectionFrom, sectionAt, decode, headBytes, sectionBytes, residentsBytes, sectionsBytes, encode, kept, SectionFits, HeadFits, JobFits}
+use Rattle.record.specs.Record.{lengthOf, placeOf, headerAt, residentsAt, sectionFrom, sectionAt, decode, headerBytes, sectionBytes, residentsBytes, sectionsBytes, encode, kept, SectionFits, HeadFits, JobFits}
 use Rattle.record.proofs.Lengths.{head-length, section-length, residents-length}
 
 module _ (b : List ℕ) (byte : (k : ℕ) → byteAt b k < 256) where
   -- the bytes of the fields that were read are the bytes read: the head, a section, the residents and the sections
-  head-again : beAt 4 b 0 ≡ length b → byteAt b 4 ≡ 1 → length b ≡ lengthOf (byteAt b 6) → headBytes (headAt b) ≡ part b 0 16
-  unfolding headBytes headAt
+  head-again : beAt 4 b 0 ≡ length b → byteAt b 4 ≡ 1 → length b ≡ lengthOf (byteAt b 6) → headerBytes (headerAt b) ≡ part b 0 16
+  unfolding headerBytes headerAt
   head-again long one size =
       let n : lengthOf (byteAt b 6) ≡ beAt 4 b 0 = sym (long ∙ size) in
       let four : part b 4 12 ≡ 1 ∷ byteAt b 5 ∷ byteAt b 6 ∷ byteAt b 7 ∷ part b 8 8 =
@@ -76,7 +76,7 @@ module _ (b : List ℕ) (byte : (k : ℕ) → byteAt b k < 256) where
       parts-concat b 16 2 12
 
   sections-again : byteAt b 6 ≤ 63 → length b ≡ lengthOf (byteAt b 6) → sectionsBytes (decode b) ≡ part b 40 (10 * byteAt b 6)
-  unfolding sectionsBytes decode headAt
+  unfolding sectionsBytes decode headerAt
   sections-again few size =
       concat-ext (byteAt b 6) (λ i. sectionBytes (sectionOf (decode b) i)) (λ i. part b (placeOf i) 10)
       (λ i a c. ap sectionBytes (slots-in 64 1 (byteAt b 6 + 1) blankSection (sectionAt b) i blankSection (omega arith) (omega arith) (omega arith)) ∙
@@ -99,13 +99,13 @@ encode-decode b byte few long one size =
     ) (part-all b)
 
 -- the head's fields, read from the front of a record
-head-read : (h : Head) (rest : List ℕ) → HeadFits h → headAt (headBytes h ++ rest) ≡ h
-unfolding headAt headBytes bytesOf beAt
+head-read : (h : Header) (rest : List ℕ) → HeadFits h → headerAt (headerBytes h ++ rest) ≡ h
+unfolding headerAt headerBytes bytesOf beAt
 head-read h rest t =
-    let meter : beAt 2 (headBytes h ++ rest) 8 ≡ h .meter = omega arith in
-    let guaranteed : beAt 2 (headBytes h ++ rest) 10 ≡ h .guaranteed = omega arith in
-    let delivered : beAt 2 (headBytes h ++ rest) 12 ≡ h .delivered = omega arith in
-    let limit : beAt 2 (headBytes h ++ rest) 14 ≡ h .limit = omega arith in
+    let meter : beAt 2 (headerBytes h ++ rest) 8 ≡ h .meter = omega arith in
+    let guaranteed : beAt 2 (headerBytes h ++ rest) 10 ≡ h .guaranteed = omega arith in
+    let delivered : beAt 2 (headerBytes h ++ rest) 12 ≡ h .delivered = omega arith in
+    let limit : beAt 2 (headerBytes h ++ rest) 14 ≡ h .limit = omega arith in
     rw (meter, guaranteed, delivered, limit)
 
 -- a section's fields, read from its ten bytes
@@ -140,7 +140,7 @@ residents-part job c h =
     let e : c + 1 - 1 ≡ c = omega arith in
     rw e at
     (concat-within 2 (λ kind. bytesOf 2 (residentsOf job kind)) (λ kind. bytes-length 2 (residentsOf job kind)) 12 (c + 1)
-    (headBytes (job .head)) (sectionsBytes job) 16 (head-length (job .head)) (omega arith) (omega arith))
+    (headerBytes (job .header)) (sectionsBytes job) 16 (head-length (job .header)) (omega arith) (omega arith))
 
 residents-read : (job : Job) → JobFits job → tabulate 12 (residentsAt (encode job)) ≡ job .residents
 unfolding residentsAt
@@ -151,12 +151,12 @@ residents-read job t =
 sections-part : (job : Job) (i : ℕ) → 0 < i → i ≤ countOf job → part (encode job) (placeOf i) 10 ≡ sectionBytes (sectionOf job i)
 unfolding encode sectionsBytes
 sections-part job i a h =
-    let before : List ℕ = headBytes (job .head) ++ residentsBytes job in
+    let before : List ℕ = headerBytes (job .header) ++ residentsBytes job in
     let wide : length before ≡ 40 =
-    rw (length-append (headBytes (job .head)) (residentsBytes job), head-length (job .head), residents-length job) in
+    rw (length-append (headerBytes (job .header)) (residentsBytes job), head-length (job .header), residents-length job) in
     let row : List ℕ = concatTo (countOf job) (λ j. sectionBytes (sectionOf job j)) in
-    let split : headBytes (job .head) ++ (residentsBytes job ++ row) ≡ before ++ (row ++ []) =
-    rw (append-nil row) (sym (append-assoc (headBytes (job .head)) (residentsBytes job) row)) in
+    let split : headerBytes (job .header) ++ (residentsBytes job ++ row) ≡ before ++ (row ++ []) =
+    rw (append-nil row) (sym (append-assoc (headerBytes (job .header)) (residentsBytes job) row)) in
     rw split
     (concat-within 10 (λ j. sectionBytes (sectionOf job j)) (λ j. section-length (sectionOf job j)) (countOf job) i
     before [] 40 wide a h)
@@ -165,13 +165,13 @@ sections-read : (job : Job) → JobFits job → (i : ℕ) → 0 < i → i ≤ co
 sections-read job t i a h =
     sym (section-part (encode job) (placeOf i)) ∙ rw (sections-part job i a h) (section-read (sectionOf job i) (t .sections i a h))
 
-head-whole : (job : Job) → JobFits job → headAt (encode job) ≡ job .head
+head-whole : (job : Job) → JobFits job → headerAt (encode job) ≡ job .header
 unfolding encode
-head-whole job t = head-read (job .head) (residentsBytes job ++ sectionsBytes job) (t .head)
+head-whole job t = head-read (job .header) (residentsBytes job ++ sectionsBytes job) (t .header)
 
 count-read : (job : Job) → JobFits job → byteAt (encode job) 6 ≡ countOf job
-unfolding headAt
-count-read job t = ap (λ (h : Head). h .sections) (head-whole job t)
+unfolding headerAt
+count-read job t = ap (λ (h : Header). h .sections) (head-whole job t)
 
 -- written and read again
 pub decode-encode : (job : Job) → JobFits job → decode (encode job) ≡ kept job

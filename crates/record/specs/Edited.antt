@@ -7,7 +7,7 @@ use lib.ListN.{length, set}
 use Rattle.basis.specs.Stored.{stored}
 use Rattle.wire.specs.Wire.{byteAt, bytesOf}
 use Rattle.fields.specs.declared.Section.{Section}
-use Rattle.fields.specs.declared.Head.{Head}
+use Rattle.fields.specs.declared.Header.{Header}
 use Rattle.fields.specs.declared.Job.{Job}
 use Rattle.record.specs.Record.{placeOf}
 
@@ -37,25 +37,25 @@ pub record SameBut (at width : ℕ) (b e : List ℕ) : Type 0 where
 unfoldable pub withMeter : Job → ℕ → Job
 withMeter job n =
     record {
-      head =
+      header =
           record {
-            tenths = job .head .tenths;
-            sections = job .head .sections;
-            hours = job .head .hours;
+            tenths = job .header .tenths;
+            sections = job .header .sections;
+            hours = job .header .hours;
             meter = n;
-            guaranteed = job .head .guaranteed;
-            delivered = job .head .delivered;
-            limit = job .head .limit;
+            guaranteed = job .header .guaranteed;
+            delivered = job .header .delivered;
+            limit = job .header .limit;
           };
       residents = job .residents;
       sections = job .sections;
     }
 
 unfoldable pub withResidents : Job → ℕ → ℕ → Job
-withResidents job kind n = record { head = job .head; residents = set (job .residents) (kind - 1) n; sections = job .sections }
+withResidents job kind n = record { header = job .header; residents = set (job .residents) (kind - 1) n; sections = job .sections }
 
 unfoldable pub withSection : Job → ℕ → Section → Job
-withSection job i s = record { head = job .head; residents = job .residents; sections = set (job .sections) i s }
+withSection job i s = record { header = job .header; residents = job .residents; sections = set (job .sections) i s }
 
 -- the section with other fixtures and another free head
 unfoldable pub fitted : Section → ℕ → ℕ → Section

@@ -9,7 +9,7 @@ use Rattle.basis.specs.Range.{concatTo}
 use Rattle.basis.specs.Slots.{tabulate, slots}
 use Rattle.wire.specs.Wire.{byteAt, beAt, bytesOf, signedOf, bitsOf}
 use Rattle.fields.specs.declared.Section.{Section}
-use Rattle.fields.specs.declared.Head.{Head}
+use Rattle.fields.specs.declared.Header.{Header}
 use Rattle.fields.specs.declared.Job.{Job}
 use Rattle.fields.specs.Fields.{blankSection, countOf, sectionOf, residentsOf}
 
@@ -25,8 +25,8 @@ lengthOf count = sectionsFrom + 10 * count
 abbrev pub placeOf : ℕ → ℕ
 placeOf i = sectionsFrom + 10 * (i - 1)
 
-unfoldable pub headAt : List ℕ → Head
-headAt b =
+unfoldable pub headerAt : List ℕ → Header
+headerAt b =
     record {
       tenths = byteAt b 5;
       sections = byteAt b 6;
@@ -60,13 +60,13 @@ sectionAt b i = sectionFrom b (placeOf i)
 unfoldable pub decode : List ℕ → Job
 decode b =
     record {
-      head = headAt b;
+      header = headerAt b;
       residents = tabulate 12 (residentsAt b);
       sections = slots 64 1 (byteAt b 6 + 1) blankSection (sectionAt b);
     }
 
-unfoldable pub headBytes : Head → List ℕ
-headBytes h =
+unfoldable pub headerBytes : Header → List ℕ
+headerBytes h =
     bytesOf 4 (lengthOf (h .sections)) ++
     ((1 ∷ h .tenths ∷ h .sections ∷ h .hours ∷ []) ++
     (bytesOf 2 (h .meter) ++ (bytesOf 2 (h .guaranteed) ++ (bytesOf 2 (h .delivered) ++ bytesOf 2 (h .limit)))))
@@ -86,12 +86,12 @@ sectionsBytes job = concatTo (countOf job) (λ i. sectionBytes (sectionOf job i)
 
 -- the bytes of the fields
 unfoldable pub encode : Job → List ℕ
-encode job = headBytes (job .head) ++ (residentsBytes job ++ sectionsBytes job)
+encode job = headerBytes (job .header) ++ (residentsBytes job ++ sectionsBytes job)
 
 -- the fields that a record keeps: the head, the residents and the first S sections
 unfoldable pub kept : Job → Job
 kept job =
-    record { head = job .head; residents = job .residents; sections = slots 64 1 (countOf job + 1) blankSection (sectionOf job) }
+    record { header = job .header; residents = job .residents; sections = slots 64 1 (countOf job + 1) blankSection (sectionOf job) }
 
 -- fields that fit their bytes: a section's, the head's and a job's
 pub record SectionFits (s : Section) : Type 0 where
@@ -100,14 +100,14 @@ pub record SectionFits (s : Section) : Type 0 where
   pub elevation : mag (s .elevation) < 32768
   pub free : s .free < 65536
 
-pub record HeadFits (h : Head) : Type 0 where
+pub record HeadFits (h : Header) : Type 0 where
   pub meter : h .meter < 65536
   pub guaranteed : h .guaranteed < 65536
   pub delivered : h .delivered < 65536
   pub limit : h .limit < 65536
 
 pub record JobFits (job : Job) : Type 0 where
-  pub head : HeadFits (job .head)
+  pub header : HeadFits (job .header)
   pub kinds : length (job .residents) ≡ 12
   pub residents : (c : ℕ) → c < 12 → getD (job .residents) c 0 < 65536
   pub sections : (i : ℕ) → 0 < i → i ≤ countOf job → SectionFits (sectionOf job i)

@@ -1,22 +1,23 @@
 // The fields of a record, whatever they hold.
 use crate::layout::place_of;
-use fields::Head;
+use fields::Header;
 use fields::Job;
 use fields::Section;
+use numbers::wide8;
 ghost use mathlib.Core.Path.{_≡_};
 ghost use Prim.Native.Nat.{_+_, _≤_};
 ghost use lib.ListN.{length};
 ghost use Rattle.basis.specs.Slots.{tabulate, slots};
 ghost use Rattle.wire.specs.Wire.{byteAt};
 ghost use Rattle.fields.specs.Fields.{blankSection};
-ghost use Rattle.record.specs.Record.{lengthOf, headAt, residentsAt, sectionAt, sectionFrom, decode};
+ghost use Rattle.record.specs.Record.{lengthOf, headerAt, residentsAt, sectionAt, sectionFrom, decode};
 
 // The head fields.
-pub fn head_of(b: &[u8]) -> Head
+pub fn header_of(b: &[u8]) -> Header
     requires { ⌜ 40 ≤ length (now b) ⌝ }
-    ensures { λ r. ⌜ r ≡ headAt (now (b .entry)) ⌝ }
+    ensures { λ r. ⌜ r ≡ headerAt (now (b .entry)) ⌝ }
 {
-    Head {
+    Header {
         tenths: b[5],
         sections: b[6],
         hours: b[7],
@@ -71,22 +72,16 @@ fn sections_of(b: &[u8], count: usize) -> [Section; 64]
     sections
 }
 
-fn wide(x: u8) -> usize
-    ensures { λ r. ⌜ r ≡ x ⌝ }
-{
-    x as usize
-}
-
 // All fields.
 pub fn job_of(b: &[u8]) -> Job
     requires { ⌜ (byteAt (now b) 6 ≤ 63) × (lengthOf (byteAt (now b) 6) ≤ length (now b)) ⌝ }
     ensures { λ r. ⌜ r ≡ decode (now (b .entry)) ⌝ }
 {
-    let head = head_of(b);
+    let head = header_of(b);
     let residents = residents_of(b);
-    let sections = sections_of(b, wide(b[6]));
+    let sections = sections_of(b, wide8(b[6]));
     Job {
-        head,
+        header: head,
         residents,
         sections,
     }

@@ -1,7 +1,7 @@
 // The bytes of a job's fields, written from the front of a buffer.
 use crate::layout::length_of;
 use crate::layout::place_of;
-use fields::Head;
+use fields::Header;
 use fields::Job;
 use fields::Section;
 ghost use mathlib.Core.Path.{_≡_};
@@ -11,11 +11,11 @@ ghost use Rattle.basis.specs.Range.{concatTo};
 ghost use Rattle.basis.specs.Stored.{stored};
 ghost use Rattle.wire.specs.Wire.{bytesOf};
 ghost use Rattle.fields.specs.Fields.{blankSection, countOf};
-ghost use Rattle.record.specs.Record.{sectionsFrom, lengthOf, headBytes, sectionBytes, encode};
+ghost use Rattle.record.specs.Record.{sectionsFrom, lengthOf, headerBytes, sectionBytes, encode};
 
 // The head fields.
-fn head_bytes(h: Head) -> [u8; 16]
-    ensures { λ r. ⌜ r ≡ headBytes h ⌝ }
+fn header_bytes(h: Header) -> [u8; 16]
+    ensures { λ r. ⌜ r ≡ headerBytes h ⌝ }
 {
     let n = wire::bytes32(length_of(h.sections) as u32);
     let meter = wire::bytes16(h.meter);
@@ -104,8 +104,8 @@ pub fn put_job(out: &mut [u8], job: Job)
 {
     let residents = job.residents;
     let sections = job.sections;
-    let count = job.head.sections as usize;
-    let head = head_bytes(job.head);
+    let count = job.header.sections as usize;
+    let head = header_bytes(job.header);
     wire::put(out, 0, &head);
     put_residents(out, residents);
     put_sections(out, sections, count);

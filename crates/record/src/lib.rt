@@ -3,7 +3,7 @@ mod decoding;
 mod encoding;
 mod layout;
 
-pub use decoding::head_of;
+pub use decoding::header_of;
 pub use decoding::job_of;
 pub use encoding::put_job;
 pub use layout::length_of;

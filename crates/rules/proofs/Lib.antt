@@ -1,4 +1,4 @@
-pub mod HeadBounds
+pub mod HeaderBounds
 pub mod Elevation
 pub mod SectionBounds
 pub mod Kept

@@ -11,7 +11,7 @@ use Rattle.rules.proofs.Ends.{childlessZeroAt}
 use Rattle.rules.proofs.House.{oddAt}
 use Rattle.rules.specs.Rules.{sectionOk, sectionsOk, childless, childlessZero, unmatched, fieldChecks}
 
-module _ (job job′ : Job) (heads : job .head ≡ job′ .head) (residents : job .residents ≡ job′ .residents)
+module _ (job job′ : Job) (heads : job .header ≡ job′ .header) (residents : job .residents ≡ job′ .residents)
     (sections : (i : ℕ) → 0 < i → i ≤ countOf job → sectionOf job i ≡ sectionOf job′ i) where
   counts : countOf job ≡ countOf job′
   counts = ap (λ h. h .sections) heads

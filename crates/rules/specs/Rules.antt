@@ -8,14 +8,14 @@ use lib.IntN.{ℤ, pos, negsuc}
 use lib.Signed.{leZ}
 use Rattle.basis.specs.Range.{within, allTo, anyTo}
 use Rattle.fields.specs.declared.Section.{Section}
-use Rattle.fields.specs.declared.Head.{Head}
+use Rattle.fields.specs.declared.Header.{Header}
 use Rattle.fields.specs.declared.Job.{Job}
 use Rattle.fields.specs.Fields.{countOf, sectionOf, residentsOf}
 use Rattle.tree.specs.Tree.{houseOf}
 
 -- 3 finds nothing: k, S, T, meter loss, G, H and limit are in range
-unfoldable pub headOk : Head → Bool
-headOk h =
+unfoldable pub headerOk : Header → Bool
+headerOk h =
     within 2 3 (h .tenths) &&
     (within 1 63 (h .sections) &&
     (within 1 24 (h .hours) && (leb (h .meter) 1000 && (leb (h .guaranteed) 6000 && (leb (h .delivered) 6000 && within 1 3000 (h .limit))))))

@@ -1,6 +1,6 @@
 // Refusals 3, 5, 6 and 7: the rules that the fields of a job keep.
 use answer::Answer;
-use fields::Head;
+use fields::Header;
 use fields::Job;
 use fields::Section;
 use tree::counts;
@@ -12,11 +12,11 @@ ghost use Rattle.answer.specs.Checks.{firstNo};
 ghost use Rattle.fields.specs.Fields.{countOf};
 ghost use Rattle.tree.specs.Tree.{Rooted};
 ghost use Rattle.tree.specs.Rows.{Kinds};
-ghost use Rattle.rules.specs.Rules.{headOk, kindOk, elevationOk, sectionOk, sectionsOk, childlessZero, unmatched, fieldChecks};
+ghost use Rattle.rules.specs.Rules.{headerOk, kindOk, elevationOk, sectionOk, sectionsOk, childlessZero, unmatched, fieldChecks};
 
 // 3: each head field is in its range.
-pub fn head_ok(h: Head) -> bool
-    ensures { λ r. ⌜ r ≡ headOk h ⌝ }
+pub fn header_ok(h: Header) -> bool
+    ensures { λ r. ⌜ r ≡ headerOk h ⌝ }
 {
     let tenths = h.tenths;
     let sections = h.sections;
@@ -106,7 +106,7 @@ fn sections_ok(job: Job) -> bool
     requires { ⌜ countOf job ≤ 63 ⌝ }
     ensures { λ r. ⌜ r ≡ sectionsOk job ⌝ }
 {
-    let count = job.head.sections as usize;
+    let count = job.header.sections as usize;
     let mut i: usize = 1;
     while i <= count {
         if !section_ok(i, job.sections[i]) {
@@ -122,7 +122,7 @@ fn childless_zero(job: Job) -> bool
     requires { ⌜ Rooted job ⌝ }
     ensures { λ r. ⌜ r ≡ childlessZero job ⌝ }
 {
-    let count = job.head.sections as usize;
+    let count = job.header.sections as usize;
     let below = sets(job);
     let mut i: usize = 1;
     while i <= count {
@@ -158,10 +158,10 @@ pub fn broken_rule(job: Job) -> Answer
     ensures { λ r. ⌜ numberOf r ≡ firstNo (fieldChecks job) ⌝ }
 {
     if !sections_ok(job) {
-        return Answer::Fields;
+        return Answer::SectionRules;
     }
     if childless_zero(job) {
-        return Answer::Childless;
+        return Answer::ChildlessKind;
     }
     if unmatched_kind(job) {
         return Answer::Residents;

@@ -12,11 +12,11 @@ use Rattle.basis.proofs.Slots.{slots-in}
 use Rattle.fields.specs.declared.Job.{Job}
 use Rattle.fields.specs.Fields.{countOf}
 use Rattle.demand.specs.Demand.{sectionFlow}
-use Rattle.demand.proofs.Ruling.{ruled-rooted}
+use Rattle.demand.proofs.Validity.{valid-rooted}
 use Rattle.heads.proofs.Same.{required-same, pump-same, dictating-same}
 use Rattle.sizing.specs.Losses.{lossesOf}
 use Rattle.rating.specs.Calls.{rateNo}
-use Rattle.rating.specs.Shape.{RatedJob}
+use Rattle.rating.specs.Contracts.{RatedJob}
 use Rattle.rating.proofs.Rated.{velocity-at, loss-at, rated-count}
 use Rattle.sheet_text.specs.Sheet.{sectionLine, headLine, ratedText, refusedText, textOf}
 use Rattle.sheet_text.specs.Pieces.{lineAt, figuresText}
@@ -41,7 +41,7 @@ module _ {b cat list : List ℕ} {room : ℕ} {job : Job} {v w : List ℕ} (r : 
   head-is : headLine job (λ i. getD w i 0) ≡ headLine job (lossesOf job cat list)
   unfolding headLine
   head-is =
-      let rooted = ruled-rooted (r .accepted .ruled) in
+      let rooted = valid-rooted (r .accepted .valid) in
       let some = rated-count r .low in
       rw (
         required-same job rooted some (λ i. getD w i 0) (lossesOf job cat list) loss-is,

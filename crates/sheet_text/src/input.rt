@@ -1,18 +1,13 @@
 // The input cut into job, catalogue and size list, and the sheet of the three.
 use crate::lines::put_refused;
 use crate::rated::put_rated;
+use numbers::wide32;
 ghost use mathlib.Core.Path.{_≡_};
 ghost use Prim.Native.Nat.{_≤_, min};
 ghost use lib.ListN.{length};
 ghost use Rattle.basis.specs.Stored.{stored};
 ghost use Rattle.sheet_text.specs.Sheet.{recordEnd, recordOf, afterRecord, textOf, writtenText};
 ghost use Rattle.sheet_text.specs.Pieces.{Wrote};
-
-fn wide(x: u32) -> usize
-    ensures { λ r. ⌜ r ≡ x ⌝ }
-{
-    x as usize
-}
 
 fn least(a: usize, b: usize) -> usize
     ensures { λ r. ⌜ r ≡ min a b ⌝ }
@@ -27,7 +22,7 @@ fn record_end(s: &[u8]) -> usize
     if s.len() < 4 {
         return s.len();
     }
-    let stated = wide(wire::be32(s, 0));
+    let stated = wide32(wire::be32(s, 0));
     least(stated, s.len())
 }
 

@@ -7,7 +7,7 @@ ghost use Prim.Native.Nat.{_+_, _*_, _≤_};
 ghost use lib.ListN.{length};
 ghost use Rattle.basis.specs.Range.{concatTo};
 ghost use Rattle.demand.specs.Demand.{Accepted};
-ghost use Rattle.heads.specs.Shape.{Given};
+ghost use Rattle.heads.specs.Contracts.{Given};
 ghost use Rattle.sheet_text.specs.Pieces.{Wrote, lineAt, figuresText};
 
 // The lines of sections 1 to count.
@@ -36,7 +36,7 @@ pub fn put_rated(out: &mut [u8], job: Job, velocities: [u32; 64], losses: [u32; 
     requires { ⌜ Accepted job × Given job losses × (4096 ≤ length (now out)) ⌝ }
     ensures { λ r. ⌜ Wrote 4096 (now (out .entry)) (now (out .exit)) 0 r (figuresText job velocities losses) ⌝ }
 {
-    let count = job.head.sections as usize;
+    let count = job.header.sections as usize;
     let flows = demand::flows(job);
     let at = put_house(
         out,

@@ -13,27 +13,27 @@ use Rattle.wire.specs.Wire.{byteAt}
 use Rattle.fields.specs.declared.Job.{Job}
 use Rattle.fields.specs.Fields.{sectionOf}
 use Rattle.demand.specs.Demand.{sectionFlow}
-use Rattle.catalogue.specs.declared.reading.Reading.{Reading}
+use Rattle.catalogue.specs.declared.reading.SizeAtFlow.{SizeAtFlow}
 use Rattle.catalogue.specs.Layout.{sizesOf, rowsOf, sizeFrom, partOf}
 use Rattle.catalogue.specs.Reading.{readRows}
-use Rattle.catalogue.specs.Shape.{Listed}
-use Rattle.catalogue.proofs.Listed.{listed-rows}
+use Rattle.catalogue.specs.Contracts.{AcceptedCat}
+use Rattle.catalogue.proofs.AcceptedCat.{cat-rows}
 use Rattle.catalogue.proofs.Readings.{reading-top}
 use Rattle.sizing.specs.declared.Tried.{Tried}
 use Rattle.sizing.specs.Losses.{readingOf, overBy, overAt, lossOf, lossAt}
 use Rattle.sizing.specs.Contracts.{triedOf, triedAt}
 
 -- velocities and slopes read from an accepted catalogue are of two bytes
-pub read-top : {cat : List ℕ} → Listed cat → (s : ℕ) → 0 < s → s ≤ sizesOf cat → ((k : ℕ) → byteAt cat k < 256) → (q : ℕ) →
+pub read-top : {cat : List ℕ} → AcceptedCat cat → (s : ℕ) → 0 < s → s ≤ sizesOf cat → ((k : ℕ) → byteAt cat k < 256) → (q : ℕ) →
     (readRows (partOf cat s) (rowsOf cat) q .velocity ≤ 65535) × (readRows (partOf cat s) (rowsOf cat) q .slope ≤ 65535)
 unfolding partOf
-read-top {cat} l s a b bytes q = reading-top (listed-rows l s a b) (part-below cat (sizeFrom cat s + 4) (8 * rowsOf cat) 256 (omega arith) bytes) q
+read-top {cat} l s a b bytes q = reading-top (cat-rows l s a b) (part-below cat (sizeFrom cat s + 4) (8 * rowsOf cat) 256 (omega arith) bytes) q
 
 -- what a section that is over has
 abbrev pub overTried : Tried
 overTried = record { over = true; velocity = 0; loss = 0 }
 
-module _ (r : Reading) (limit decimetres tenths : ℕ) where
+module _ (r : SizeAtFlow) (limit decimetres tenths : ℕ) where
   pub tried-row : r .serves ≡ false → triedOf r limit decimetres tenths ≡ overTried
   unfolding triedOf overBy
   tried-row e = rw e
@@ -51,7 +51,7 @@ module _ (r : Reading) (limit decimetres tenths : ℕ) where
 module _ (job : Job) (cat : List ℕ) (s i : ℕ) where
   -- at the section's own flow
   pub tried-at : (q : ℕ) → q ≡ sectionFlow job i →
-      triedOf (readRows (partOf cat s) (rowsOf cat) q) (job .head .limit) (sectionOf job i .decimetres) (job .head .tenths) ≡ triedAt job cat s i
+      triedOf (readRows (partOf cat s) (rowsOf cat) q) (job .header .limit) (sectionOf job i .decimetres) (job .header .tenths) ≡ triedAt job cat s i
   unfolding readingOf
   tried-at q e = rw e
 

@@ -4,7 +4,7 @@ ghost use mathlib.Core.Bool.{true};
 ghost use Prim.Native.Nat.{_≤_, _<_};
 ghost use Rattle.catalogue.specs.Layout.{sizesOf, rowsOf, partOf};
 ghost use Rattle.catalogue.specs.Reading.{readRows};
-ghost use Rattle.catalogue.specs.Shape.{Listed};
+ghost use Rattle.catalogue.specs.Contracts.{AcceptedCat};
 ghost use Rattle.sizing.specs.Losses.{lossOf};
 ghost use Rattle.sizing.specs.Contracts.{triedOf};
 
@@ -36,7 +36,7 @@ fn over() -> Tried
 
 // A section of so many decimetres with size s of an accepted catalogue at flow q.
 pub fn try_size(cat: &[u8], s: usize, q: u32, limit: u16, decimetres: u16, tenths: u8) -> Tried
-    requires { ⌜ Listed (now cat) × ((0 < s) × (s ≤ sizesOf (now cat))) × ((decimetres ≤ 5000) × (tenths ≤ 3)) ⌝ }
+    requires { ⌜ AcceptedCat (now cat) × ((0 < s) × (s ≤ sizesOf (now cat))) × ((decimetres ≤ 5000) × (tenths ≤ 3)) ⌝ }
     ensures is { λ r. ⌜ r ≡ triedOf (readRows (partOf (now (cat .entry)) s) (rowsOf (now (cat .entry))) q) limit decimetres tenths ⌝ }
     ensures small { λ r. ⌜ (r .velocity ≤ 65535) × (r .loss ≤ 4259775) ⌝ }
 {

@@ -27,7 +27,7 @@ pub fn sets(job: Job) -> [u64; 64]
     requires { ⌜ Rooted job ⌝ }
     ensures { λ r. ⌜ ((i : ℕ) → i < 64 → getD r i 0 ≡ setOf job i) ⌝ }
 {
-    let count = job.head.sections as usize;
+    let count = job.header.sections as usize;
     let mut sets = singles(count);
     let mut t = count;
     while 0 < t {
@@ -55,7 +55,7 @@ fn fill(job: Job, n: &mut [u32; 768])
     requires { ⌜ (countOf job ≤ 63) × Kinds job × Zeros (now n) ⌝ }
     ensures { λ _. ⌜ Owned job (countOf job) (now (n .exit)) ⌝ }
 {
-    let count = job.head.sections as usize;
+    let count = job.header.sections as usize;
     let mut j: usize = 1;
     while j <= count {
         let s = job.sections[j];
@@ -72,7 +72,7 @@ fn gather(job: Job, n: &mut [u32; 768])
     requires { ⌜ Rooted job × Owned job (countOf job) (now n) ⌝ }
     ensures { λ _. ⌜ Counted job (now (n .exit)) ⌝ }
 {
-    let mut t = job.head.sections as usize;
+    let mut t = job.header.sections as usize;
     while 0 < t {
         let p = job.sections[t].parent as usize;
         add_row(n, t, p);

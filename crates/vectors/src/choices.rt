@@ -130,7 +130,7 @@ fn cost(
 // What became of the workspace. After a result and after 16 its bytes are free.
 fn after(out: &mut [u8; 4096], at: usize, answer: Answer, kept: bool) -> usize {
     match answer {
-        Answer::Done | Answer::Unsuitable => at,
+        Answer::Done | Answer::NoSuitableList => at,
         _ => untouched(out, at, kept),
     }
 }

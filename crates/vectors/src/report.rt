@@ -1,6 +1,6 @@
 // The fields of a job and other numbers, in lines.
 use crate::print;
-use fields::Head;
+use fields::Header;
 use fields::Job;
 use fields::Section;
 ghost use Prim.Native.Nat.{_≤_};
@@ -73,15 +73,15 @@ fn rated_section(i: usize, velocity: u16, loss: u32) {
 }
 
 pub fn job(job: Job) {
-    let count = job.head.sections;
+    let count = job.header.sections;
     let by_kind = job.residents;
     let by_number = job.sections;
-    head(job.head);
+    head(job.header);
     residents(by_kind);
     sections(by_number, count as usize);
 }
 
-fn head(h: Head) {
+fn head(h: Header) {
     let mut out = [0u8; 4096];
     let at = print::text(&mut out, 0, b"head");
     let at = print::number(&mut out, at, wide8(h.tenths));

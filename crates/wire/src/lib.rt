@@ -1,23 +1,17 @@
 // Big-endian fields of byte slices, and two's complement.
+use numbers::word8;
 ghost use mathlib.Core.Path.{_≡_};
 ghost use Prim.Native.Nat.{_+_, _≤_, _<_};
 ghost use lib.ListN.{length};
 ghost use Rattle.basis.specs.Stored.{stored};
 ghost use Rattle.wire.specs.Wire.{beAt, bytesOf, signedOf, bitsOf};
 
-// A byte of a slice as a wider number, with its range.
-fn wide(x: u8) -> u32
-    ensures { λ r. ⌜ (r ≡ x) × (r < 256) ⌝ }
-{
-    x as u32
-}
-
 // The two bytes from i on.
 pub fn be16(s: &[u8], i: usize) -> u16
     requires { ⌜ i + 2 ≤ length (now s) ⌝ }
     ensures { λ r. ⌜ r ≡ beAt 2 (now (s .entry)) i ⌝ }
 {
-    (wide(s[i]) * 256 + wide(s[i + 1])) as u16
+    (word8(s[i]) * 256 + word8(s[i + 1])) as u16
 }
 
 // The four bytes from i on.
@@ -25,7 +19,7 @@ pub fn be32(s: &[u8], i: usize) -> u32
     requires { ⌜ i + 4 ≤ length (now s) ⌝ }
     ensures { λ r. ⌜ r ≡ beAt 4 (now (s .entry)) i ⌝ }
 {
-    ((wide(s[i]) * 256 + wide(s[i + 1])) * 256 + wide(s[i + 2])) * 256 + wide(s[i + 3])
+    ((word8(s[i]) * 256 + word8(s[i + 1])) * 256 + word8(s[i + 2])) * 256 + word8(s[i + 3])
 }
 
 // The two bytes of n.

@@ -6,7 +6,7 @@ use Rattle.answer.specs.Answer.{numberOf}
 use Rattle.record.specs.Record.{decode}
 use Rattle.job.specs.Calls.{readNo}
 use Rattle.job.proofs.Decided.{read-accepted}
-use Rattle.acceptance.proofs.Accepting.{accept-read, accept-demand, read-ruled}
+use Rattle.acceptance.proofs.Accepting.{accept-read, accept-demand, read-valid}
 use Rattle.acceptance.proofs.accept.Statement.{statement}
 use Rattle.acceptance.proofs.accept.Tie as tie
 
@@ -28,7 +28,7 @@ fields : (c : tie.Else1) → c .before .before .read .result .job ≡ decode (c 
 fields c = c .before .before .read .ensures .1 ∙ read-accepted _ (passed c)
 
 demand-refusal-requires : tie.Need-demand-refusal-requires
-demand-refusal-requires c κs = rw (fields c) (read-ruled _ (passed c))
+demand-refusal-requires c κs = rw (fields c) (read-valid _ (passed c))
 
 returns-2 : tie.Need-returns-2
 returns-2 c =

@@ -35,7 +35,7 @@ fields : (c : tie.Else1) → c .before .before .accept .result .job ≡ decode (
 fields c = c .before .before .accept .ensures .1 ∙ accept-fields _ (passed c)
 
 count : (c : tie.Else1) → countOf (c .before .before .accept .result .job) ≡ countOf (decode (c .before .before .before .before .before .args .b .now))
-count c = ap (λ (job : Job). job .head .sections) (fields c)
+count c = ap (λ (job : Job). job .header .sections) (fields c)
 
 returns-2 : tie.Need-returns-2
 returns-2 c =

@@ -3,7 +3,7 @@
 use mathlib.Core.Path.{_∙_}
 use native.Mathlib.Omega.{arith}
 use borrow.Author.Needs.{needs}
-use Rattle.demand.proofs.Ruling.{ruled-count}
+use Rattle.demand.proofs.Validity.{valid-count}
 use Rattle.flow.proofs.Result.{flows-written, result-stored}
 use Rattle.flow.proofs.put_result.Statement.{statement}
 use Rattle.flow.proofs.put_result.Tie as tie
@@ -11,7 +11,7 @@ use Rattle.flow.proofs.put_result.Tie as tie
 put-flows-requires : tie.Need-put-flows-requires
 put-flows-requires c κs =
     let start = c .before .before .before .before .before .before .before .before .before .before .before in
-    (ruled-count (start .pre .0 .ruled) .high, search needs)
+    (valid-count (start .pre .0 .valid) .high, search needs)
 
 returns : tie.Need-returns
 returns c =
@@ -20,7 +20,7 @@ returns c =
     let mean = house .before in
     let found = mean .before .before .before .before in
     let start = found .before .before .before in
-    let few = ruled-count (start .pre .0 .ruled) .high in
+    let few = valid-count (start .pre .0 .valid) .high in
     flows .put-flows .ensures ∙
     rw (found .flows .ensures, flows-written (start .args .job) few)
     (rw (house .put-house .ensures, mean .mean-of .ensures, mean .before .day-of .ensures, mean .before .before .hour-of .ensures)

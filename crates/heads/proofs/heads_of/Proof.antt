@@ -27,10 +27,10 @@ module _ (c : tie.After-dictating) where
   loss i = getD (c .before .args .losses) i 0
 
   abbrev sum : ℤ
-  sum = toZ w32 (job .head .meter) +ℤ toZ w32 (ofZ w32 (c .dictating .result .reach))
+  sum = toZ w32 (job .header .meter) +ℤ toZ w32 (ofZ w32 (c .dictating .result .reach))
 
   abbrev over : ℤ
-  over = toZ w32 (ofZ w32 sum) -ℤ toZ w32 (job .head .guaranteed)
+  over = toZ w32 (ofZ w32 sum) -ℤ toZ w32 (job .header .guaranteed)
 
   reach-fits : SFits w32 (c .dictating .result .reach)
   reach-fits = record { sfits = rw (c .dictating .ensures .0) (omega (arith, greatest-small (c .before .pre))) }
@@ -40,7 +40,7 @@ module _ (c : tie.After-dictating) where
 
   sum-is : sum ≡ requiredOf job loss
   unfolding requiredOf
-  sum-is = rw (toZ-pos w32 {n = job .head .meter} (omega arith), reach-is)
+  sum-is = rw (toZ-pos w32 {n = job .header .meter} (omega arith), reach-is)
 
   sum-fits : SFits w32 sum
   sum-fits = rw sum-is (record { sfits = omega (arith, required-small (c .before .pre)) })
@@ -48,14 +48,14 @@ module _ (c : tie.After-dictating) where
   required-is : toZ w32 (ofZ w32 sum) ≡ requiredOf job loss
   required-is = toZ-ofZ sum-fits ∙ sum-is
 
-  over-is : over ≡ requiredOf job loss -ℤ pos (job .head .guaranteed)
-  over-is = rw (required-is, toZ-pos w32 {n = job .head .guaranteed} (omega arith))
+  over-is : over ≡ requiredOf job loss -ℤ pos (job .header .guaranteed)
+  over-is = rw (required-is, toZ-pos w32 {n = job .header .guaranteed} (omega arith))
 
   over-fits : SFits w32 over
   over-fits =
       let g = c .before .pre in
       rw over-is
-      (record { sfits = less-mag (requiredOf job loss) (job .head .guaranteed) _ (omega (arith, given-head g .guaranteed, required-small g)) })
+      (record { sfits = less-mag (requiredOf job loss) (job .header .guaranteed) _ (omega (arith, given-head g .guaranteed, required-small g)) })
 
   pump-is : clamped (toZ w32 (ofZ w32 over)) ≡ pumpOf job loss
   unfolding pumpAt

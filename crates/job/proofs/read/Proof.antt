@@ -5,7 +5,7 @@ use native.Mathlib.Omega.{arith}
 use borrow.Author.Needs.{needs}
 use Rattle.answer.specs.Answer.{numberOf}
 use Rattle.answer.specs.Checks.{firstNo}
-use Rattle.record.specs.Record.{headAt, decode}
+use Rattle.record.specs.Record.{headerAt, decode}
 use Rattle.job.specs.Calls.{shapeChecks}
 use Rattle.job.proofs.Shape.{shaped, few}
 use Rattle.job.proofs.Decided.{read-shape, read-fields}
@@ -24,7 +24,7 @@ job-of-requires : tie.Need-job-of-requires
 job-of-requires c κs = let s = shaped _ (passed c) in (few s, omega (arith, s .whole))
 
 broken-rule-requires : tie.Need-broken-rule-requires
-unfolding decode headAt
+unfolding decode headerAt
 broken-rule-requires c κs = rw (c .job-of .ensures) (few (shaped _ (passed (c .before))))
 
 failed : (c : tie.Then1) → firstNo (shapeChecks (c .before .before .before .before .args .b .now)) ≡ 0 → ⊥

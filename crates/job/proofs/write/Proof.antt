@@ -5,7 +5,7 @@ use borrow.Author.Needs.{needs}
 use borrow.Author.Tests.{eq-eqb, ne-eqb}
 use lib.ListN.{length}
 use Rattle.answer.specs.Answer.{numberOf}
-use Rattle.rules.proofs.HeadBounds.{head-in}
+use Rattle.rules.proofs.HeaderBounds.{header-in}
 use Rattle.job.proofs.Decided.{Writable, writable}
 use Rattle.job.proofs.write.Statement.{statement}
 use Rattle.job.proofs.write.Tie as tie
@@ -24,7 +24,7 @@ returns c = (
 )
 
 put-job-requires : tie.Need-put-job-requires
-put-job-requires c κs = let f = fits (c .before) in (head-in _ (f .head) .sections .high, f .fits)
+put-job-requires c κs = let f = fits (c .before) in (header-in _ (f .header) .sections .high, f .fits)
 
 returns-2 : tie.Need-returns-2
 returns-2 c =

@@ -6,24 +6,24 @@ use native.Mathlib.Omega.{arith}
 use borrow.Author.Needs.{needs}
 use borrow.Author.Tests.{not-true, not-false}
 use Rattle.answer.specs.Checks.{firstNo}
-use Rattle.rules.specs.Rules.{headOk, fieldChecks}
-use Rattle.rules.proofs.HeadBounds.{head-in}
+use Rattle.rules.specs.Rules.{headerOk, fieldChecks}
+use Rattle.rules.proofs.HeaderBounds.{header-in}
 use Rattle.job.proofs.Decided.{write-range, write-fields, write-short, write-done}
 use Rattle.job.proofs.write_refusal.Statement.{statement}
 use Rattle.job.proofs.write_refusal.Tie as tie
 
 -- what each test has shown, at its place
-inside : (c : tie.Else1) → headOk (c .before .before .args .job .head) ≡ true
-inside c = sym (c .before .head-ok .ensures) ∙ not-false (c .before .head-ok .result) (c .if1 .left)
+inside : (c : tie.Else1) → headerOk (c .before .before .args .job .header) ≡ true
+inside c = sym (c .before .header-ok .ensures) ∙ not-false (c .before .header-ok .result) (c .if1 .left)
 
 found : (c : tie.After-number) → c .number .result ≡ firstNo (fieldChecks (c .before .before .before .before .args .job))
 found c = c .number .ensures ∙ c .before .broken-rule .ensures
 
 returns : tie.Need-returns
-returns c = sym (write-range _ _ (sym (c .before .head-ok .ensures) ∙ not-true (c .before .head-ok .result) (c .if1 .taken)))
+returns c = sym (write-range _ _ (sym (c .before .header-ok .ensures) ∙ not-true (c .before .header-ok .result) (c .if1 .taken)))
 
 broken-rule-requires : tie.Need-broken-rule-requires
-broken-rule-requires c κs = head-in _ (inside c) .sections .high
+broken-rule-requires c κs = header-in _ (inside c) .sections .high
 
 returns-2 : tie.Need-returns-2
 returns-2 c =

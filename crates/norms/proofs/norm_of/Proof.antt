@@ -1,12 +1,12 @@
 -- `norms::norm_of` meets its contract: the tables of the code are those of the definition.
 -- Assumes nothing.
 use borrow.Author.Needs.{needs}
-use Rattle.norms.specs.Norms.{normOf, dayNorms, hourNorms, tapNorms, drawNorms}
+use Rattle.norms.specs.Norms.{normOf, dayNorms, hourNorms, fixtureNorms, hourlyNorms}
 use Rattle.norms.proofs.norm_of.Statement.{statement}
 use Rattle.norms.proofs.norm_of.Tie as tie
 
 returns : tie.Need-returns
-unfolding normOf dayNorms hourNorms tapNorms drawNorms
+unfolding normOf dayNorms hourNorms fixtureNorms hourlyNorms
 returns c = rw (c .before .before .before .long16 .ensures .0, c .before .before .long162 .ensures .0, c .before .long163 .ensures .0, c .long164 .ensures .0)
 
 pub norm-of-spec : {M : Type 1} → statement M

@@ -6,14 +6,14 @@ use native.Mathlib.Omega.{arith}
 use borrow.Author.Needs.{needs}
 use lib.ListN.{length}
 use Rattle.catalogue.specs.Layout.{rowsOf}
-use Rattle.catalogue.specs.Shape.{Sized}
+use Rattle.catalogue.specs.Contracts.{Sized}
 use Rattle.catalogue.proofs.Places.{sized-room, part-handed}
-use Rattle.catalogue.proofs.Listed.{listed-sized, listed-rows}
+use Rattle.catalogue.proofs.AcceptedCat.{cat-sized, cat-rows}
 use Rattle.catalogue.proofs.reading.read_size.Statement.{statement}
 use Rattle.catalogue.proofs.reading.read_size.Tie as tie
 
 sized : (c : tie.Start) → Sized (c .args .cat .now) (c .args .s)
-sized c = listed-sized (c .pre .0) (c .args .s) (c .pre .1) (c .pre .2)
+sized c = cat-sized (c .pre .0) (c .args .s) (c .pre .1) (c .pre .2)
 
 rows-of-requires : tie.Need-rows-of-requires
 rows-of-requires c κs = let z = sized (c .before) in omega arith
@@ -44,7 +44,7 @@ read-rows-requires : tie.Need-read-rows-requires
 read-rows-requires c κs =
     let b = c .before .before .before .before in
     rw (part-handed (sized b) _ _ (c .before .size-from .ensures) (c .before .before .rows-of .ensures), c .before .before .rows-of .ensures)
-    (listed-rows (b .pre .0) (b .args .s) (b .pre .1) (b .pre .2))
+    (cat-rows (b .pre .0) (b .args .s) (b .pre .1) (b .pre .2))
 
 returns : tie.Need-returns
 returns c =

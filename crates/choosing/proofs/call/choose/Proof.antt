@@ -12,8 +12,8 @@ use Rattle.fields.specs.declared.Job.{Job}
 use Rattle.fields.specs.Fields.{countOf}
 use Rattle.record.specs.Record.{decode}
 use Rattle.demand.specs.Demand.{Accepted}
-use Rattle.demand.proofs.Ruling.{ruled-count}
-use Rattle.rules.proofs.HeadBounds.{head-in}
+use Rattle.demand.proofs.Validity.{valid-count}
+use Rattle.rules.proofs.HeaderBounds.{header-in}
 use Rattle.acceptance.specs.Acceptance.{inputNo}
 use Rattle.acceptance.proofs.Accepting.{input-fields, input-accepted, input-listed}
 use Rattle.choosing.specs.Calls.{chooseLength, workOf, chooseNo}
@@ -42,7 +42,7 @@ accepted c = rw (fields c) (input-accepted _ _ (passed c))
 
 -- 14
 count : (c : tie.Else1) → countOf (c .before .before .accept-both .result .job) ≡ countOf (decode (c .before .before .before .before .before .before .before .args .b .now))
-count c = ap (λ (job : Job). job .head .sections) (fields c)
+count c = ap (λ (job : Job). job .header .sections) (fields c)
 
 returns-2 : tie.Need-returns-2
 returns-2 c =
@@ -53,10 +53,10 @@ room : (c : tie.Else2) → chooseLength (countOf (decode (c .before .before .bef
 room c = rw (← count (c .before .before .before)) (omega arith)
 
 -- 15
-space : (c : tie.Else1) → (countOf (c .before .before .accept-both .result .job) + 1) * (c .before .before .accept-both .result .job .head .delivered + 1001) ≤ 448064
+space : (c : tie.Else1) → (countOf (c .before .before .accept-both .result .job) + 1) * (c .before .before .accept-both .result .job .header .delivered + 1001) ≤ 448064
 space c =
-    let r = accepted c .ruled in
-    mul-le-mul {n₂ = 64} {m₂ = 7001} (omega (arith, ruled-count r .high)) (omega (arith, head-in _ (r .head) .delivered))
+    let r = accepted c .valid in
+    mul-le-mul {n₂ = 64} {m₂ = 7001} (omega (arith, valid-count r .high)) (omega (arith, header-in _ (r .header) .delivered))
 
 needed : (c : tie.Else1) → workOf (c .before .before .accept-both .result .job) ≡ workOf (decode (c .before .before .before .before .before .before .before .args .b .now))
 needed c = ap workOf (fields c)
@@ -75,7 +75,7 @@ ready c =
 
 cheapest-requires : tie.Need-cheapest-requires
 cheapest-requires c κs =
-    let one = c .before .before .before .before .before .before in (accepted one, input-listed _ _ (passed one), head-in _ (accepted one .ruled .head) .delivered, c .before .if3 .left)
+    let one = c .before .before .before .before .before .before in (accepted one, input-listed _ _ (passed one), header-in _ (accepted one .valid .header) .delivered, c .before .if3 .left)
 
 -- 16
 returns-4 : tie.Need-returns-4
@@ -89,7 +89,7 @@ put-result-requires : tie.Need-put-result-requires
 put-result-requires c κs =
     let three = c .before .before .before .before .before .before .before .before in
     let one = three .before .before .before .before .before in
-    (ruled-count (accepted one .ruled) .high, rw (count one) (room (three .before .before)))
+    (valid-count (accepted one .valid) .high, rw (count one) (room (three .before .before)))
 
 -- the result
 returns-5 : tie.Need-returns-5

@@ -10,25 +10,25 @@ use lib.ListN.{length}
 use Rattle.fields.specs.declared.Job.{Job}
 use Rattle.fields.specs.Fields.{countOf}
 use Rattle.wire.specs.Wire.{byteAt}
-use Rattle.rules.proofs.HeadBounds.{HeadIn, head-in}
-use Rattle.catalogue.proofs.Listed.{listed-counts}
+use Rattle.rules.proofs.HeaderBounds.{HeaderIn, header-in}
+use Rattle.catalogue.proofs.AcceptedCat.{cat-counts}
 use Rattle.catalogue.proofs.ShapeBounds.{shape-in}
 use Rattle.nets.specs.Net.{Net}
 use Rattle.nets.specs.Tables.{netOf, Sound}
-use Rattle.choosing.specs.Shape.{headFor, Drawn}
-use Rattle.choosing.proofs.Drawing.{drawn, sound}
+use Rattle.choosing.specs.Contracts.{headFor, TreeOf}
+use Rattle.choosing.proofs.Trees.{tree-of, sound}
 use Rattle.choosing.proofs.Promised.{none-suitable, least-suitable}
 use Rattle.choosing.proofs.cheapest.cheapest.Statement.{statement}
 use Rattle.choosing.proofs.cheapest.cheapest.Tie as tie
 
-head : (c : tie.Start) → HeadIn (c .args .job .head)
-head c = head-in (c .args .job .head) (c .pre .0 .ruled .head)
+head : (c : tie.Start) → HeaderIn (c .args .job .header)
+head c = header-in (c .args .job .header) (c .pre .0 .valid .header)
 
 sizes-of-requires : tie.Need-sizes-of-requires
 sizes-of-requires c κs = omega (arith, shape-in _ (c .before .before .before .pre .1 .shape) .long)
 
 cast-sizes : tie.Need-cast-sizes
-cast-sizes c = omega (arith, listed-counts (c .before .before .before .before .pre .1) .0 .high)
+cast-sizes c = omega (arith, cat-counts (c .before .before .before .before .pre .1) .0 .high)
 
 put-options-requires : tie.Need-put-options-requires
 put-options-requires c κs = let p = c .before .before .before .before .before .before .before .before .before .before .pre in (p .0, p .1, (refl, refl))
@@ -52,10 +52,10 @@ module _ (c : tie.After-put-options) where
   abbrev net : Net
   net = netWith (read .sizes-of .result)
 
-  tree : Drawn (start .args .job) (start .args .cat .now) net
+  tree : TreeOf (start .args .job) (start .args .cat .now) net
   tree =
-      subst (λ (n : ℕ). Drawn (start .args .job) (start .args .cat .now) (netWith n)) (sym (read .sizes-of .ensures))
-      (drawn (start .pre .0) (start .pre .1) bytes (c .before .before .before .before .before .ends-of .ensures) (c .put-options .ensures .0) (c .put-options .ensures .1))
+      subst (λ (n : ℕ). TreeOf (start .args .job) (start .args .cat .now) (netWith n)) (sym (read .sizes-of .ensures))
+      (tree-of (start .pre .0) (start .pre .1) bytes (c .before .before .before .before .before .ends-of .ensures) (c .put-options .ensures .0) (c .put-options .ensures .1))
 
   taken : Sound net
   taken =
@@ -78,7 +78,7 @@ choose-requires c κs =
 returns : tie.Need-returns
 returns c =
     let options = c .before .before .before .before .before .before .before .before in
-    let r = start options .pre .0 .ruled in
+    let r = start options .pre .0 .valid in
     let found = c .before .before .choose .ensures in
     (λ e. none-suitable (tree options) r (found .0 e), λ e. least-suitable (tree options) r (found .1 e))
 

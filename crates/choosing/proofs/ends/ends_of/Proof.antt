@@ -8,8 +8,8 @@ use lib.IntN.{pos, _+ℤ_}
 use Rattle.fields.specs.declared.Job.{Job}
 use Rattle.fields.specs.Fields.{countOf, sectionOf}
 use Rattle.rules.proofs.Kept.{sections-in}
-use Rattle.demand.proofs.Ruling.{ruled-count, ruled-sections}
-use Rattle.choosing.specs.Shape.{shift}
+use Rattle.demand.proofs.Validity.{valid-count, valid-sections}
+use Rattle.choosing.specs.Contracts.{shift}
 use Rattle.choosing.proofs.Placed.{Placed, placed-start, placed-more}
 use Rattle.choosing.proofs.ends.ends_of.Statement.{statement}
 use Rattle.choosing.proofs.ends.ends_of.Tie as tie
@@ -28,7 +28,7 @@ abbrev μ-loop : tie.MeasureT-loop
 μ-loop job count parents₀ needs₀ i₀ parents needs i = countOf job + 1 - i
 
 few : (c : tie.Start Inv-loop μ-loop) → countOf (c .args .t1) ≤ 63
-few c = ruled-count (c .pre) .high
+few c = valid-count (c .pre) .high
 
 loop-holds : tie.Need-loop-holds Inv-loop μ-loop
 loop-holds c = (omega arith, omega arith, placed-start _ _ refl, placed-start _ _ refl)
@@ -39,7 +39,7 @@ place c = omega (arith, few (c .before .before))
 need-requires : tie.Need-need-requires Inv-loop μ-loop
 need-requires c κs =
     let at = c .before .before in
-    sections-in (at .before .args .t1) (ruled-sections (at .before .pre)) (at .loop .i) (omega arith) (omega arith) .elevation
+    sections-in (at .before .args .t1) (valid-sections (at .before .pre)) (at .loop .i) (omega arith) (omega arith) .elevation
 
 loop-again : tie.Need-loop-again Inv-loop μ-loop
 loop-again c =

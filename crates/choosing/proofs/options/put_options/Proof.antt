@@ -7,14 +7,14 @@ use borrow.Author.Needs.{needs}
 use lib.ListN.{getD}
 use Rattle.basis.proofs.Slots.{slots-in}
 use Rattle.fields.specs.Fields.{countOf}
-use Rattle.rules.proofs.HeadBounds.{head-in}
+use Rattle.rules.proofs.HeaderBounds.{header-in}
 use Rattle.rules.proofs.Kept.{sections-in}
 use Rattle.demand.specs.Demand.{sectionFlow}
-use Rattle.demand.proofs.Ruling.{ruled-count, ruled-sections}
+use Rattle.demand.proofs.Validity.{valid-count, valid-sections}
 use Rattle.catalogue.specs.Layout.{sizesOf}
-use Rattle.catalogue.proofs.Listed.{listed-counts}
+use Rattle.catalogue.proofs.AcceptedCat.{cat-counts}
 use Rattle.choosing.specs.Suitable.{priceAt}
-use Rattle.choosing.specs.Shape.{lossEntry, Tabled}
+use Rattle.choosing.specs.Contracts.{lossEntry, Tabled}
 use Rattle.choosing.proofs.Placed.{tabled-start, tabled-more, tabled-end}
 use Rattle.choosing.proofs.options.put_options.Statement.{statement}
 use Rattle.choosing.proofs.options.put_options.Tie as tie
@@ -27,7 +27,7 @@ abbrev μ-loop : tie.MeasureT-loop
 μ-loop cat losses₀ costs₀ job count flows i₀ losses costs i = countOf job + 1 - i
 
 few : (c : tie.Start Inv-loop μ-loop) → countOf (c .args .t1) ≤ 63
-few c = ruled-count (c .pre .0 .ruled) .high
+few c = valid-count (c .pre .0 .valid) .high
 
 loop-holds : tie.Need-loop-holds Inv-loop μ-loop
 loop-holds c = let e = c .before .before .pre .2 in (omega arith, omega arith, tabled-start _ _ _ (e .0), tabled-start _ _ _ (e .1))
@@ -39,13 +39,13 @@ put-row-requires : tie.Need-put-row-requires Inv-loop μ-loop
 put-row-requires c κs =
     let at = c .before .before .before .before .before in
     let start = at .before .before .before in
-    let ruled = start .pre .0 .ruled in (
+    let valid = start .pre .0 .valid in (
       (
         start .pre .1,
         omega (arith, few start),
         (
-          sections-in (start .args .t1) (ruled-sections ruled) (at .loop .i) (omega arith) (omega arith) .decimetres .high,
-          head-in (start .args .t1 .head) (ruled .head) .tenths .high,
+          sections-in (start .args .t1) (valid-sections valid) (at .loop .i) (omega arith) (omega arith) .decimetres .high,
+          header-in (start .args .t1 .header) (valid .header) .tenths .high,
         ),
       ),
       (at .loop .inv .2 .long, at .loop .inv .3 .long),
@@ -58,7 +58,7 @@ loop-again c =
     let start = at .before .before .before in
     let job = start .args .t1 in
     let i = at .loop .i in
-    let thin = listed-counts (start .pre .1) .0 .high in
+    let thin = cat-counts (start .pre .1) .0 .high in
     let flow : getD (at .before .flows .result) i 0 ≡ sectionFlow job i =
     rw (at .before .flows .ensures) (slots-in 64 1 (countOf job + 1) 0 (sectionFlow job) i 0 (omega arith) (omega arith) (omega (arith, few start))) in (
       omega arith,

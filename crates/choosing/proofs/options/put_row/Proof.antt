@@ -5,9 +5,9 @@ use Prim.Native.Nat.{_+_, _-_, _*_, _≤_, _<_}
 use native.Mathlib.Omega.{arith}
 use borrow.Author.Needs.{needs}
 use Rattle.catalogue.specs.Layout.{sizesOf, priceOf}
-use Rattle.catalogue.proofs.Listed.{listed-counts, listed-sized, listed-price}
+use Rattle.catalogue.proofs.AcceptedCat.{cat-counts, cat-sized, cat-price}
 use Rattle.catalogue.proofs.ShapeBounds.{shape-in}
-use Rattle.choosing.specs.Shape.{entryOf, lossBy, Entered}
+use Rattle.choosing.specs.Contracts.{entryOf, lossBy, Entered}
 use Rattle.choosing.proofs.Entries.{cost-top}
 use Rattle.choosing.proofs.Placed.{entered-start, entered-more, entered-end}
 use Rattle.choosing.proofs.options.put_row.Statement.{statement}
@@ -21,7 +21,7 @@ abbrev μ-loop : tie.MeasureT-loop
 μ-loop head section cat i flow losses₀ costs₀ sizes s₀ losses costs s = sizesOf cat + 1 - s
 
 few : (c : tie.Start Inv-loop μ-loop) → sizesOf (c .args .cat .now) ≤ 12
-few c = listed-counts (c .pre .0 .0) .0 .high
+few c = cat-counts (c .pre .0 .0) .0 .high
 
 sizes-of-requires : tie.Need-sizes-of-requires Inv-loop μ-loop
 sizes-of-requires c κs = omega (arith, shape-in _ (c .before .pre .0 .0 .shape) .long)
@@ -37,12 +37,12 @@ try-size-requires : tie.Need-try-size-requires Inv-loop μ-loop
 try-size-requires c κs = let p = c .before .before .before .before .pre .0 in (p .0, (omega arith, omega arith), p .2)
 
 price-requires : tie.Need-price-requires Inv-loop μ-loop
-price-requires c κs = listed-sized (c .before .before .before .before .before .before .pre .0 .0) _ (omega arith) (omega arith)
+price-requires c κs = cat-sized (c .before .before .before .before .before .before .pre .0 .0) _ (omega arith) (omega arith)
 
 low : (c : tie.After-price Inv-loop μ-loop) → c .price .result ≤ 10000
 low c =
     let at = c .before .before .before .before in
-    rw (c .price .ensures) (listed-price (at .before .before .before .pre .0 .0) (at .loop .s) (omega arith) (omega arith) .high)
+    rw (c .price .ensures) (cat-price (at .before .before .before .pre .0 .0) (at .loop .s) (omega arith) (omega arith) .high)
 
 mul-costs : tie.Need-mul-costs Inv-loop μ-loop
 mul-costs c =

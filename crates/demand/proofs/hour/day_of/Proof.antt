@@ -17,14 +17,14 @@ Inv-loop job day₀ kind₀ day kind = Within 1 13 kind × SoFar (λ k. normAt j
 abbrev μ-loop : tie.MeasureT-loop
 μ-loop job day₀ kind₀ day kind = 13 - kind
 
-top : (c : tie.After-wide16 Inv-loop μ-loop) → c .before .before .norm-of .result .day * c .wide16 .result ≤ 26214000
+top : (c : tie.After-long16 Inv-loop μ-loop) → c .before .before .norm-of .result .day * c .long16 .result ≤ 26214000
 top c = day-top (c .before .before .norm-of .ensures) (omega arith) (omega arith)
 
 loop-again : tie.Need-loop-again Inv-loop μ-loop
 loop-again c = (
   omega arith,
   sum-turn (c .before .before .before .before .before .loop .inv .1) (omega arith)
-      (rw (c .before .before .before .norm-of .ensures, c .before .wide16 .ensures .0)) (top (c .before)),
+      (rw (c .before .before .before .norm-of .ensures, c .before .long16 .ensures .0)) (top (c .before)),
 )
 
 returns : tie.Need-returns Inv-loop μ-loop

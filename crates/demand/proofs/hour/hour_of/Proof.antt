@@ -13,12 +13,12 @@ use Rattle.demand.proofs.hour.hour_of.Tie as tie
 
 -- the sum of the shares is neither 0 nor over what α is read at
 low : (c : tie.After-hour-sums) → 0 < c .hour-sums .result .shares
-low c = rw (c .hour-sums .ensures .0) (hour-sum-pos (c .before .before .pre .ruled))
+low c = rw (c .hour-sums .ensures .0) (hour-sum-pos (c .before .before .pre .valid))
 
 high : (c : tie.After-hour-sums) → c .hour-sums .result .shares ≤ 400000000
 high c = rw (c .hour-sums .ensures .0) (hour-sum-top (c .before .before .pre))
 
-product : (c : tie.After-alpha) → c .before .before .hour-sums .result .draws * c .alpha .result ≤ 11028000000000000000
+product : (c : tie.After-alpha) → c .before .before .hour-sums .result .weighted * c .alpha .result ≤ 11028000000000000000
 product c =
     rw (c .alpha .ensures, c .before .before .hour-sums .ensures .1)
     (hour-product (c .before .before .before .before .args .job) _ (hour-sum-top (c .before .before .before .before .pre)))
@@ -35,7 +35,7 @@ returns c = whole c
 cast-result : tie.Need-cast-result
 cast-result c =
     let start = c .before .before .before .before .before .before in
-    omega (arith, rw (← whole c) at (hour-top (start .args .job) (hour-sum-pos (start .pre .ruled))))
+    omega (arith, rw (← whole c) at (hour-top (start .args .job) (hour-sum-pos (start .pre .valid))))
 
 pub hour-of-spec : {M : Type 1} → statement M
 hour-of-spec = tie.close (tie.spec (λ c κs. search needs) (λ c κs. search needs) (λ c. omega (arith, high (c .before))) (λ c κs. search needs) (λ c. search needs) (λ c. omega (arith, product (c .before))) (λ c. omega (arith, high (c .before .before .before))) (λ c κs. (omega (arith, low (c .before .before .before)), omega (arith, product (c .before), high (c .before .before .before)))) cast-result returns)

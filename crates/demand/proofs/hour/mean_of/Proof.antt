@@ -3,14 +3,14 @@
 use Prim.Native.Nat.{_≤_}
 use native.Mathlib.Omega.{arith}
 use borrow.Author.Needs.{needs}
-use Rattle.rules.proofs.HeadBounds.{HeadIn, head-in}
+use Rattle.rules.proofs.HeaderBounds.{HeaderIn, header-in}
 use Rattle.demand.specs.Demand.{meanOf}
 use Rattle.demand.proofs.Tops.{mean-top}
 use Rattle.demand.proofs.hour.mean_of.Statement.{statement}
 use Rattle.demand.proofs.hour.mean_of.Tie as tie
 
-head : (c : tie.Start) → HeadIn (c .args .job .head)
-head c = head-in (c .args .job .head) (c .pre .ruled .head)
+head : (c : tie.Start) → HeaderIn (c .args .job .header)
+head c = header-in (c .args .job .header) (c .pre .valid .header)
 
 top : (c : tie.After-divide-up) → c .divide-up .result ≤ c .before .before .day-of .result
 top c = rw (c .divide-up .ensures) (mean-top (c .before .before .day-of .result) (head (c .before .before .before) .hours .low))

@@ -6,18 +6,18 @@ use Prim.Native.Nat.{_≤_}
 use native.Mathlib.Omega.{arith}
 use borrow.Author.Needs.{needs}
 use Rattle.tree.specs.Tree.{houseOf}
-use Rattle.demand.specs.Demand.{mOf, fixturesOf, hourSumOf, crowded}
-use Rattle.demand.proofs.Ruling.{ruled-rooted, ruled-kinds}
-use Rattle.demand.proofs.Deciding.{house-m, house-fixtures, over-house, over-hour, crowded-house, crowded-any, crowded-hour, not-crowded}
+use Rattle.demand.specs.Demand.{mOf, fixturesOf, hourSumOf, needsTableOne}
+use Rattle.demand.proofs.Validity.{valid-rooted, valid-kinds}
+use Rattle.demand.proofs.Deciding.{house-m, house-fixtures, over-house, over-hour, table-one-house, table-one-any, table-one-hour, not-needsTableOne}
 use Rattle.demand.proofs.section.demand_refusal.Statement.{statement}
 use Rattle.demand.proofs.section.demand_refusal.Tie as tie
 
 -- the house's sums, and the hour's
 m-is : (c : tie.After-sums-of) → c .sums-of .result .m ≡ mOf (c .before .before .before .args .job) (houseOf (c .before .before .before .args .job))
-m-is c = c .sums-of .ensures .0 ∙ house-m (ruled-rooted (c .before .before .before .pre))
+m-is c = c .sums-of .ensures .0 ∙ house-m (valid-rooted (c .before .before .before .pre))
 
 fixtures-is : (c : tie.After-sums-of) → c .sums-of .result .fixtures ≡ fixturesOf (houseOf (c .before .before .before .args .job))
-fixtures-is c = c .sums-of .ensures .2 ∙ house-fixtures (ruled-rooted (c .before .before .before .pre))
+fixtures-is c = c .sums-of .ensures .2 ∙ house-fixtures (valid-rooted (c .before .before .before .pre))
 
 hour-is : (c : tie.After-hour-sums) → c .hour-sums .result .shares ≡ hourSumOf (c .before .before .before .before .args .job)
 hour-is c = c .hour-sums .ensures .0
@@ -30,10 +30,10 @@ hour-low : (c : tie.Else2) → hourSumOf (c .before .before .before .before .bef
 hour-low c = rw (hour-is (c .before .before .before .before)) at (c .if2 .left)
 
 counts-requires : tie.Need-counts-requires
-counts-requires c κs = (ruled-rooted (c .pre), ruled-kinds (c .pre))
+counts-requires c κs = (valid-rooted (c .pre), valid-kinds (c .pre))
 
 sums-of-requires : tie.Need-sums-of-requires
-sums-of-requires c κs = (ruled-rooted (c .before .before .pre), c .before .counts .ensures, omega arith)
+sums-of-requires c κs = (valid-rooted (c .before .before .pre), c .before .counts .ensures, omega arith)
 
 returns : tie.Need-returns
 returns c = sym (over-house _ (rw (m-is (c .before .before .before)) at (c .if1 .taken)))
@@ -42,51 +42,51 @@ returns-2 : tie.Need-returns-2
 returns-2 c = sym (over-hour _ (m-low (c .before .before)) (rw (hour-is (c .before .before .before .before)) at (c .if2 .taken)))
 
 -- the test of the house, and of its hour
-house-test : (c : tie.After-is-crowded) → let job = c .before .before .before .before .before .before .before .before .before .args .job in c .is-crowded .result ≡ crowded (mOf job (houseOf job)) (fixturesOf (houseOf job))
+house-test : (c : tie.After-needs-table-one) → let job = c .before .before .before .before .before .before .before .before .before .args .job in c .needs-table-one .result ≡ needsTableOne (mOf job (houseOf job)) (fixturesOf (houseOf job))
 house-test c =
     let sums = c .before .before .before .before .before .before in
-    c .is-crowded .ensures ∙ rw (m-is sums, fixtures-is sums)
+    c .needs-table-one .ensures ∙ rw (m-is sums, fixtures-is sums)
 
 returns-3 : tie.Need-returns-3
 returns-3 c =
     let two = c .before .before in
-    sym (crowded-house _ (m-low (two .before .before)) (hour-low two) (sym (house-test (c .before)) ∙ c .if3 .taken))
+    sym (table-one-house _ (m-low (two .before .before)) (hour-low two) (sym (house-test (c .before)) ∙ c .if3 .taken))
 
-house-low : (c : tie.Else3) → let job = c .before .before .before .before .before .before .before .before .before .before .args .job in crowded (mOf job (houseOf job)) (fixturesOf (houseOf job)) ≡ false
+house-low : (c : tie.Else3) → let job = c .before .before .before .before .before .before .before .before .before .before .args .job in needsTableOne (mOf job (houseOf job)) (fixturesOf (houseOf job)) ≡ false
 house-low c = sym (house-test (c .before)) ∙ c .if3 .left
 
-crowded-section-requires : tie.Need-crowded-section-requires
-crowded-section-requires c κs =
+section-needs-table-one-requires : tie.Need-section-needs-table-one-requires
+section-needs-table-one-requires c κs =
     let counts = c .before .before .before .before .before .before .before .before .before .before in
-    (ruled-rooted (counts .before .pre), counts .counts .ensures)
+    (valid-rooted (counts .before .pre), counts .counts .ensures)
 
 returns-4 : tie.Need-returns-4
 returns-4 c =
     let three = c .before .before .before in
     let two = three .before .before in
-    sym (crowded-any _ (m-low (two .before .before)) (hour-low two) (house-low three) (sym (c .before .crowded-section .ensures) ∙ c .if4 .taken))
+    sym (table-one-any _ (m-low (two .before .before)) (hour-low two) (house-low three) (sym (c .before .section-needs-table-one .ensures) ∙ c .if4 .taken))
 
-hour-test : (c : tie.After-is-crowded2) → let job = c .before .before .before .before .before .before .before .before .before .before .before .before .before .before .args .job in c .is-crowded2 .result ≡ crowded (hourSumOf job) (fixturesOf (houseOf job))
+hour-test : (c : tie.After-needs-table-one2) → let job = c .before .before .before .before .before .before .before .before .before .before .before .before .before .before .args .job in c .needs-table-one2 .result ≡ needsTableOne (hourSumOf job) (fixturesOf (houseOf job))
 hour-test c =
     let hour = c .before .before .before .before .before .before .before .before .before .before in
-    c .is-crowded2 .ensures ∙ rw (hour-is hour, fixtures-is (hour .before))
+    c .needs-table-one2 .ensures ∙ rw (hour-is hour, fixtures-is (hour .before))
 
 returns-5 : tie.Need-returns-5
 returns-5 c =
     let four = c .before .before in
     let three = four .before .before .before in
     let two = three .before .before in
-    sym (crowded-hour _ (m-low (two .before .before)) (hour-low two) (house-low three) (sym (four .before .crowded-section .ensures) ∙ four .if4 .left) (sym (hour-test (c .before)) ∙ c .if5 .taken))
+    sym (table-one-hour _ (m-low (two .before .before)) (hour-low two) (house-low three) (sym (four .before .section-needs-table-one .ensures) ∙ four .if4 .left) (sym (hour-test (c .before)) ∙ c .if5 .taken))
 
 returns-6 : tie.Need-returns-6
 returns-6 c =
     let four = c .before .before in
     let three = four .before .before .before in
     let two = three .before .before in
-    sym (not-crowded _ (m-low (two .before .before)) (hour-low two) (house-low three) (sym (four .before .crowded-section .ensures) ∙ four .if4 .left) (sym (hour-test (c .before)) ∙ c .if5 .left))
+    sym (not-needsTableOne _ (m-low (two .before .before)) (hour-low two) (house-low three) (sym (four .before .section-needs-table-one .ensures) ∙ four .if4 .left) (sym (hour-test (c .before)) ∙ c .if5 .left))
 
 pub demand-refusal-spec : {M : Type 1} → statement M
 demand-refusal-spec =
     tie.close
-    (tie.spec counts-requires sums-of-requires (λ c κs. search needs) returns returns-2 (λ c κs. search needs) returns-3 crowded-section-requires
+    (tie.spec counts-requires sums-of-requires (λ c κs. search needs) returns returns-2 (λ c κs. search needs) returns-3 section-needs-table-one-requires
     returns-4 (λ c κs. search needs) returns-5 returns-6)

@@ -8,7 +8,7 @@ use Rattle.demand.proofs.DesignFlows.{alpha-product, alpha-quotient}
 use Rattle.demand.proofs.section.flow.Statement.{statement}
 use Rattle.demand.proofs.section.flow.Tie as tie
 
-product : (c : tie.After-alpha) → c .before .args .s .taps * c .alpha .result ≤ 30 * c .before .args .s .m * 91900000
+product : (c : tie.After-alpha) → c .before .args .s .weighted * c .alpha .result ≤ 30 * c .before .args .s .m * 91900000
 product c = rw (c .alpha .ensures) (alpha-product _ _ _ (omega arith))
 
 top : (c : tie.After-divide-up) → c .divide-up .result ≤ 137850

@@ -9,8 +9,8 @@ use Rattle.basis.proofs.Slots.{slots-none, slots-more}
 use Rattle.fields.specs.Fields.{countOf}
 use Rattle.tree.specs.Tree.{servedOf}
 use Rattle.demand.specs.Demand.{sectionFlow}
-use Rattle.demand.proofs.Ruling.{ruled-rooted, ruled-kinds, ruled-count}
-use Rattle.demand.proofs.Totals.{m-pos, section-m-top, tap-sum-le}
+use Rattle.demand.proofs.Validity.{valid-rooted, valid-kinds, valid-count}
+use Rattle.demand.proofs.Totals.{m-pos, section-m-top, fixture-sum-le}
 use Rattle.demand.proofs.Equations.{flow-is}
 use Rattle.demand.proofs.section.flows.Statement.{statement}
 use Rattle.demand.proofs.section.flows.Tie as tie
@@ -22,7 +22,7 @@ abbrev μ-loop : tie.MeasureT-loop
 μ-loop job count served table flows₀ i₀ flows i = countOf job + 1 - i
 
 counts-requires : tie.Need-counts-requires Inv-loop μ-loop
-counts-requires c κs = let r = c .before .pre .ruled in (ruled-rooted r, ruled-kinds r)
+counts-requires c κs = let r = c .before .pre .valid in (valid-rooted r, valid-kinds r)
 
 loop-holds : tie.Need-loop-holds Inv-loop μ-loop
 loop-holds c = (omega arith, omega arith, slots-none 64 1 0 _)
@@ -30,8 +30,8 @@ loop-holds c = (omega arith, omega arith, slots-none 64 1 0 _)
 sums-of-requires : tie.Need-sums-of-requires Inv-loop μ-loop
 sums-of-requires c κs =
     let counts = c .before .before .before .before .before in
-    let r = counts .before .before .pre .ruled in
-    (ruled-rooted r, counts .counts .ensures, omega (arith, ruled-count r .high))
+    let r = counts .before .before .pre .valid in
+    (valid-rooted r, counts .counts .ensures, omega (arith, valid-count r .high))
 
 flow-requires : tie.Need-flow-requires Inv-loop μ-loop
 flow-requires c κs =
@@ -40,9 +40,9 @@ flow-requires c κs =
     let sums = c .sums-of .ensures in
     rw (sums .0, sums .1) (
       c .before .before .before .before .before .table2 .ensures,
-      m-pos (start .pre .ruled) i (omega arith) (omega arith),
+      m-pos (start .pre .valid) i (omega arith) (omega arith),
       section-m-top (start .pre) i,
-      tap-sum-le (start .args .job) (servedOf (start .args .job) i),
+      fixture-sum-le (start .args .job) (servedOf (start .args .job) i),
     )
 
 loop-again : tie.Need-loop-again Inv-loop μ-loop
@@ -54,14 +54,14 @@ loop-again c =
     let flow : c .flow .result ≡ sectionFlow (start .args .job) i = c .flow .ensures ∙ rw (sums .0, sums .1) (sym (flow-is (start .args .job) (servedOf (start .args .job) i))) in (
       omega arith,
       omega arith,
-      rw (at .loop .inv .2, flow) (slots-more 64 1 i 0 (sectionFlow (start .args .job)) (omega arith) (omega (arith, ruled-count (start .pre .ruled) .high))),
+      rw (at .loop .inv .2, flow) (slots-more 64 1 i 0 (sectionFlow (start .args .job)) (omega arith) (omega (arith, valid-count (start .pre .valid) .high))),
     )
 
 array-write-flows : tie.Need-array-write-flows Inv-loop μ-loop
-array-write-flows c = omega (arith, ruled-count (c .before .before .before .before .before .before .before .before .before .pre .ruled) .high)
+array-write-flows c = omega (arith, valid-count (c .before .before .before .before .before .before .before .before .before .pre .valid) .high)
 
 mul-flows : tie.Need-mul-flows Inv-loop μ-loop
-mul-flows c = omega (arith, ruled-count (c .before .before .before .before .before .before .before .before .before .pre .ruled) .high)
+mul-flows c = omega (arith, valid-count (c .before .before .before .before .before .before .before .before .before .pre .valid) .high)
 
 returns : tie.Need-returns Inv-loop μ-loop
 returns c =

@@ -4,23 +4,23 @@ use mathlib.Core.Path.{_≡_}
 use Prim.Native.Nat.{ℕ, _-_, _*_, _≤_}
 use native.Mathlib.Omega.{arith}
 use Rattle.basis.proofs.Within.{Within}
-use Rattle.demand.specs.Demand.{normAt, hourShareOf, hourSumOf, drawSumOf}
+use Rattle.demand.specs.Demand.{normAt, hourShareOf, hourSumOf, hourlySumOf}
 use Rattle.demand.proofs.Partial.{SoFar, sum-start, sum-turn, sum-end}
-use Rattle.demand.proofs.Tops.{norm-known, HourFits, hour-fits, hour-share-top, draw-top}
+use Rattle.demand.proofs.Tops.{norm-known, HourFits, hour-fits, hour-share-top, hourly-top}
 use borrow.Author.Needs.{needs}
 use Rattle.demand.proofs.sums.hour_sums.Statement.{statement}
 use Rattle.demand.proofs.sums.hour_sums.Tie as tie
 
 abbrev Inv-loop : tie.InvT-loop
-Inv-loop job shares₀ draws₀ kind₀ shares draws kind =
+Inv-loop job shares₀ weighted₀ kind₀ shares weighted kind =
     Within 1 13 kind ×
     SoFar (λ k. hourShareOf job k) 24575625000 kind shares ×
-    SoFar (λ k. hourShareOf job k * normAt job k .draw) 7372687500000 kind draws
+    SoFar (λ k. hourShareOf job k * normAt job k .hourly) 7372687500000 kind weighted
 
 abbrev μ-loop : tie.MeasureT-loop
-μ-loop job shares₀ draws₀ kind₀ shares draws kind = 13 - kind
+μ-loop job shares₀ weighted₀ kind₀ shares weighted kind = 13 - kind
 
-fits : (c : tie.After-wide16 Inv-loop μ-loop) → HourFits (c .before .before .before .norm-of .result) (c .wide16 .result)
+fits : (c : tie.After-long16 Inv-loop μ-loop) → HourFits (c .before .before .before .norm-of .result) (c .long16 .result)
 fits c = hour-fits (c .before .before .before .norm-of .ensures) (omega arith) (omega arith)
 
 top : (c : tie.After-divide-up Inv-loop μ-loop) → c .divide-up .result ≤ 24575625000
@@ -32,11 +32,11 @@ wanted c = hourShareOf (c .before .args .t1) (c .loop .kind)
 is : (c : tie.After-divide-up Inv-loop μ-loop) →
     c .divide-up .result ≡ wanted (c .before .before .before .before .before .before)
 unfolding hourShareOf
-is c = rw (← c .before .before .before .before .norm-of .ensures, ← c .before .wide16 .ensures .0) (c .divide-up .ensures)
+is c = rw (← c .before .before .before .before .norm-of .ensures, ← c .before .long16 .ensures .0) (c .divide-up .ensures)
 
-draw : (c : tie.After-divide-up Inv-loop μ-loop) →
-    c .divide-up .result * c .before .before .before .before .norm-of .result .draw ≤ 7372687500000
-draw c = draw-top (c .before .before .before .before .norm-of .ensures) (omega arith) (top c)
+hourly : (c : tie.After-divide-up Inv-loop μ-loop) →
+    c .divide-up .result * c .before .before .before .before .norm-of .result .hourly ≤ 7372687500000
+hourly c = hourly-top (c .before .before .before .before .norm-of .ensures) (omega arith) (top c)
 
 loop-holds : tie.Need-loop-holds Inv-loop μ-loop
 loop-holds c = (omega arith, sum-start _ _, sum-start _ _)
@@ -46,11 +46,11 @@ loop-again c =
     let d = c .before .before .before .before .before .before .before in (
       omega arith,
       sum-turn (d .loop .inv .1) (omega arith) (is (c .before)) (top (c .before)),
-      sum-turn (d .loop .inv .2) (omega arith) (rw (is (c .before), c .before .before .before .before .before .norm-of .ensures)) (draw (c .before)),
+      sum-turn (d .loop .inv .2) (omega arith) (rw (is (c .before), c .before .before .before .before .before .norm-of .ensures)) (hourly (c .before)),
     )
 
 returns : tie.Need-returns Inv-loop μ-loop
-unfolding hourSumOf drawSumOf
+unfolding hourSumOf hourlySumOf
 returns c = (
   sum-end (c .before .loop .inv .1) (omega arith) (omega arith),
   sum-end (c .before .loop .inv .2) (omega arith) (omega arith),
@@ -62,4 +62,4 @@ hour-sums-spec =
     (tie.spec Inv-loop μ-loop loop-holds (λ c. search needs) (λ c κs. search needs)
     (λ c. let i = norm-known (c .before .norm-of .ensures) (omega arith) in omega arith) (λ c. search needs) (λ c. search needs)
     (λ c κs. search needs) (λ c. let f = fits c in omega arith) (λ c κs. let f = fits c in omega arith) (λ c. omega (arith, top c))
-    (λ c. omega (arith, draw (c .before))) (λ c. omega (arith, draw (c .before))) (λ c. search needs) (λ c. search needs) loop-again returns)
+    (λ c. omega (arith, hourly (c .before))) (λ c. omega (arith, hourly (c .before))) (λ c. search needs) (λ c. search needs) loop-again returns)

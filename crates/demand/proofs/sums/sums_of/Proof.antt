@@ -5,23 +5,23 @@ use Prim.Native.Nat.{ℕ, _-_, _*_, _≤_}
 use native.Mathlib.Omega.{arith}
 use Rattle.basis.proofs.Within.{Within}
 use Rattle.tree.specs.Tree.{servedOf}
-use Rattle.demand.specs.Demand.{normAt, shareOf, mOf, tapSumOf, fixturesOf}
+use Rattle.demand.specs.Demand.{normAt, shareOf, mOf, fixtureSumOf, fixturesOf}
 use Rattle.demand.proofs.Cells.{KindCounts, kind-counts}
 use Rattle.demand.proofs.Partial.{SoFar, sum-start, sum-turn, sum-end}
-use Rattle.demand.proofs.Tops.{tap-top}
+use Rattle.demand.proofs.Tops.{fixture-top}
 use borrow.Author.Needs.{needs}
 use Rattle.demand.proofs.sums.sums_of.Statement.{statement}
 use Rattle.demand.proofs.sums.sums_of.Tie as tie
 
 abbrev Inv-loop : tie.InvT-loop
-Inv-loop job counts i m₀ taps₀ fixtures₀ kind₀ m taps fixtures kind =
+Inv-loop job counts i m₀ weighted₀ fixtures₀ kind₀ m weighted fixtures kind =
     Within 1 13 kind ×
     SoFar (λ k. shareOf job (servedOf job i) k) 16105635843750000 kind m ×
-    SoFar (λ k. shareOf job (servedOf job i) k * normAt job k .tap) 483169075312500000 kind taps ×
+    SoFar (λ k. shareOf job (servedOf job i) k * normAt job k .fixture) 483169075312500000 kind weighted ×
     SoFar (servedOf job i) 4128705 kind fixtures
 
 abbrev μ-loop : tie.MeasureT-loop
-μ-loop job counts i m₀ taps₀ fixtures₀ kind₀ m taps fixtures kind = 13 - kind
+μ-loop job counts i m₀ weighted₀ fixtures₀ kind₀ m weighted fixtures kind = 13 - kind
 
 known : (c : tie.In-loop Inv-loop μ-loop) →
     KindCounts (c .before .before .args .job) (c .before .before .args .counts .now) (c .before .before .args .i) (c .before .loop .kind)
@@ -35,11 +35,11 @@ unfolding shareOf
 is c =
     let k = known (c .before .before .before .before .before .before .before) in
     let n = c .before .before .before .before in
-    rw (← c .before .before .before .wide16 .ensures .0, ← k .served, ← k .house, ← n .wide32 .ensures, ← c .before .wide322 .ensures)
+    rw (← c .before .before .before .long16 .ensures .0, ← k .served, ← k .house, ← n .long32 .ensures .0, ← c .before .long322 .ensures .0)
     (c .share .ensures .0)
 
-tap : (c : tie.After-norm-of Inv-loop μ-loop) → c .before .share .result * c .norm-of .result .tap ≤ 483169075312500000
-tap c = tap-top (c .norm-of .ensures) (omega arith) (omega arith)
+fixture : (c : tie.After-norm-of Inv-loop μ-loop) → c .before .share .result * c .norm-of .result .fixture ≤ 483169075312500000
+fixture c = fixture-top (c .norm-of .ensures) (omega arith) (omega arith)
 
 loop-holds : tie.Need-loop-holds Inv-loop μ-loop
 loop-holds c = (omega arith, sum-start _ _, sum-start _ _, sum-start _ _)
@@ -51,12 +51,12 @@ loop-again c =
     let n = c .before .before .before .before .before .before in (
       omega arith,
       sum-turn (d .before .loop .inv .1) (omega arith) (is (c .before .before)) (omega arith),
-      sum-turn (d .before .loop .inv .2) (omega arith) (rw (is (c .before .before), c .before .norm-of .ensures)) (tap (c .before)),
-      sum-turn (d .before .loop .inv .3) (omega arith) (n .wide32 .ensures ∙ k .served) (omega arith),
+      sum-turn (d .before .loop .inv .2) (omega arith) (rw (is (c .before .before), c .before .norm-of .ensures)) (fixture (c .before)),
+      sum-turn (d .before .loop .inv .3) (omega arith) (n .long32 .ensures .0 ∙ k .served) (omega arith),
     )
 
 returns : tie.Need-returns Inv-loop μ-loop
-unfolding mOf tapSumOf fixturesOf
+unfolding mOf fixtureSumOf fixturesOf
 returns c = (
   sum-end (c .before .loop .inv .1) (omega arith) (omega arith),
   sum-end (c .before .loop .inv .2) (omega arith) (omega arith),
@@ -69,6 +69,6 @@ sums-of-spec =
     (tie.spec Inv-loop μ-loop loop-holds (λ c. search needs) (λ c. search needs) (λ c. search needs) (λ c. search needs) (λ c. search needs)
     (λ c κs. search needs) (λ c. search needs) (λ c. search needs) (λ c κs. search needs) (λ c. search needs) (λ c. search needs)
     (λ c κs. search needs) (λ c κs. let k = known (c .before .before .before .before .before .before) in omega arith) (λ c κs. search needs)
-    (λ c. omega arith) (λ c. omega (arith, tap (c .before))) (λ c. omega (arith, tap (c .before)))
+    (λ c. omega arith) (λ c. omega (arith, fixture (c .before))) (λ c. omega (arith, fixture (c .before)))
     (λ c. let k = known (c .before .before .before .before .before .before .before .before .before) in omega arith) (λ c. search needs)
     (λ c. search needs) loop-again returns)

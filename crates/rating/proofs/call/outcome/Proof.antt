@@ -11,7 +11,7 @@ use Rattle.fields.specs.declared.Job.{Job}
 use Rattle.fields.specs.Fields.{countOf}
 use Rattle.record.specs.Record.{decode}
 use Rattle.demand.specs.Demand.{Accepted}
-use Rattle.catalogue.specs.Shape.{Listed}
+use Rattle.catalogue.specs.Contracts.{AcceptedCat}
 use Rattle.catalogue.proofs.ShapeBounds.{shape-in}
 use Rattle.sizing.specs.Losses.{listOk, overAny}
 use Rattle.acceptance.specs.Acceptance.{inputNo}
@@ -45,7 +45,7 @@ fields c = c .before .before .accept-both .ensures .1 ∙ input-fields _ _ (pass
 accepted : (c : tie.Else1) → Accepted (c .before .before .accept-both .result .job)
 accepted c = rw (fields c) (input-accepted _ _ (passed c))
 
-listed : (c : tie.Else1) → Listed (c .before .before .before .before .before .before .args .cat .now)
+listed : (c : tie.Else1) → AcceptedCat (c .before .before .before .before .before .before .args .cat .now)
 listed c = input-listed _ _ (passed c)
 
 -- 12
@@ -72,7 +72,7 @@ named c = sym (naming (c .before)) ∙ not-false (c .before .list-ok .result) (c
 
 -- 14
 count : (c : tie.Else1) → countOf (c .before .before .accept-both .result .job) ≡ countOf (decode (c .before .before .before .before .before .before .args .b .now))
-count c = ap (λ (job : Job). job .head .sections) (fields c)
+count c = ap (λ (job : Job). job .header .sections) (fields c)
 
 returns-3 : tie.Need-returns-3
 returns-3 c =

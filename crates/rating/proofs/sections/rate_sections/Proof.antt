@@ -10,10 +10,10 @@ use Rattle.basis.proofs.Bools.{apart}
 use Rattle.basis.proofs.Slots.{slots-in}
 use Rattle.basis.proofs.Within.{Within}
 use Rattle.fields.specs.Fields.{countOf}
-use Rattle.rules.proofs.HeadBounds.{head-in}
+use Rattle.rules.proofs.HeaderBounds.{header-in}
 use Rattle.rules.proofs.Kept.{sections-in}
 use Rattle.demand.specs.Demand.{sectionFlow}
-use Rattle.demand.proofs.Ruling.{ruled-count, ruled-sections}
+use Rattle.demand.proofs.Validity.{valid-count, valid-sections}
 use Rattle.catalogue.specs.Layout.{sizesOf}
 use Rattle.sizing.specs.declared.Tried.{Tried}
 use Rattle.sizing.specs.Losses.{overAt}
@@ -33,7 +33,7 @@ abbrev μ-loop : tie.MeasureT-loop
 
 -- the count, and the size that the list names for section i
 few : (c : tie.Start Inv-loop μ-loop) → countOf (c .args .t1) ≤ 63
-few c = ruled-count (c .pre .job .ruled) .high
+few c = valid-count (c .pre .job .valid) .high
 
 long : (c : tie.Start Inv-loop μ-loop) → length (c .args .list .now) ≡ countOf (c .args .t1)
 long c = list-long (c .args .t1) (c .args .cat .now) (c .args .list .now) (c .pre .list)
@@ -44,8 +44,8 @@ named c i a h = list-names (c .args .t1) (c .args .cat .now) (c .args .list .now
 loop-holds : tie.Need-loop-holds Inv-loop μ-loop
 loop-holds c = (omega arith, omega arith, upto-start _ _ _)
 
-shared-slice-read-wide : tie.Need-shared-slice-read-wide Inv-loop μ-loop
-shared-slice-read-wide c = let start = c .before .before .before .before .before .before in omega (arith, long start)
+shared-slice-read-wide8 : tie.Need-shared-slice-read-wide8 Inv-loop μ-loop
+shared-slice-read-wide8 c = let start = c .before .before .before .before .before .before in omega (arith, long start)
 
 try-size-requires : tie.Need-try-size-requires Inv-loop μ-loop
 try-size-requires c κs =
@@ -53,12 +53,12 @@ try-size-requires c κs =
     let start = at .before .before .before .before in
     let i = at .loop .i in
     let s = named start i (omega arith) (omega arith) in
-    rw (c .wide .ensures) (
+    rw (c .wide8 .ensures .0) (
       start .pre .cat,
       (s .low, s .high),
       (
-        sections-in (start .args .t1) (ruled-sections (start .pre .job .ruled)) i (omega arith) (omega arith) .decimetres .high,
-        head-in (start .args .t1 .head) (start .pre .job .ruled .head) .tenths .high,
+        sections-in (start .args .t1) (valid-sections (start .pre .job .valid)) i (omega arith) (omega arith) .decimetres .high,
+        header-in (start .args .t1 .header) (start .pre .job .valid .header) .tenths .high,
       ),
     )
 
@@ -72,7 +72,7 @@ tried c =
     let start = at .before .before .before .before in
     let n = few start in
     c .try-size .ensures .0 ∙
-    rw (c .before .wide .ensures) (tried-at _ _ _ _ _ (rw (at .before .flows .ensures) (slots-in 64 1 (countOf (start .args .t1) + 1) 0 (sectionFlow (start .args .t1)) (at .loop .i) 0 (omega arith) (omega arith) (omega arith))))
+    rw (c .before .wide8 .ensures .0) (tried-at _ _ _ _ _ (rw (at .before .flows .ensures) (slots-in 64 1 (countOf (start .args .t1) + 1) 0 (sectionFlow (start .args .t1)) (at .loop .i) 0 (omega arith) (omega arith) (omega arith))))
 
 -- the place of section i is within 64
 place : (c : tie.In-loop Inv-loop μ-loop) → c .before .loop .i < 64
@@ -115,7 +115,7 @@ pub rate-sections-spec : {M : Type 1} → statement M
 rate-sections-spec =
     tie.close
     (tie.spec Inv-loop μ-loop (λ c. search needs) (λ c κs. search needs) loop-holds (λ c. search needs)
-    shared-slice-read-wide (λ c κs. search needs) (λ c. omega (arith, place (c .before .before))) (λ c. place (c .before .before))
+    shared-slice-read-wide8 (λ c κs. search needs) (λ c. omega (arith, place (c .before .before))) (λ c. place (c .before .before))
     (λ c. omega (arith, place (c .before .before))) (λ c. place (c .before .before)) try-size-requires returns
     (λ c. omega (arith, place (c .before .before .before .before)))
     (λ c. place (c .before .before .before .before)) (λ c. omega (arith, place (c .before .before .before .before)))

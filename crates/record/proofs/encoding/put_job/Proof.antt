@@ -16,7 +16,7 @@ returns c =
     let head = residents .before .before .before .before in
     let start = head .before .before .before .before .before .before .before .before in
     sections .put-sections .ensures ∙
-    rw (residents .put-residents .ensures, head .put .ensures, head .before .before .before .head-bytes .ensures)
+    rw (residents .put-residents .ensures, head .put .ensures, head .before .before .before .header-bytes .ensures)
     (whole-stored (start .args .out .now) (start .args .job) (omega arith))
 
 pub put-job-spec : {M : Type 1} → statement M

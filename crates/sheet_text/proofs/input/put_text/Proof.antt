@@ -4,7 +4,7 @@ use mathlib.Core.Path.{_≡_, ap, sym, _∙_}
 use native.Mathlib.Omega.{arith}
 use borrow.Author.Needs.{needs}
 use Rattle.rating.specs.Calls.{rateNo}
-use Rattle.rating.specs.Shape.{RatedJob}
+use Rattle.rating.specs.Contracts.{RatedJob}
 use Rattle.rating.proofs.Rated.{rated-given}
 use Rattle.sheet_text.specs.Sheet.{refusedText}
 use Rattle.sheet_text.proofs.Pieces.{wrote-as, wrote-within}

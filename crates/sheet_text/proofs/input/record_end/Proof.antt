@@ -13,7 +13,7 @@ returns c = (sym (end-none _ (c .if1 .taken)), omega arith)
 returns-2 : tie.Need-returns-2
 returns-2 c = (
   c .least .ensures ∙
-      rw (c .before .wide .ensures, c .before .before .be32 .ensures) (sym (end-stated _ (c .before .before .before .if1 .left))),
+      rw (c .before .wide32 .ensures .0, c .before .before .be32 .ensures) (sym (end-stated _ (c .before .before .before .if1 .left))),
   omega (arith, c .least .ensures),
 )
 

@@ -4,7 +4,7 @@ use Prim.Native.Nat.{_≤_}
 use native.Mathlib.Omega.{arith}
 use borrow.Author.Needs.{needs}
 use Rattle.fields.specs.Fields.{countOf}
-use Rattle.demand.proofs.Ruling.{ruled-count}
+use Rattle.demand.proofs.Validity.{valid-count}
 use Rattle.heads.proofs.Bounds.{dictating-small}
 use Rattle.sheet_text.specs.Sheet.{houseLine, headLine}
 use Rattle.sheet_text.specs.Pieces.{figuresText}
@@ -13,7 +13,7 @@ use Rattle.sheet_text.proofs.rated.put_rated.Statement.{statement}
 use Rattle.sheet_text.proofs.rated.put_rated.Tie as tie
 
 few : (c : tie.Start) → countOf (c .args .job) ≤ 63
-few c = ruled-count (c .pre .0 .ruled) .high
+few c = valid-count (c .pre .0 .valid) .high
 
 put-sections-requires : tie.Need-put-sections-requires
 put-sections-requires c κs =

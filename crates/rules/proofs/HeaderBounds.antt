@@ -8,10 +8,10 @@ use borrow.Author.Tests.{leb-true, le-leb}
 use Rattle.basis.specs.Range.{within}
 use Rattle.basis.proofs.Bools.{left, right, never}
 use Rattle.basis.proofs.Within.{Within, within-in, in-within}
-use Rattle.fields.specs.declared.Head.{Head}
-use Rattle.rules.specs.Rules.{headOk}
+use Rattle.fields.specs.declared.Header.{Header}
+use Rattle.rules.specs.Rules.{headerOk}
 
-pub record HeadIn (h : Head) : Type 0 where
+pub record HeaderIn (h : Header) : Type 0 where
   pub tenths : Within 2 3 (h .tenths)
   pub sections : Within 1 63 (h .sections)
   pub hours : Within 1 24 (h .hours)
@@ -20,10 +20,10 @@ pub record HeadIn (h : Head) : Type 0 where
   pub delivered : h .delivered ≤ 6000
   pub limit : Within 1 3000 (h .limit)
 
-module _ (h : Head) where
-  pub head-in : headOk h ≡ true → HeadIn h
-  unfolding headOk
-  head-in e =
+module _ (h : Header) where
+  pub header-in : headerOk h ≡ true → HeaderIn h
+  unfolding headerOk
+  header-in e =
       let e₁ = right (within 2 3 (h .tenths)) _ e in
       let e₂ = right (within 1 63 (h .sections)) _ e₁ in
       let e₃ = right (within 1 24 (h .hours)) _ e₂ in
@@ -39,8 +39,8 @@ module _ (h : Head) where
         limit = within-in 1 3000 (h .limit) (right (leb (h .delivered) 6000) _ e₅);
       }
 
-  pub in-head : HeadIn h → headOk h ≡ true
-  unfolding headOk
+  pub in-head : HeaderIn h → headerOk h ≡ true
+  unfolding headerOk
   in-head b =
       rw (
         in-within 2 3 (h .tenths) (b .tenths),
@@ -52,5 +52,5 @@ module _ (h : Head) where
         in-within 1 3000 (h .limit) (b .limit),
       )
 
-  pub head-refused : (HeadIn h → ⊥) → false ≡ headOk h
-  head-refused n = sym (never (headOk h) (λ e. n (head-in e)))
+  pub head-refused : (HeaderIn h → ⊥) → false ≡ headerOk h
+  head-refused n = sym (never (headerOk h) (λ e. n (header-in e)))

@@ -1,13 +1,13 @@
--- `record::encoding::head_bytes` meets its contract.
+-- `record::encoding::header_bytes` meets its contract.
 -- Assumes nothing.
 use Rattle.wire.specs.Wire.{bytesOf}
-use Rattle.record.specs.Record.{headBytes}
+use Rattle.record.specs.Record.{headerBytes}
 use borrow.Author.Needs.{needs}
-use Rattle.record.proofs.encoding.head_bytes.Statement.{statement}
-use Rattle.record.proofs.encoding.head_bytes.Tie as tie
+use Rattle.record.proofs.encoding.header_bytes.Statement.{statement}
+use Rattle.record.proofs.encoding.header_bytes.Tie as tie
 
 returns : tie.Need-returns
-unfolding headBytes bytesOf
+unfolding headerBytes bytesOf
 returns c = rw (
   c .before .before .before .before .bytes32 .ensures,
   c .before .before .before .before .before .length-of .ensures .0,
@@ -17,8 +17,8 @@ returns c = rw (
   c .bytes164 .ensures,
 )
 
-pub head-bytes-spec : {M : Type 1} → statement M
-head-bytes-spec =
+pub header-bytes-spec : {M : Type 1} → statement M
+header-bytes-spec =
     tie.close
     (tie.spec (λ c κs. search needs) (λ c. search needs) (λ c κs. search needs) (λ c κs. search needs)
     (λ c κs. search needs) (λ c κs. search needs) (λ c κs. search needs) (λ c. search needs) (λ c. search needs) (λ c. search needs)

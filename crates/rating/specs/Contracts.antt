@@ -11,14 +11,14 @@ use Rattle.fields.specs.declared.Job.{Job}
 use Rattle.fields.specs.Fields.{blankJob, countOf}
 use Rattle.record.specs.Record.{decode}
 use Rattle.demand.specs.Demand.{Accepted}
-use Rattle.catalogue.specs.Shape.{Listed}
+use Rattle.catalogue.specs.Contracts.{AcceptedCat}
 use Rattle.sizing.specs.Losses.{listOk, readingOf, lossesOf}
 use Rattle.rating.specs.Calls.{rateLength}
 
 -- an accepted job, an accepted catalogue and a list that 12 lets pass
 pub record Rateable (j : Job) (c l : List ℕ) : Type 0 where
   pub job : Accepted j
-  pub cat : Listed c
+  pub cat : AcceptedCat c
   pub list : listOk j c l ≡ true
 
 -- a velocity and a loss that fit their bytes

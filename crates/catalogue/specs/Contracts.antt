@@ -23,7 +23,7 @@ pub record Rows (rows : List ℕ) (n : ℕ) : Type 0 where
   pub rules : rowsOk rows n ≡ true
 
 -- a catalogue that 10 and 11 let pass
-pub record Listed (cat : List ℕ) : Type 0 where
+pub record AcceptedCat (cat : List ℕ) : Type 0 where
   pub shape : shapeOk cat ≡ true
   pub sizes : sizesOk cat ≡ true
 

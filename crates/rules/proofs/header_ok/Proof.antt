@@ -1,13 +1,13 @@
--- `rules::head_ok` meets its contract: eleven ways out that refuse, and one that does not.
+-- `rules::header_ok` meets its contract: eleven ways out that refuse, and one that does not.
 -- Assumes nothing.
 use mathlib.Core.Path.{sym}
 use native.Mathlib.Omega.{arith}
-use Rattle.rules.proofs.HeadBounds.{in-head, head-refused}
-use Rattle.rules.proofs.head_ok.Statement.{statement}
-use Rattle.rules.proofs.head_ok.Tie as tie
+use Rattle.rules.proofs.HeaderBounds.{in-head, head-refused}
+use Rattle.rules.proofs.header_ok.Statement.{statement}
+use Rattle.rules.proofs.header_ok.Tie as tie
 
-pub head-ok-spec : {M : Type 1} → statement M
-head-ok-spec =
+pub header-ok-spec : {M : Type 1} → statement M
+header-ok-spec =
     tie.close
     (tie.spec
     (λ c. head-refused _ (λ b. omega arith))

@@ -14,44 +14,44 @@ use Rattle.fields.specs.Fields.{countOf, residentsOf}
 use Rattle.tree.specs.Tree.{Rooted, houseOf}
 use Rattle.tree.specs.Rows.{Kinds}
 use Rattle.rules.specs.Rules.{sectionsOk, childlessZero, unmatched}
-use Rattle.rules.proofs.HeadBounds.{HeadIn, head-in}
+use Rattle.rules.proofs.HeaderBounds.{HeaderIn, header-in}
 use Rattle.rules.proofs.House.{oddAt}
 use Rattle.rules.proofs.Kept.{Kept, kept-of, rooted-of, kinds-of}
-use Rattle.demand.specs.Demand.{Ruled}
+use Rattle.demand.specs.Demand.{Valid}
 
-module _ {job : Job} (r : Ruled job) where
-  ruled-head : HeadIn (job .head)
-  ruled-head = head-in (job .head) (r .head)
+module _ {job : Job} (r : Valid job) where
+  valid-head : HeaderIn (job .header)
+  valid-head = header-in (job .header) (r .header)
 
-  pub ruled-hours : Within 1 24 (job .head .hours)
-  ruled-hours = ruled-head .hours
+  pub valid-hours : Within 1 24 (job .header .hours)
+  valid-hours = valid-head .hours
 
-  pub ruled-count : Within 1 63 (countOf job)
-  ruled-count = ruled-head .sections
+  pub valid-count : Within 1 63 (countOf job)
+  valid-count = valid-head .sections
 
-  ruled-kept : Kept job
-  ruled-kept = kept-of job (r .fields)
+  valid-kept : Kept job
+  valid-kept = kept-of job (r .fields)
 
-  pub ruled-sections : sectionsOk job ≡ true
-  ruled-sections = ruled-kept .sections
+  pub valid-sections : sectionsOk job ≡ true
+  valid-sections = valid-kept .sections
 
-  pub ruled-ends : childlessZero job ≡ false
-  ruled-ends = ruled-kept .ends
+  pub valid-ends : childlessZero job ≡ false
+  valid-ends = valid-kept .ends
 
-  pub ruled-residents : unmatched job ≡ false
-  ruled-residents = ruled-kept .residents
+  pub valid-residents : unmatched job ≡ false
+  valid-residents = valid-kept .residents
 
-  pub ruled-rooted : Rooted job
-  ruled-rooted = rooted-of job (ruled-count .high) ruled-sections
+  pub valid-rooted : Rooted job
+  valid-rooted = rooted-of job (valid-count .high) valid-sections
 
-  pub ruled-kinds : Kinds job
-  ruled-kinds = kinds-of job ruled-sections
+  pub valid-kinds : Kinds job
+  valid-kinds = kinds-of job valid-sections
 
   module _ (kind : ℕ) (low : 0 < kind) (high : kind ≤ 12) where
     -- neither is zero without the other
     even : (ltb 0 (residentsOf job kind) && eqb (houseOf job kind) 0 ≡ false) × (eqb (residentsOf job kind) 0 && ltb 0 (houseOf job kind) ≡ false)
     unfolding unmatched
-    even = neither _ _ (any-at 12 (oddAt job) ruled-residents kind low high)
+    even = neither _ _ (any-at 12 (oddAt job) valid-residents kind low high)
 
     pub residents-match : 0 < houseOf job kind → 0 < residentsOf job kind
     residents-match h = pos-of-ne-zero (λ z. not-both _ _ (even .1) (eq-eqb (residentsOf job kind) 0 z) (lt-ltb 0 (houseOf job kind) h))

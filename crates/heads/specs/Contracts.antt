@@ -8,9 +8,9 @@ use mathlib.Core.List.{List}
 use lib.ListN.{getD}
 use Rattle.fields.specs.declared.Job.{Job}
 use Rattle.fields.specs.Fields.{countOf}
-use Rattle.rules.specs.Rules.{headOk, sectionsOk}
+use Rattle.rules.specs.Rules.{headerOk, sectionsOk}
 
 pub record Given (job : Job) (losses : List ℕ) : Type 0 where
-  pub head : headOk (job .head) ≡ true
+  pub header : headerOk (job .header) ≡ true
   pub sections : sectionsOk job ≡ true
   pub top : (i : ℕ) → 0 < i → i ≤ countOf job → getD losses i 0 ≤ 4259775

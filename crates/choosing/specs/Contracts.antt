@@ -6,14 +6,14 @@ use mathlib.Core.List.{List}
 use Prim.Native.Nat.{ℕ, _+_, _-_, _*_, _≤_, _<_}
 use lib.IntN.{pos, _+ℤ_}
 use lib.ListN.{length, getD}
-use Rattle.fields.specs.declared.Head.{Head}
+use Rattle.fields.specs.declared.Header.{Header}
 use Rattle.fields.specs.declared.Job.{Job}
 use Rattle.fields.specs.declared.Section.{Section}
 use Rattle.fields.specs.Fields.{countOf, sectionOf}
 use Rattle.demand.specs.Demand.{Accepted, sectionFlow}
 use Rattle.catalogue.specs.Layout.{sizesOf, rowsOf, partOf}
 use Rattle.catalogue.specs.Reading.{readRows}
-use Rattle.catalogue.specs.Shape.{Listed}
+use Rattle.catalogue.specs.Contracts.{AcceptedCat}
 use Rattle.sizing.specs.declared.Tried.{Tried}
 use Rattle.sizing.specs.Losses.{overAt, lossAt}
 use Rattle.nets.specs.Net.{Net}
@@ -27,10 +27,10 @@ shift = 1000
 
 -- a delivered head less the meter loss, shifted
 abbrev pub headFor : Job → ℕ → ℕ
-headFor job delivered = delivered + shift - job .head .meter
+headFor job delivered = delivered + shift - job .header .meter
 
 -- N is the tree of a job: for each section and size of the catalogue its loss and its cost where it serves the flow within the limit
-pub record Drawn (job : Job) (cat : List ℕ) (N : Net) : Type 0 where
+pub record TreeOf (job : Job) (cat : List ℕ) (N : Net) : Type 0 where
   pub sections : N .sections ≡ countOf job
   pub sizes : N .sizes ≡ sizesOf cat
   pub parent : (i : ℕ) → 0 < i → i ≤ countOf job → N .parent i ≡ sectionOf job i .parent
@@ -44,17 +44,17 @@ abbrev pub entryOf : Tried → ℕ
 entryOf t = cond (t .over) top (t .loss)
 
 -- of a section at flow q with size s
-abbrev pub lossBy : Head → Section → List ℕ → ℕ → ℕ → ℕ
+abbrev pub lossBy : Header → Section → List ℕ → ℕ → ℕ → ℕ
 lossBy head section cat q s = entryOf (triedOf (readRows (partOf cat s) (rowsOf cat) q) (head .limit) (section .decimetres) (head .tenths))
 
 -- of section i with size s
 unfoldable pub lossEntry : Job → List ℕ → ℕ → ℕ → ℕ
-lossEntry job cat i s = lossBy (job .head) (sectionOf job i) cat (sectionFlow job i) s
+lossEntry job cat i s = lossBy (job .header) (sectionOf job i) cat (sectionFlow job i) s
 
 -- section i of an accepted job and size s of an accepted catalogue
 pub record Pair (job : Job) (cat : List ℕ) (i s : ℕ) : Type 0 where
   pub accepted : Accepted job
-  pub listed : Listed cat
+  pub listed : AcceptedCat cat
   pub first : 0 < i
   pub last : i ≤ countOf job
   pub low : 0 < s
@@ -72,7 +72,7 @@ pub record Tabled (f : ℕ → ℕ → ℕ) (n m : ℕ) (l : List ℕ) : Type 0 
   pub at : (i s : ℕ) → 0 < i → i ≤ n → 0 < s → s ≤ m → getD l (i * 13 + s) 0 ≡ f i s
 
 -- parents and needs at the sections' places
-pub record Ended (job : Job) (parents needs : List ℕ) : Type 0 where
+pub record EndsOf (job : Job) (parents needs : List ℕ) : Type 0 where
   pub parent : (i : ℕ) → 0 < i → i ≤ countOf job → getD parents i 0 ≡ sectionOf job i .parent
   pub need : (i : ℕ) → 0 < i → i ≤ countOf job → pos (getD needs i 0) ≡ sectionOf job i .elevation +ℤ pos (sectionOf job i .free + shift)
 

@@ -1,4 +1,4 @@
--- `demand::section::crowded_section` meets its contract.
+-- `demand::section::section_needs_table_one` meets its contract.
 -- Assumes nothing.
 use mathlib.Core.Path.{_≡_, sym, _∙_}
 use mathlib.Core.Bool.{false}
@@ -10,22 +10,22 @@ use Rattle.basis.specs.Range.{anyTo}
 use Rattle.basis.proofs.Each.{any-none, any-more, any-true}
 use Rattle.fields.specs.Fields.{countOf}
 use Rattle.tree.specs.Tree.{servedOf}
-use Rattle.demand.specs.Demand.{mOf, fixturesOf, crowded}
-use Rattle.demand.proofs.section.crowded_section.Statement.{statement}
-use Rattle.demand.proofs.section.crowded_section.Tie as tie
+use Rattle.demand.specs.Demand.{mOf, fixturesOf, needsTableOne}
+use Rattle.demand.proofs.section.section_needs_table_one.Statement.{statement}
+use Rattle.demand.proofs.section.section_needs_table_one.Tie as tie
 
 abbrev Inv-loop : tie.InvT-loop
 Inv-loop job served count i₀ i =
-    (0 < i) × (i ≤ countOf job + 1) × (anyTo (i - 1) (λ j. crowded (mOf job (servedOf job j)) (fixturesOf (servedOf job j))) ≡ false)
+    (0 < i) × (i ≤ countOf job + 1) × (anyTo (i - 1) (λ j. needsTableOne (mOf job (servedOf job j)) (fixturesOf (servedOf job j))) ≡ false)
 
 abbrev μ-loop : tie.MeasureT-loop
 μ-loop job served count i₀ i = countOf job + 1 - i
 
 -- what the test of a section is
-tested : (c : tie.After-is-crowded Inv-loop μ-loop) →
+tested : (c : tie.After-needs-table-one Inv-loop μ-loop) →
     let job = c .before .before .before .before .before .args .job in
-    let n = servedOf job (c .before .before .before .loop .i) in c .is-crowded .result ≡ crowded (mOf job n) (fixturesOf n)
-tested c = c .is-crowded .ensures ∙ rw (c .before .sums-of .ensures .0, c .before .sums-of .ensures .2)
+    let n = servedOf job (c .before .before .before .loop .i) in c .needs-table-one .result ≡ needsTableOne (mOf job n) (fixturesOf n)
+tested c = c .needs-table-one .ensures ∙ rw (c .before .sums-of .ensures .0, c .before .sums-of .ensures .2)
 
 sums-of-requires : tie.Need-sums-of-requires Inv-loop μ-loop
 sums-of-requires c κs = let pre = c .before .before .before .pre in (pre .0, pre .1, omega (arith, pre .0 .few))
@@ -45,5 +45,5 @@ returns-2 : tie.Need-returns-2 Inv-loop μ-loop
 returns-2 c =
     let e : c .before .loop .i - 1 ≡ countOf (c .before .before .before .args .job) = omega arith in sym (rw e at (c .before .loop .inv .2))
 
-pub crowded-section-spec : {M : Type 1} → statement M
-crowded-section-spec = tie.close (tie.spec Inv-loop μ-loop (λ c. search needs) (λ c. (omega arith, omega arith, any-none _)) sums-of-requires (λ c κs. search needs) returns (λ c. search needs) (λ c. search needs) loop-again returns-2)
+pub section-needs-table-one-spec : {M : Type 1} → statement M
+section-needs-table-one-spec = tie.close (tie.spec Inv-loop μ-loop (λ c. search needs) (λ c. (omega arith, omega arith, any-none _)) sums-of-requires (λ c κs. search needs) returns (λ c. search needs) (λ c. search needs) loop-again returns-2)

@@ -14,19 +14,19 @@ use Rattle.fields.specs.declared.Job.{Job}
 use Rattle.fields.specs.Fields.{countOf, sectionOf}
 use Rattle.wire.specs.Wire.{byteAt}
 use Rattle.demand.specs.Demand.{Accepted}
-use Rattle.demand.proofs.Ruling.{ruled-count, ruled-rooted}
+use Rattle.demand.proofs.Validity.{valid-count, valid-rooted}
 use Rattle.catalogue.specs.Layout.{sizesOf}
-use Rattle.catalogue.specs.Shape.{Listed}
-use Rattle.catalogue.proofs.Listed.{listed-counts}
+use Rattle.catalogue.specs.Contracts.{AcceptedCat}
+use Rattle.catalogue.proofs.AcceptedCat.{cat-counts}
 use Rattle.sizing.specs.Losses.{overAt, lossAt}
 use Rattle.sizing.proofs.LossBounds.{loss-top}
 use Rattle.nets.specs.Tables.{top, netOf, Sound}
 use Rattle.choosing.specs.Suitable.{priceAt}
-use Rattle.choosing.specs.Shape.{lossEntry, Pair, Tabled, Ended, Drawn}
+use Rattle.choosing.specs.Contracts.{lossEntry, Pair, Tabled, EndsOf, TreeOf}
 use Rattle.choosing.proofs.Entries.{entry-over, entry-under, pair-section, pair-head, price-top, slope-top}
 
-module _ {job : Job} {cat parents needs losses costs : List ℕ} (a : Accepted job) (l : Listed cat) (bytes : (k : ℕ) → byteAt cat k < 256)
-    (e : Ended job parents needs) (t : Tabled (lossEntry job cat) (countOf job) (sizesOf cat) losses)
+module _ {job : Job} {cat parents needs losses costs : List ℕ} (a : Accepted job) (l : AcceptedCat cat) (bytes : (k : ℕ) → byteAt cat k < 256)
+    (e : EndsOf job parents needs) (t : Tabled (lossEntry job cat) (countOf job) (sizesOf cat) losses)
     (u : Tabled (λ i s. priceAt job cat s i) (countOf job) (sizesOf cat) costs) where
   module _ (i s : ℕ) (first : 0 < i) (last : i ≤ countOf job) (low : 0 < s) (high : s ≤ sizesOf cat) where
     pair : Pair job cat i s
@@ -50,8 +50,8 @@ module _ {job : Job} {cat parents needs losses costs : List ℕ} (a : Accepted j
     price-held : getD costs (i * 13 + s) 0 ≤ 50000000
     price-held = rw (u .at i s first last low high) (price-top pair)
 
-  pub drawn : Drawn job cat (netOf (countOf job) (sizesOf cat) parents needs losses costs)
-  drawn =
+  pub tree-of : TreeOf job cat (netOf (countOf job) (sizesOf cat) parents needs losses costs)
+  tree-of =
       record {
         sections = refl;
         sizes = refl;
@@ -65,9 +65,9 @@ module _ {job : Job} {cat parents needs losses costs : List ℕ} (a : Accepted j
   pub sound : Sound (netOf (countOf job) (sizesOf cat) parents needs losses costs)
   sound =
       record {
-        few = ruled-count (a .ruled) .high;
-        sizes = listed-counts l .0 .high;
-        lower = λ s h k. rw (e .parent s h k) (ruled-rooted (a .ruled) .lower s h k);
+        few = valid-count (a .valid) .high;
+        sizes = cat-counts l .0 .high;
+        lower = λ s h k. rw (e .parent s h k) (valid-rooted (a .valid) .lower s h k);
         cheap = λ i s h k m n. price-held i s h k m n;
         marked = λ i s. refl;
       }
