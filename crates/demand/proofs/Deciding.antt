@@ -10,13 +10,16 @@ use Rattle.fields.specs.declared.Job.{Job}
 use Rattle.fields.specs.Fields.{countOf}
 use Rattle.tree.specs.Tree.{servedOf, houseOf, Rooted}
 use Rattle.tree.proofs.Served.{served-house}
-use Rattle.demand.specs.Demand.{mOf, fixturesOf, hourSumOf, needsTableOne, overSum, overProbability, demandChecks}
-use Rattle.demand.proofs.Agreeing.{m-same, fixtures-same}
+use Rattle.demand.specs.Demand.{mOf, flowOf, fixturesOf, hourSumOf, needsTableOne, overSum, overProbability, demandChecks}
+use Rattle.demand.proofs.Agreeing.{m-same, flow-same, fixtures-same}
 
 -- row 0 of the counts is the house
 module _ {job : Job} (r : Rooted job) where
   pub house-m : mOf job (servedOf job 0) ≡ mOf job (houseOf job)
   house-m = m-same job (servedOf job 0) (houseOf job) (λ kind a b. served-house r kind)
+
+  pub house-flow : flowOf job (servedOf job 0) ≡ flowOf job (houseOf job)
+  house-flow = flow-same job (servedOf job 0) (houseOf job) (λ kind a b. served-house r kind)
 
   pub house-fixtures : fixturesOf (servedOf job 0) ≡ fixturesOf (houseOf job)
   house-fixtures = fixtures-same job (servedOf job 0) (houseOf job) (λ kind a b. served-house r kind)
@@ -51,6 +54,6 @@ module _ (job : Job) where
           unfolding demandChecks firstNo overProbability
           table-one-hour e = rw (not-over, house, any, e)
 
-          pub not-needsTableOne : needsTableOne (hourSumOf job) (fixturesOf (houseOf job)) ≡ false → firstNo (demandChecks job) ≡ 0
+          pub table-one-not : needsTableOne (hourSumOf job) (fixturesOf (houseOf job)) ≡ false → firstNo (demandChecks job) ≡ 0
           unfolding demandChecks firstNo overProbability
-          not-needsTableOne e = rw (not-over, house, any, e)
+          table-one-not e = rw (not-over, house, any, e)

@@ -55,6 +55,9 @@ module _ {job : Job} (r : Valid job) where
       let p : 0 < shareOf job n k = share-pos job k (s .low) (s .high) (residents-match r k (s .low) (s .high) b) n (s .some) b in
       rw (m-is job n) (omega (arith, sum-at 12 k (shareOf job n) (s .low) (s .high)))
 
+  pub house-m-pos : 0 < mOf job (houseOf job)
+  house-m-pos = some-m-pos (houseOf job) (λ kind. omega arith) (house-serves r)
+
   pub m-pos : (i : ℕ) → 0 < i → i ≤ countOf job → 0 < mOf job (servedOf job i)
   m-pos i a b = some-m-pos (servedOf job i) (served-le (valid-rooted r) i) (serves r i a b)
 

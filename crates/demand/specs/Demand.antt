@@ -47,6 +47,10 @@ flowOf job n = up (fixtureSumOf job n * alphaOf (mOf job n)) (20000 * mOf job n)
 abbrev pub sectionFlow : Job → ℕ → ℕ
 sectionFlow job i = flowOf job (servedOf job i)
 
+-- the house's design flow
+abbrev pub houseFlow : Job → ℕ
+houseFlow job = flowOf job (houseOf job)
+
 -- for the hour a kind's share is 100,000 × Q × U / O, up
 unfoldable pub hourShareOf : Job → ℕ → ℕ
 hourShareOf job kind = up (100000 * normAt job kind .hour * residentsOf job kind) (normAt job kind .hourly)
@@ -79,7 +83,7 @@ fixturesOf n = sumTo 12 n
 unfoldable pub overSum : Job → Bool
 overSum job = ltb 400000000 (mOf job (houseOf job)) || ltb 400000000 (hourSumOf job)
 
--- m over 100,000 × fixtures with at most 200 fixtures
+-- m over 100,000 × fixtures with at most 200 fixtures: then Table 1 of appendix 4 would apply, which is left out
 unfoldable pub needsTableOne : ℕ → ℕ → Bool
 needsTableOne m fixtures = leb fixtures 200 && ltb (100000 * fixtures) m
 

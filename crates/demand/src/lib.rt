@@ -8,3 +8,4 @@ pub use hour::hour_of;
 pub use hour::mean_of;
 pub use section::demand_refusal;
 pub use section::flows;
+pub use section::house_flow;

@@ -16,7 +16,7 @@ ghost use Rattle.coefficient.specs.Alpha.{alphaOf};
 ghost use Rattle.fields.specs.Fields.{countOf};
 ghost use Rattle.tree.specs.Tree.{servedOf, Rooted};
 ghost use Rattle.tree.specs.Rows.{Counted};
-ghost use Rattle.demand.specs.Demand.{mOf, fixturesOf, needsTableOne, sectionFlow, demandChecks, Valid, Accepted};
+ghost use Rattle.demand.specs.Demand.{mOf, fixturesOf, needsTableOne, sectionFlow, houseFlow, demandChecks, Valid, Accepted};
 
 // The design flow of sums that 8 let pass.
 fn flow(t: &[u32; 972], s: Sums) -> u32
@@ -45,7 +45,17 @@ pub fn flows(job: Job) -> [u32; 64]
     flows
 }
 
-// m over 100,000 × fixtures with at most 200 fixtures.
+// The house's design flow, which the pump set delivers.
+pub fn house_flow(job: Job) -> u32
+    requires { ⌜ Accepted job ⌝ }
+    ensures { λ r. ⌜ r ≡ houseFlow job ⌝ }
+{
+    let served = tree::counts(job);
+    let table = coefficient::table2();
+    flow(&table, sums_of(job, &served, 0))
+}
+
+// m over 100,000 × fixtures with at most 200 fixtures: then Table 1 of appendix 4 would apply, which is left out.
 fn needs_table_one(m: u64, fixtures: u64) -> bool
     ensures { λ r. ⌜ r ≡ needsTableOne m fixtures ⌝ }
 {

@@ -8,7 +8,7 @@ use Rattle.wire.specs.Wire.{bytesOf}
 use Rattle.fields.specs.declared.Job.{Job}
 use Rattle.fields.specs.Fields.{countOf}
 use Rattle.record.specs.Record.{decode}
-use Rattle.demand.specs.Demand.{hourOf, dayOf, meanOf, sectionFlow}
+use Rattle.demand.specs.Demand.{hourOf, dayOf, meanOf, sectionFlow, houseFlow}
 use Rattle.acceptance.specs.Acceptance.{jobChecks}
 
 -- the length of a flow result for S sections
@@ -26,3 +26,11 @@ flowBytes job = houseBytes (hourOf job) (dayOf job) (meanOf job) ++ concatTo (co
 -- the flow call with a result buffer of so many bytes: 1 to 9, and 14
 unfoldable pub flowNo : List ℕ → ℕ → ℕ
 flowNo b room = firstNo (jobChecks b ++ (tooShort room (flowLength (countOf (decode b))) ∷ []))
+
+-- the duty call, for the pump set: the house's design flow in ml/s (4)
+unfoldable pub dutyBytes : Job → List ℕ
+dutyBytes job = bytesOf 4 (houseFlow job)
+
+-- with a result buffer of so many bytes: 1 to 9, and 14
+unfoldable pub dutyNo : List ℕ → ℕ → ℕ
+dutyNo b room = firstNo (jobChecks b ++ (tooShort room 4 ∷ []))

@@ -1,7 +1,10 @@
-// The flow call.
+// The flow call, and the duty call.
+mod pump;
+
 use acceptance::accept;
 use answer::Answer;
 use fields::Job;
+pub use pump::duty;
 ghost use mathlib.Core.Path.{_≡_};
 ghost use Prim.Native.Nat.{_≤_};
 ghost use lib.ListN.{length, getD};

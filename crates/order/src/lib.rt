@@ -5,7 +5,7 @@ ghost use lib.ListN.{length};
 ghost use Rattle.record.specs.Record.{decode};
 ghost use Rattle.answer.specs.Checks.{bufferAfter};
 ghost use Rattle.job.specs.Calls.{copyNo};
-ghost use Rattle.flow.specs.Calls.{flowNo, flowBytes};
+ghost use Rattle.flow.specs.Calls.{flowNo, flowBytes, dutyNo, dutyBytes};
 ghost use Rattle.rating.specs.Calls.{rateNo, rateBytes};
 ghost use Rattle.choosing.specs.Calls.{Chosen};
 
@@ -25,6 +25,15 @@ pub extern "C" fn order_flow(job: &[u8], out: &mut [u8]) -> u32
     ensures buffer { λ r. ⌜ now (out .exit) ≡ bufferAfter r (flowBytes (decode (now (job .entry)))) (now (out .entry)) ⌝ }
 {
     answer::number(flow::flow(job, out))
+}
+
+// The house's design flow, which the pump set delivers: 1 to 9, 14, or four bytes.
+#[no_mangle]
+pub extern "C" fn order_duty(job: &[u8], out: &mut [u8]) -> u32
+    ensures number { λ r. ⌜ r ≡ dutyNo (now (job .entry)) (length (now (out .entry))) ⌝ }
+    ensures buffer { λ r. ⌜ now (out .exit) ≡ bufferAfter r (dutyBytes (decode (now (job .entry)))) (now (out .entry)) ⌝ }
+{
+    answer::number(flow::duty(job, out))
 }
 
 // Heads, velocities and losses of a list of sizes: 1 to 14, or the rating result.

@@ -8,7 +8,7 @@ use borrow.Author.Needs.{needs}
 use Rattle.tree.specs.Tree.{houseOf}
 use Rattle.demand.specs.Demand.{mOf, fixturesOf, hourSumOf, needsTableOne}
 use Rattle.demand.proofs.Validity.{valid-rooted, valid-kinds}
-use Rattle.demand.proofs.Deciding.{house-m, house-fixtures, over-house, over-hour, table-one-house, table-one-any, table-one-hour, not-needsTableOne}
+use Rattle.demand.proofs.Deciding.{house-m, house-fixtures, over-house, over-hour, table-one-house, table-one-any, table-one-hour, table-one-not}
 use Rattle.demand.proofs.section.demand_refusal.Statement.{statement}
 use Rattle.demand.proofs.section.demand_refusal.Tie as tie
 
@@ -83,7 +83,7 @@ returns-6 c =
     let four = c .before .before in
     let three = four .before .before .before in
     let two = three .before .before in
-    sym (not-needsTableOne _ (m-low (two .before .before)) (hour-low two) (house-low three) (sym (four .before .section-needs-table-one .ensures) ∙ four .if4 .left) (sym (hour-test (c .before)) ∙ c .if5 .left))
+    sym (table-one-not _ (m-low (two .before .before)) (hour-low two) (house-low three) (sym (four .before .section-needs-table-one .ensures) ∙ four .if4 .left) (sym (hour-test (c .before)) ∙ c .if5 .left))
 
 pub demand-refusal-spec : {M : Type 1} → statement M
 demand-refusal-spec =
