@@ -89,9 +89,14 @@ fn rate(record: &[u8], catalogue: &[u8], list: &[u8], out: &mut [u8]) {
     print::given(answer, out);
 }
 
+// The value of a call is not written out in the proofs of its callers, so the longest arrays have functions of their own.
+fn blank() -> [u8; 131072] {
+    [0u8; 131072]
+}
+
 // The text of the sheet of an input that ends in so many zero bytes.
 fn sheet(front: &[u8], zeros: usize, out: &mut [u8]) {
-    let mut input = [0u8; 131072];
+    let mut input = blank();
     if input.len() < front.len() {
         return;
     }
@@ -105,7 +110,7 @@ fn sheet(front: &[u8], zeros: usize, out: &mut [u8]) {
     }
 }
 
-// The most bytes of workspace that any job needs. The value of a call is not written out in the proofs of its callers.
+// The most bytes of workspace that any job needs.
 fn workspace(fill: u8) -> [u8; 1792256] {
     [fill; 1792256]
 }

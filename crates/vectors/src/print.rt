@@ -1,7 +1,6 @@
 // The output.
 use answer::Answer;
 use libc::STDOUT_FILENO;
-ghost use Prim.Native.Nat.{_<_};
 
 // A byte as it is.
 pub fn byte(b: u8) {
@@ -9,14 +8,9 @@ pub fn byte(b: u8) {
     io::write_all(STDOUT_FILENO, &one);
 }
 
-fn digit(x: u8) -> u8
-    requires { ⌜ x < 16 ⌝ }
-{
-    if x < 10 { b'0' + x } else { b'a' - 10 + x }
-}
-
 fn pair(b: u8) {
-    let two = [digit(b / 16), digit(b % 16)];
+    let digits = *b"0123456789abcdef";
+    let two = [digits[(b / 16) as usize], digits[(b % 16) as usize]];
     io::write_all(STDOUT_FILENO, &two);
 }
 
