@@ -44,14 +44,14 @@ target/built: $(shell find crates office/src office/Cargo.toml -type f)
 	{ rt check sheet && rt staticlib order && cargo build --release --offline --manifest-path office/Cargo.toml; } > target/built.log 2>&1 || { tail -n 40 target/built.log; exit 1; }
 	touch target/built
 
-# Document 01's own case through the test program: fields, record, flows, rating and cheapest sizes.
-example:
-	@mkdir -p target
-	rt check vectors > target/example.log 2>&1 || { cat target/example.log; exit 1; }
-	target/bin/vectors < examples/own-case.txt
+# Document 01's own case: flows, and the cheapest sizes with their rating.
+example: target/built
+	@$(office) flow examples/own-case.txt
+	echo
+	$(office) choose examples/own-case.txt examples/own-case.csv
 
 # Prints the sheet of document 01's own case.
 sheet:
 	@mkdir -p target
 	rt check sheet > target/sheet.log 2>&1 || { cat target/sheet.log; exit 1; }
-	target/bin/sheet < crates/sheet/stdin
+	target/bin/sheet < examples/own-case.sheet

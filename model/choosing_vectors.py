@@ -1,27 +1,9 @@
-"""Vectors for choosing.
-
-Input, in lines, each laid out as the test program's line for rating:
-    l HEX HEX HEX HEX   a job to choose sizes for: room (2 bytes), workspace (its
-             length in 4 bytes, then the byte that fills it), the record, the
-             catalogue; the last two may be empty
-    k HEX HEX HEX HEX   the same, where several lists are equally cheap
-The buffer and the workspace are filled with that byte before the call. A room
-is at most 1,000, a workspace has at most 1,792,256 bytes, which is the most that
-any job needs, and a line at most 16,384.
-Output:
-    choose N HEX   for l, with the whole buffer of `room` bytes afterwards
-    choose N COST  for k and N 0, with the cost as a decimal number; `unsuited`
-             follows where rating the list does not give 0 and a required head of
-             at most H, or where price x length does not add up to the cost
-    choose N       for k and any other N
-From N 1 to 15 there follows the word `kept` where the whole workspace is still
-filled as it was, else `touched`; after 0 and 16 its bytes are free.
+"""Vectors for choosing; vectors.py tells their lines.
 
 A line `l` has a result only where one list alone is cheapest. Where `chosen` or
-`costing` states the cost, and the list, they are worked out by hand; where
-`found` leaves them to the model, test_choosing.py compares them with a second
-evaluation. Every vector has its number written down; which random houses have
-no list was read from the model and is confirmed by the condition of 16.
+`costing` states the cost, and the list, they are worked out by hand; `found`
+leaves them to the model. Every vector has its number written down; which random
+houses have no list was read from the model.
 """
 
 import functools
@@ -29,17 +11,15 @@ import random
 
 import catalogue as catalogues
 import choosing
-import choosing_conditions
 import job
 import rating
 import rating_vectors
-from conditions import ceiling
 from edit import OWN, head, house, people, put, section
 from flow_vectors import (chain_of_kinds, comb_of_kinds, end, flow_broken, halving_of_kinds,
                           star_of_kinds)
 from houses import greedy, star
 from rating_vectors import GREEDY_SIZES, LEVEL, SIZE_1, SIZE_2, SIZES, catalogue, low, pair, tree
-from vector import Call, Vector, listed, room_of
+from vector import Call, Parts, Vector, buffer_after, listed, room_of
 
 FILL = 0x5a
 MOST_WORK = 1_792_256
@@ -558,6 +538,10 @@ BORES = (15, 20, 25, 32, 40, 50, 65, 80, 100, 125, 150, 200)
 PRICES = (121, 153, 199, 257, 331, 419, 607, 761, 1051, 1499, 2003, 3109)
 
 
+def ceiling(number, divisor):
+    return -(-number // divisor)
+
+
 def pipe_row(bore, flow):
     return flow, ceiling(1273 * flow, bore ** 2), ceiling(4000 * flow ** 2, bore ** 5)
 
@@ -586,9 +570,7 @@ TREES = {"chain": chain_of_kinds, "star": star_of_kinds, "comb": comb_of_kinds}
 @functools.lru_cache(maxsize=None)
 def least_head(record, sizes):
     """The head that the least losses require."""
-    lost = [min(loss for loss, _ in filter(None, some))
-            for some in choosing_conditions.pairs(record, sizes)]
-    return choosing_conditions.head_figures(record, lost)[0]
+    return span(record, sizes)[0]
 
 
 def long_houses():
@@ -769,13 +751,16 @@ def after(choice):
     return " kept" if 1 <= choice.number <= 15 else ""
 
 
-def list_lines(parts):
+def buffer_of_choice(parts):
     room, work, *_ = parts
     choice = choice_of(parts)
-    assert choice.number != 0 or choice.count == 1, parts
-    result = choosing.result(choice) if choice.number == 0 else b""
-    buffer = result + work[4:] * (room_of(room) - len(result))
-    return [f"choose {choice.number} {buffer.hex()}{after(choice)}"]
+    result = choosing.result(choice) if choice.number == 0 else None
+    return buffer_after(result, room_of(room), work[4])
+
+
+def list_lines(parts):
+    choice = choice_of(parts)
+    return [f"choose {choice.number} {buffer_of_choice(parts).hex()}{after(choice)}"]
 
 
 def cost_lines(parts):
@@ -785,7 +770,33 @@ def cost_lines(parts):
     return [f"choose {choice.number}{after(choice)}"]
 
 
+def choice_parts(data):
+    room, work, record, sizes = data
+    return Parts(room_of(room), record, sizes, fill=work[4],
+                 length=int.from_bytes(work[:4], "big"))
+
+
+def choice_bytes(parts, shown):
+    choice = choice_of(parts)
+    kept = " 01" if 1 <= choice.number <= 15 else ""
+    return f"{choice.number:08x} {buffer_of_choice(parts)[:shown].hex()}{kept}"
+
+
+def list_bytes(parts):
+    """One list alone is cheapest."""
+    choice = choice_of(parts)
+    assert choice.number != 0 or choice.count == 1, parts
+    return choice_bytes(parts, None)
+
+
+def cost_bytes(parts):
+    """Several lists are, so that the list is not shown."""
+    choice = choice_of(parts)
+    assert choice.number != 0 or choice.count > 1, parts
+    return choice_bytes(parts, 4)
+
+
 CALLS = {
-    "l": Call("choose", list_lines, choosing_conditions.of_choose, (*range(1, 12), 14, 15, 16)),
-    "k": Call("choose", cost_lines, choosing_conditions.of_choose, (16,)),
+    "l": Call("choose", choice_parts, list_lines, list_bytes),
+    "k": Call("choose", choice_parts, cost_lines, cost_bytes),
 }

@@ -3,12 +3,12 @@
 import collections
 import random
 
-import conditions
 import demand
 import job
 from edit import OWN, head, house, people, section
 from houses import INNER, TWO_ENDS, broken, chain, comb, greedy, star, twelve_kinds, under
-from vector import Call, Vector, buffer_line, listed, room_of, with_room, words
+from vector import (Call, Parts, Vector, buffer_bytes, buffer_line, listed, room_of, roomed,
+                    with_room, words)
 
 
 def coefficient(name, m, alpha):
@@ -482,12 +482,20 @@ def flow_lines(raw):
     return answer + figure_lines(record) if number == 0 else answer
 
 
-def nothing(_):
-    """The coefficient has no refusals."""
-    return set()
+def m_parts(raw):
+    """No buffer is lent."""
+    return Parts(0, raw)
+
+
+def alpha_bytes(raw):
+    return f"{demand.alpha(int.from_bytes(raw, 'big')):08x}"
+
+
+def flow_bytes(raw):
+    return buffer_bytes(demand.flow(raw[2:], room_of(raw)), room_of(raw))
 
 
 CALLS = {
-    "a": Call("alpha", alpha_lines, nothing, ()),
-    "f": Call("flow", flow_lines, conditions.of_flow, (1, 2, 3, 4, 5, 6, 7, 8, 9, 14)),
+    "a": Call("alpha", m_parts, alpha_lines, alpha_bytes, None),
+    "f": Call("flow", roomed, flow_lines, flow_bytes),
 }

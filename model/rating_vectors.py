@@ -5,11 +5,10 @@ import random
 import struct
 
 import rating
-import rating_conditions
 from edit import OWN, head, house, put, section
 from flow_vectors import end, flow_broken, inner, random_house
 from houses import TWO_ENDS, greedy
-from vector import Call, Vector, buffer_line, listed, room_of, words
+from vector import Call, Parts, Vector, buffer_bytes, buffer_line, listed, room_of, words
 
 
 def catalogue(*sizes):
@@ -115,6 +114,9 @@ def catalogue_shapes():
         ("length field 48", put(SIZES, 0, 4, 48)),
         ("length field 47 + 65536", put(SIZES, 0, 4, 47 + 65536)),
         ("length field 47 + 2^31", put(SIZES, 0, 4, 47 + 2 ** 31)),
+    ]] + [
+        # With counts out of range nothing says where a size stands, so that none is named.
+        rating_of(name, 10, sizes=sizes, numbers=[1], holds={10, 12}) for name, sizes in [
         ("13 sizes", catalogue(*TWELVE, (13, 13, (1000, 500, 12), (3000, 1500, 90)))),
         ("R 65", catalogue(many_rows(65))),
         ("R 1", catalogue(SIZE_2[:3])),
@@ -443,4 +445,14 @@ def rate_lines(parts):
         words("rated", (i,) + each) for i, each in enumerate(sections, start=1)]
 
 
-CALLS = {"p": Call("rate", rate_lines, rating_conditions.of_rate, range(1, 15))}
+def rate_parts(data):
+    room, *rest = data
+    return Parts(room_of(room), *rest)
+
+
+def rate_bytes(parts):
+    room, *rest = parts
+    return buffer_bytes(rating.rate(*rest, room_of(room)), room_of(room))
+
+
+CALLS = {"p": Call("rate", rate_parts, rate_lines, rate_bytes)}

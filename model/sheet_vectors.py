@@ -3,12 +3,11 @@
 import random
 
 import sheet
-import sheet_conditions
 from edit import OWN, head, house, put, section
 from flow_vectors import end, inner
 from houses import greedy
 from rating_vectors import (GREEDY_SIZES, LEVEL, SIZES, catalogue, low, order_parts, random_parts)
-from vector import Call, Vector
+from vector import Call, Parts, Vector
 
 # The bytes of the own case: the job, the catalogue, and size 2.
 INPUT = OWN + SIZES + b"\2"
@@ -211,10 +210,25 @@ def input_of(parts):
     return data + bytes(int.from_bytes(zeros, "big"))
 
 
-def sheet_lines(parts):
+def text_of(parts):
     room = int.from_bytes(parts[0], "big")
     lines = sheet.sheet(input_of(parts)) if room >= BUFFER else []
-    return [f"sheet {sum(len(each) + 1 for each in lines)}"] + lines
+    return "".join(line + "\n" for line in lines)
+
+
+def sheet_lines(parts):
+    text = text_of(parts)
+    return [f"sheet {len(text)}"] + text.splitlines()
+
+
+def sheet_bytes(parts):
+    """The text alone."""
+    return text_of(parts).encode("ascii").hex()
+
+
+def sheet_parts(data):
+    room, zeros, front = data
+    return Parts(int.from_bytes(room, "big"), front, length=int.from_bytes(zeros, "big"))
 
 
 def number_in(lines):
@@ -223,8 +237,4 @@ def number_in(lines):
     return int(number) if word == "refused" else 0
 
 
-def conditions(parts):
-    return sheet_conditions.of_sheet(input_of(parts))
-
-
-CALLS = {"s": Call("sheet", sheet_lines, conditions, range(2, 14), number_in)}
+CALLS = {"s": Call("sheet", sheet_parts, sheet_lines, sheet_bytes, number_in)}

@@ -5,11 +5,21 @@ from typing import Callable, Iterable, NamedTuple, Optional, Union
 
 class Vector(NamedTuple):
     name: str
-    data: Union[bytes, tuple]  # the bytes of a line, or of each of its parts
+    data: Union[bytes, tuple]  # what the call is given, as its `parts` take it
     expect: int
-    holds: Optional[set] = None
+    holds: Optional[set] = None  # by hand, all the refusals whose condition holds
     letter: str = "r"
     lines: Optional[list] = None  # by hand, lines of the answer that follow one another
+
+
+class Parts(NamedTuple):
+    """What stands in a line of the input."""
+    room: int            # the length of the result buffer
+    first: bytes         # most often the job
+    second: bytes = b""  # the catalogue
+    third: bytes = b""   # the size list
+    fill: int = 0xa5     # the byte that fills the buffer, and the workspace
+    length: int = 0      # of the workspace, or the zero bytes behind a sheet's input
 
 
 def first_number(lines):
@@ -19,15 +29,22 @@ def first_number(lines):
 
 class Call(NamedTuple):
     word: str
-    lines: Callable
-    conditions: Callable
-    numbers: Iterable  # of its refusals, those that a vector has alone
-    number: Callable = first_number  # that its lines give
+    parts: Callable   # of the data: what stands in the line
+    lines: Callable   # of the data: the model's answer in words, for the figures by hand
+    stored: Callable  # of the data: the model's answer in bytes
+    number: Optional[Callable] = first_number  # that the lines give; None where a call has none
 
 
-def digits(data):
-    """The hex digits of a line; parts are separated by single spaces."""
-    return " ".join(part.hex() for part in data) if isinstance(data, tuple) else data.hex()
+def digits(parts):
+    """The hex digits of a line."""
+    found = [f"{parts.room:04x}", f"{parts.fill:02x}", f"{parts.length:08x}",
+             f"{len(parts.first):04x}", f"{len(parts.second):04x}"]
+    return " ".join(found + [each.hex() for each in parts[1:4] if each])
+
+
+def roomed(raw):
+    """The parts of bytes that begin with the room."""
+    return Parts(room_of(raw), raw[2:])
 
 
 def room_of(raw):
@@ -39,11 +56,22 @@ def with_room(record, room):
     return room.to_bytes(2, "big") + record
 
 
+def buffer_after(result, room, fill=0xa5):
+    """The buffer afterwards; None is the result of a refusal."""
+    result = result or b""
+    return result + bytes([fill]) * (room - len(result))
+
+
 def buffer_line(word, outcome, room):
-    """The answer of a call, with the buffer as it is afterwards."""
-    number, record = outcome
-    record = record or b""
-    return f"{word} {number} {(record + bytes([0xa5]) * (room - len(record))).hex()}"
+    """The answer of a call in words, with the buffer."""
+    number, result = outcome
+    return f"{word} {number} {buffer_after(result, room).hex()}"
+
+
+def buffer_bytes(outcome, room, fill=0xa5):
+    """The same in bytes: the number in four, and the buffer."""
+    number, result = outcome
+    return f"{number:08x} {buffer_after(result, room, fill).hex()}"
 
 
 def words(name, values):
@@ -52,9 +80,3 @@ def words(name, values):
 
 def listed(numbers):
     return " and ".join(str(number) for number in sorted(numbers))
-
-
-def first(numbers):
-    """The number that is given back where these conditions hold: the least,
-    but 14 comes before 13; 0 where none holds."""
-    return min(numbers, key=lambda number: (number == 13, number), default=0)

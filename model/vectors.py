@@ -8,55 +8,55 @@ The stored files are compared with fresh ones by
 
     sh model/check.sh
 
-Input, in lines:
-    # text   a comment
-    r HEX    a record to read
-    w HEX    fields to write: room (2 bytes), k, S, T (1 each), meter, G, H,
-             limit, twelve residents (2 each), then up to 63 slots of 10 bytes
-             laid out as in a record; slots not given are 0
-    c HEX    a record to copy: room (2 bytes), then the record's bytes
-    a HEX    an m (4 bytes) whose coefficient is wanted
-    f HEX    a job whose flows are wanted: room (2 bytes), then the record
-    p HEX HEX HEX HEX   a job to rate: room (2 bytes), the record, the
-             catalogue, the size list; each but the room may be empty
-    s HEX HEX HEX   an input whose sheet is wanted: the length of the buffer
-             (4 bytes, at most 8,192), a number of zero bytes (4), and the bytes
-             that these zero bytes follow, in all at most 131,072
-    l and k  choosing; choosing_vectors.py tells their lines and their answers
-A room is at most 1,000. A line has at most 16,384 bytes; the program reads its
-input in chunks, so the number of lines has no limit that vectors could reach.
-Output:
-    # text   the comment
-    read N   for r; when N is 0 there follow `head k S T meter G H limit`,
-             `residents` and the twelve numbers, for each section `section i
-             parent kind fixtures length elevation free`, and the answer of
-             writing the job again into as many bytes as the record had
-    write N HEX   the whole buffer of `room` bytes, which held a5 before
-    copy N HEX    the same for c
-    alpha N  the coefficient in millionths
-    flow N HEX    the buffer as for w; when N is 0 there follow `house hour day
-             mean` and `flows` with the flow of each section
-    rate N HEX    the same for p; when N is 0 there follow `heads required pump
-             dictating` and for each section `rated i velocity loss`
-    sheet N  the length of the text, and the text
+Input, in lines. `# text` is a comment. Any other line is a letter and bytes in
+hex, where spaces do not count: the room of the result buffer (2 bytes), the byte
+that fills what is lent (1), a length (4), the lengths of the first and of the
+second part (2 each), and the first, second and third part. The room is at most
+8,192, and a line has at most 8,191 bytes.
+    r   a record to read; the job is written again into the room
+    w   fields to write: k, S, T (1 byte each), meter, G, H, limit, twelve
+        residents (2 each), then up to 63 slots of 10 bytes laid out as in a
+        record; slots not given are 0
+    c   a record to copy
+    a   an m (4 bytes) whose coefficient is wanted
+    f   a job whose flows are wanted
+    p   a job, a catalogue and a size list to rate
+    s   an input whose sheet is wanted: its bytes, and the length is the number
+        of zero bytes that follow them, in all at most 131,072
+    l   a job and a catalogue to choose sizes for; the length is that of the
+        workspace, at most 1,792,256, which is the most that any job needs
+    k   the same, where several lists are equally cheap
+Output, a line for each line. A comment stands as it is. A number is four bytes,
+and a buffer is shown whole, as it is after the call.
+    r   the number; when it is 0, the fields laid out as a record's from byte 5
+        on, and the number and the buffer of writing
+    w, c, f, p   the number and the buffer
+    a   the coefficient in millionths, four bytes
+    s   the text
+    l   the number and the buffer; where the number is 1 to 15, 01 if the whole
+        workspace is still filled as it was, else 00
+    k   the same with the first four bytes of the buffer, the cost: which of the
+        cheapest lists comes is free, and office/tests/stored.rs judges it
 
 Every vector has its number written by hand, those of `a` and `f` in
 flow_vectors.py, those of `p` in rating_vectors.py, those of `s` in
 sheet_vectors.py and those of `l` and `k` in choosing_vectors.py. It is compared
 with the model (job.py, demand.py, catalogue.py, rating.py, sheet.py,
-choosing.py) and with the first of all conditions that hold (conditions.py,
-rating_conditions.py, sheet_conditions.py, choosing_conditions.py). Where `holds`
-is given, these are all the conditions that hold; where `lines` is given, they
-stand in the model's answer one after another.
+choosing.py). Where `lines` is given, they stand in the model's answer in words
+one after another. Where `holds` is given, these are all the refusals whose
+condition holds; they stand in the comment, and office/tests/stored.rs compares
+them, and every answer, with the model of office/.
 """
 
 import collections
+import functools
+import hashlib
 import importlib
 import struct
 import sys
 
 import choosing_vectors
-import conditions
+import demand
 import flow_vectors
 import job
 import rating_vectors
@@ -64,7 +64,8 @@ import sheet_vectors
 from edit import OWN, fields, head, house, people, section, stating
 from houses import (END, INNER, INNER_AND_END, TWO_ENDS, broken, chain, comb, greedy,
                     halving, star, twelve_kinds, under)
-from vector import Call, Vector, buffer_line, digits, first, listed, room_of, with_room, words
+from vector import (Call, Parts, Vector, buffer_bytes, buffer_line, digits, listed, room_of, roomed,
+                    with_room, words)
 
 
 def writing(name, data, expect, holds=None):
@@ -556,10 +557,33 @@ def copy_lines(raw):
     return [buffer_line("copy", job.copy(record, room), room)]
 
 
+def record_parts(data):
+    """The room is that of the record."""
+    return Parts(len(data), data)
+
+
+def read_bytes(data):
+    """The fields are laid out as a record's from byte 5 on."""
+    number, found = job.read(data)
+    if number != 0:
+        return f"{number:08x}"
+    again = buffer_bytes(job.write(found, len(data)), len(data))
+    return f"{number:08x} {job.encode(found)[5:].hex()} {again}"
+
+
+def write_bytes(raw):
+    room, what = parse_fields(raw)
+    return buffer_bytes(job.write(what, room), room)
+
+
+def copy_bytes(raw):
+    return buffer_bytes(job.copy(raw[2:], room_of(raw)), room_of(raw))
+
+
 CALLS = {
-    "r": Call("read", read_lines, conditions.of_record, range(1, 8)),
-    "w": Call("write", write_lines, conditions.of_fields, (3, 5, 6, 7, 14)),
-    "c": Call("copy", copy_lines, conditions.of_copy, (1, 2, 3, 4, 5, 6, 7, 14)),
+    "r": Call("read", record_parts, read_lines, read_bytes),
+    "w": Call("write", roomed, write_lines, write_bytes),
+    "c": Call("copy", roomed, copy_lines, copy_bytes),
     **flow_vectors.CALLS,
     **rating_vectors.CALLS,
     **sheet_vectors.CALLS,
@@ -567,8 +591,13 @@ CALLS = {
 }
 
 
+@functools.lru_cache(maxsize=None)
+def in_words(letter, data):
+    return CALLS[letter].lines(data)
+
+
 def answer(vector):
-    return CALLS[vector.letter].lines(vector.data)
+    return in_words(vector.letter, vector.data)
 
 
 # The checks of the vectors themselves
@@ -577,16 +606,13 @@ def model_number(vector):
     return CALLS[vector.letter].number(answer(vector))
 
 
-def conditions_of(vector):
-    return CALLS[vector.letter].conditions(vector.data)
-
-
 def check_number(vector):
-    """The number by hand is the model's and that of the conditions."""
-    found = conditions_of(vector)
+    """The number by hand is the model's, and the first of the refusals whose
+    condition is said to hold; 14 comes before 13."""
     assert model_number(vector) == vector.expect, (vector.name, model_number(vector))
-    assert first(found) == vector.expect, (vector.name, found)
-    assert vector.holds is None or vector.holds == found, (vector.name, found)
+    if vector.holds is not None:
+        first = min(vector.holds, key=lambda number: (number == 13, number), default=0)
+        assert first == vector.expect, (vector.name, vector.holds)
 
 
 def check_lines(vector):
@@ -603,28 +629,12 @@ def check_slots(vector):
         assert rest == 0 and 0 <= slots <= job.SLOTS, vector.name
 
 
-def check_room(vector):
-    """The protocol's bound of the room."""
-    if vector.letter in ("w", "c", "f"):
-        assert len(vector.data) >= 2 and room_of(vector.data) <= 1000, vector.name
-    if vector.letter in ("p", "l", "k"):
-        assert len(vector.data[0]) == 2 and room_of(vector.data[0]) <= 1000, vector.name
-    if vector.letter == "s":
-        room, zeros, data = vector.data
-        assert int.from_bytes(room, "big") <= 8192, vector.name
-        assert len(data) < 1024 and len(data) + int.from_bytes(zeros, "big") <= 131_072, vector.name
-
-
-def check_length(vector):
-    """The program takes lines of 16,384 bytes."""
-    assert len(input_lines(vector)[1]) <= 16_384, vector.name
-
-
-def check_alone(vectors, calls):
-    """Every number is reached by a vector in which no other one holds."""
-    held = [(each.letter, conditions_of(each)) for each in vectors]
-    for letter, call in calls.items():
-        assert all((letter, {number}) in held for number in call.numbers), letter
+def check_parts(vector):
+    """The protocol's bounds of a line."""
+    parts = CALLS[vector.letter].parts(vector.data)
+    most = {"s": 131_072 - len(parts.first), "l": 1_792_256, "k": 1_792_256}
+    assert parts.room <= 8192 and parts.length <= most.get(vector.letter, 0), vector.name
+    assert 11 + sum(len(each) for each in parts[1:4]) <= 8191, vector.name
 
 
 def check_answers():
@@ -634,33 +644,48 @@ def check_answers():
     assert all(copied[name] == [line] for name, line in COPY_ANSWERS.items())
 
 
-def check_all(vectors, calls):
+def check_table():
+    """The digest of document 001's 486 pairs."""
+    assert len(demand.TABLE) == 486
+    packed = b"".join(struct.pack(">II", *pair) for pair in demand.TABLE)
+    digest = "6e2af854ad28b43cab50637e239a8a753c8089890a74f2c3729a65b28d8eeb76"
+    assert hashlib.sha256(packed).hexdigest() == digest
+
+
+def check_all(vectors):
+    check_table()
     for vector in vectors:
-        if CALLS[vector.letter].numbers:
+        if CALLS[vector.letter].number:
             check_number(vector)
         check_lines(vector)
         check_slots(vector)
-        check_room(vector)
-        check_length(vector)
-    check_alone(vectors, calls)
+        check_parts(vector)
     check_answers()
 
 
 # The two files
 
+def title(vector):
+    """The name, and the refusals whose condition holds where they are stated."""
+    if vector.holds is None:
+        return f"# {vector.name}"
+    return f"# {vector.name}; holds {' '.join(map(str, sorted(vector.holds))) or 'nothing'}"
+
+
 def input_lines(vector):
-    return [f"# {vector.name}", f"{vector.letter} {digits(vector.data)}"]
+    parts = CALLS[vector.letter].parts(vector.data)
+    return [title(vector), f"{vector.letter} {digits(parts)}"]
 
 
 def output_lines(vector):
-    return [f"# {vector.name}"] + answer(vector)
+    return [title(vector), CALLS[vector.letter].stored(vector.data)]
 
 
 def text(groups, lines_of):
     """The groups in turn, each after a line with its title."""
     lines = []
-    for title, group in groups:
-        lines.append(f"# == {title}")
+    for heading, group in groups:
+        lines.append(f"# == {heading}")
         for vector in group():
             lines += lines_of(vector)
     return "".join(line + "\n" for line in lines)
@@ -678,21 +703,17 @@ def report(vectors):
         print(CALLS[letter].word, number, "in", count)
 
 
-def make(groups, calls, stdin_path, stdout_path):
-    """The two files of these groups, which have vectors for these calls."""
+def make(groups, stdin_path, stdout_path):
+    """The two files of these groups."""
     vectors = [vector for _, group in groups for vector in group()]
-    check_all(vectors, calls)
+    check_all(vectors)
     store(stdin_path, text(groups, input_lines))
     store(stdout_path, text(groups, output_lines))
     report(vectors)
 
 
 def main(stdin_path, stdout_path, alone=None):
-    if alone is None:
-        make(GROUPS, CALLS, stdin_path, stdout_path)
-        return
-    more = importlib.import_module(alone)
-    make(more.GROUPS, more.CALLS, stdin_path, stdout_path)
+    make(importlib.import_module(alone).GROUPS if alone else GROUPS, stdin_path, stdout_path)
 
 
 if __name__ == "__main__":

@@ -275,3 +275,13 @@ fn a_drawing_is_drawn_for_the_cheapest_and_for_a_given_list() {
     let wide = std::fs::read_to_string(&kept).expect("written");
     assert!(drawn.text().starts_with("<?xml") && wide.starts_with("<?xml") && wide != drawn.text());
 }
+
+/// The README shows what `make example` prints: document 01's own case, its flows and its cheapest sizes.
+#[test]
+fn the_readmes_worked_example() {
+    let (house, table) = ("examples/own-case.txt", "examples/own-case.csv");
+    let said = [office(&["flow", house]).text(), "\n".to_string(), office(&["choose", house, table]).text()].concat();
+    let shown: String =
+        said.lines().map(|line| if line.is_empty() { "\n".into() } else { format!("    {line}\n") }).collect();
+    assert!(read("README.md").contains(&shown), "{shown}");
+}

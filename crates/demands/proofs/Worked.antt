@@ -115,7 +115,7 @@ none-suits y s = apart (rw (only-two 3 152 y s) at (s .reaches)) (computed .shor
 -- the call on either job, with enough of both buffers
 module _ {out₀ work₀ : List ℕ} where
   ready : (b : List ℕ) → jobNo b ≡ 0 → Ample b out₀ work₀ → chooseNo b ownCat (length out₀) (length work₀) ≡ 0
-  ready b e a = choose-ready b ownCat (length out₀) (length work₀) (input-cat b ownCat e ∙ computed .listed) (a .result) (a .space)
+  ready b e a = choose-ready b ownCat (length out₀) (length work₀) (input-cat b ownCat e .0 ∙ computed .listed) (a .result) (a .space)
 
   gives-bytes : {out work : List ℕ} {n : ℕ} → Ample job921 out₀ work₀ → Chosen job921 ownCat out₀ work₀ out work n → (n ≡ 0) × (out ≡ stored out₀ 0 (0 ∷ 1 ∷ 251 ∷ 208 ∷ 2 ∷ []))
   gives-bytes a c =

@@ -1,222 +1,156 @@
-// The calls. Each is false, and prints nothing, where the bytes are not such as its line has.
+// The calls. A line's bytes are the room of the result buffer (2), the byte that fills what is lent (1), a length (4), the lengths of
+// the next two parts (2 each), and then the parts: in most calls a job, a catalogue and a size list.
+// Bytes that are not such give an empty line.
+use crate::jobs;
 use crate::print;
-use crate::report;
 use answer::Answer;
-use fields::Job;
-ghost use Prim.Native.Nat.{_≤_};
-ghost use lib.ListN.{length};
 
-// A record is read. The job that it gives is printed, and written again into as many bytes.
-pub fn read(record: &[u8]) -> bool {
-    if 1024 < record.len() {
-        return false;
+pub fn answer(letter: u8, data: &[u8]) {
+    if data.len() < 11 {
+        return;
     }
-    let reading = job::read(record);
-    let answer = reading.answer;
-    read_number(answer);
-    match answer {
-        Answer::Done => {
-            report::job(reading.job);
-            written(reading.job, record.len());
-        }
+    let room = wire::be16(data, 0) as usize;
+    let length = wire::be32(data, 3) as usize;
+    let first = wire::be16(data, 7) as usize;
+    let second = wire::be16(data, 9) as usize;
+    cut(letter, data[2], length, room, &data[11..], first, second);
+}
+
+fn cut(
+    letter: u8,
+    fill: u8,
+    length: usize,
+    room: usize,
+    parts: &[u8],
+    first: usize,
+    second: usize,
+) {
+    if parts.len() < first {
+        return;
+    }
+    let rest = &parts[first..];
+    if rest.len() < second || 8192 < room {
+        return;
+    }
+    let mut buffer = [fill; 8192];
+    call(
+        letter,
+        fill,
+        length,
+        &parts[0..first],
+        &rest[0..second],
+        &rest[second..],
+        &mut buffer[0..room],
+    );
+}
+
+fn call(
+    letter: u8,
+    fill: u8,
+    length: usize,
+    job: &[u8],
+    catalogue: &[u8],
+    list: &[u8],
+    out: &mut [u8],
+) {
+    match letter {
+        b'r' => jobs::read(job, out),
+        b'w' => jobs::write(job, out),
+        b'c' => copy(job, out),
+        b'a' => alpha(job),
+        b'f' => flow(job, out),
+        b'p' => rate(job, catalogue, list, out),
+        b's' => sheet(job, length, out),
+        b'l' | b'k' => choose(letter, fill, length, job, catalogue, out),
         _ => {}
     }
-    true
 }
 
-// A job is written into as many bytes as its line says. The fields before the slots take 37 bytes, each slot ten.
-pub fn write(raw: &[u8]) -> bool {
-    if raw.len() < 37 || 667 < raw.len() || raw.len() % 10 != 7 {
-        return false;
-    }
-    let room = room_of(raw);
-    if 1000 < room {
-        return false;
-    }
-    written(job_of(raw), room);
-    true
-}
-
-// A record is copied into as many bytes as its line says.
-pub fn copy(raw: &[u8]) -> bool {
-    if raw.len() < 2 {
-        return false;
-    }
-    let room = room_of(raw);
-    if 1000 < room {
-        return false;
-    }
-    copied(&raw[2..], room);
-    true
+fn copy(record: &[u8], out: &mut [u8]) {
+    let answer = job::copy(record, out);
+    print::given(answer, out);
 }
 
 // The coefficient of an m of four bytes.
-pub fn alpha(raw: &[u8]) -> bool {
-    if raw.len() != 4 {
-        return false;
-    }
-    let table = coefficient::table2();
-    report::number(b"alpha", coefficient::alpha(&table, wire::be32(raw, 0)));
-    true
-}
-
-// The flows of a job are put into as many bytes as its line says.
-pub fn flow(raw: &[u8]) -> bool {
-    if raw.len() < 2 {
-        return false;
-    }
-    let room = room_of(raw);
-    if 1000 < room {
-        return false;
-    }
-    flowed(&raw[2..], room);
-    true
-}
-
-// A job is rated into as many bytes as its line says.
-pub fn rate(size: &[u8], record: &[u8], catalogue: &[u8], list: &[u8]) -> bool {
-    if size.len() != 2 {
-        return false;
-    }
-    let room = room_of(size);
-    if 1000 < room {
-        return false;
-    }
-    rated(record, catalogue, list, room);
-    true
-}
-
-fn room_of(raw: &[u8]) -> usize
-    requires { ⌜ 2 ≤ length (now raw) ⌝ }
-{
-    wire::be16(raw, 0) as usize
-}
-
-// Behind the two bytes of the room the fields are laid out as a record's from byte 5 on, so they are put there.
-// All 63 slots are taken, whatever the number of sections says.
-fn job_of(raw: &[u8]) -> Job
-    requires { ⌜ length (now raw) ≤ 667 ⌝ }
-{
-    let mut record = [0u8; 670];
-    wire::put(&mut record, 3, raw);
-    let head = record::header_of(&record);
-    record[6] = 63;
-    let all = record::job_of(&record);
-    let residents = all.residents;
-    let sections = all.sections;
-    Job {
-        header: head,
-        residents,
-        sections,
+fn alpha(m: &[u8]) {
+    if m.len() == 4 {
+        let table = coefficient::table2();
+        print::number(coefficient::alpha(&table, wire::be32(m, 0)));
     }
 }
 
-// A buffer is filled beforehand, so that it shows which bytes the call has left alone.
-fn filled() -> [u8; 1024] {
-    [0xa5u8; 1024]
+fn flow(record: &[u8], out: &mut [u8]) {
+    let answer = flow::flow(record, out);
+    print::given(answer, out);
 }
 
-fn written(job: Job, room: usize)
-    requires { ⌜ room ≤ 1024 ⌝ }
-{
-    let mut buffer = filled();
-    write_into(job, &mut buffer[0..room]);
+fn rate(record: &[u8], catalogue: &[u8], list: &[u8], out: &mut [u8]) {
+    let answer = rating::rate(record, catalogue, list, out);
+    print::given(answer, out);
 }
 
-fn write_into(job: Job, buffer: &mut [u8]) {
-    let answer = job::write(job, buffer);
-    buffer_line(b"write", answer, buffer);
+// The value of a call is not written out in the proofs of its callers, so the longest arrays have functions of their own.
+fn blank() -> [u8; 131072] {
+    [0u8; 131072]
 }
 
-fn copied(record: &[u8], room: usize)
-    requires { ⌜ room ≤ 1024 ⌝ }
-{
-    let mut buffer = filled();
-    copy_into(record, &mut buffer[0..room]);
+// The text of the sheet of an input that ends in so many zero bytes.
+fn sheet(front: &[u8], zeros: usize, out: &mut [u8]) {
+    let mut input = blank();
+    if input.len() < front.len() {
+        return;
+    }
+    wire::put(&mut input, 0, front);
+    if input.len() - front.len() < zeros {
+        return;
+    }
+    let n = sheet_text::sheet(&input[0..front.len() + zeros], out);
+    if n <= out.len() {
+        print::hex(&out[0..n]);
+    }
 }
 
-fn copy_into(record: &[u8], buffer: &mut [u8]) {
-    let answer = job::copy(record, buffer);
-    buffer_line(b"copy", answer, buffer);
+// The most bytes of workspace that any job needs.
+fn workspace(fill: u8) -> [u8; 1792256] {
+    [fill; 1792256]
 }
 
-fn flowed(record: &[u8], room: usize)
-    requires { ⌜ room ≤ 1024 ⌝ }
-{
-    let mut buffer = filled();
-    flow_into(record, &mut buffer[0..room]);
+fn choose(letter: u8, fill: u8, length: usize, job: &[u8], catalogue: &[u8], out: &mut [u8]) {
+    if 1792256 < length {
+        return;
+    }
+    let mut work = workspace(fill);
+    choose_in(letter, fill, job, catalogue, &mut work[0..length], out);
 }
 
-fn flow_into(record: &[u8], buffer: &mut [u8]) {
-    let answer = flow::flow(record, buffer);
-    buffer_line(b"flow", answer, buffer);
+// Of a line `k`, where several lists are equally cheap, only the cost is shown. After a result and after 16 the workspace is free.
+fn choose_in(letter: u8, fill: u8, job: &[u8], catalogue: &[u8], work: &mut [u8], out: &mut [u8]) {
+    let answer = choosing::choose(job, catalogue, work, out);
+    if letter == b'k' && 4 <= out.len() {
+        print::given(answer, &out[0..4]);
+    } else {
+        print::given(answer, out);
+    }
     match answer {
-        Answer::Done => {
-            figures(buffer, sections_of(record));
+        Answer::Done | Answer::NoSuitableList => {}
+        _ => kept(work, fill),
+    }
+}
+
+// 01 where the workspace is as it was, else 00.
+fn kept(work: &[u8], fill: u8) {
+    print::byte(b' ');
+    let same = [holds_only(work, fill) as u8];
+    print::hex(&same);
+}
+
+fn holds_only(bytes: &[u8], fill: u8) -> bool {
+    let mut i: usize = 0;
+    while i < bytes.len() {
+        if bytes[i] != fill {
+            return false;
         }
-        _ => {}
+        i += 1;
     }
-}
-
-fn rated(record: &[u8], catalogue: &[u8], list: &[u8], room: usize)
-    requires { ⌜ room ≤ 1024 ⌝ }
-{
-    let mut buffer = filled();
-    rate_into(record, catalogue, list, &mut buffer[0..room]);
-}
-
-fn rate_into(record: &[u8], catalogue: &[u8], list: &[u8], buffer: &mut [u8]) {
-    let answer = rating::rate(record, catalogue, list, buffer);
-    buffer_line(b"rate", answer, buffer);
-    match answer {
-        Answer::Done => {
-            ratings(buffer, sections_of(record));
-        }
-        _ => {}
-    }
-}
-
-// The section count of a record, or 0 where it has none.
-fn sections_of(record: &[u8]) -> u8 {
-    if record.len() < 7 {
-        return 0;
-    }
-    record[6]
-}
-
-// A flow result in numbers; nothing where the buffer is too short for it.
-fn figures(result: &[u8], sections: u8) {
-    let end = 12 + 4 * (sections as usize);
-    if end <= result.len() {
-        report::numbers(b"house", &result[0..12]);
-        report::numbers(b"flows", &result[12..end]);
-    }
-}
-
-// The same of a rating result.
-fn ratings(result: &[u8], sections: u8) {
-    let end = 9 + 6 * (sections as usize);
-    if end <= result.len() {
-        report::heads(result);
-        report::rated(&result[9..end]);
-    }
-}
-
-fn buffer_line(call: &[u8], answer: Answer, buffer: &[u8]) {
-    let mut out = [0u8; 4096];
-    let at = print::text(&mut out, 0, call);
-    let at = print::number(&mut out, at, number_of(answer));
-    let at = print::hex(&mut out, at, buffer);
-    print::end(&mut out, at);
-}
-
-fn number_of(answer: Answer) -> u64 {
-    answer::number(answer) as u64
-}
-
-fn read_number(answer: Answer) {
-    let mut out = [0u8; 4096];
-    let at = print::text(&mut out, 0, b"read");
-    let at = print::number(&mut out, at, number_of(answer));
-    print::end(&mut out, at);
+    true
 }

@@ -1,14 +1,11 @@
-// The lines of the input, and what each asks for. A line is collected in a buffer of its own, since a chunk may end
-// inside it. `used` counts the line's bytes so far; 16,385 stands for any number that the buffer has no room for.
+// The lines of the input: a letter, then pairs of hex digits. What is no digit, as a space, does not count. The letter and the
+// bytes of the pairs are collected in `line`; `used` counts letter and digits, 0 at the start of a line.
 use crate::calls;
-use crate::hex;
-use crate::parts;
 use crate::print;
-use crate::sheets;
 use libc::STDIN_FILENO;
 
 // Answers the lines that end in the next chunk of input; false where there is none.
-pub fn take_chunk(line: &mut [u8; 16384], used: &mut usize) -> bool {
+pub fn take_chunk(line: &mut [u8; 8192], used: &mut usize) -> bool {
     let mut chunk = io::large_buffer();
     let n = io::read_full(STDIN_FILENO, &mut chunk);
     if n == 0 {
@@ -19,7 +16,7 @@ pub fn take_chunk(line: &mut [u8; 16384], used: &mut usize) -> bool {
     true
 }
 
-fn take_bytes(bytes: &[u8], line: &mut [u8; 16384], before: usize) -> usize {
+fn take_bytes(bytes: &[u8], line: &mut [u8; 8192], before: usize) -> usize {
     let mut used = before;
     let mut i: usize = 0;
     while i < bytes.len() {
@@ -29,74 +26,51 @@ fn take_bytes(bytes: &[u8], line: &mut [u8; 16384], before: usize) -> usize {
     used
 }
 
-fn take_byte(b: u8, line: &mut [u8; 16384], used: usize) -> usize {
+// A comment is printed as it comes. Digits past the buffer do not count.
+fn take_byte(b: u8, line: &mut [u8; 8192], used: usize) -> usize {
     if b == b'\n' {
-        take_line(line, used);
+        take_line(line, used / 2);
+        print::byte(b);
         return 0;
     }
-    if used < 16384 {
-        line[used] = b;
-        return used + 1;
-    }
-    16385
-}
-
-fn take_line(line: &[u8], used: usize) {
-    if used <= line.len() {
-        answer(&line[0..used]);
-    } else {
-        print::line(b"too long");
-    }
-}
-
-// A last line that has no line end.
-pub fn take_rest(line: &[u8; 16384], used: usize) {
-    if 0 < used {
-        take_line(line, used);
-    }
-}
-
-fn answer(line: &[u8]) {
-    if line.len() == 0 {
-        return unknown();
+    if used == 0 {
+        line[0] = b;
     }
     if line[0] == b'#' {
-        return print::line(line);
+        print::byte(b);
+        return 1;
     }
-    if line.len() < 2 {
-        return unknown();
+    if used == 0 {
+        return 1;
     }
-    if line[1] != b' ' {
-        return unknown();
+    take_digit(value(b), line, used)
+}
+
+// A digit goes into the lower half of its byte. What was there before goes to the upper half, and out of it with the next digit.
+fn take_digit(x: u8, line: &mut [u8; 8192], used: usize) -> usize {
+    if 15 < x {
+        return used;
     }
-    let known = match line[0] {
-        b'p' | b'l' | b'k' => parts::four(line[0], &line[2..]),
-        b's' => sheets::sheet(&line[2..]),
-        _ => vector(line[0], &line[2..]),
-    };
-    if !known {
-        unknown();
+    if 16382 < used {
+        return used;
+    }
+    let at = (used + 1) / 2;
+    line[at] = line[at] % 16 * 16 + x;
+    used + 1
+}
+
+// The letter asks for a call of the bytes that follow it.
+fn take_line(line: &[u8], count: usize) {
+    if count < line.len() {
+        calls::answer(line[0], &line[1..count + 1]);
     }
 }
 
-// What the line's letter asks of the bytes that its digits stand for, which are fewer than 8,192.
-// False where the line is none of these.
-fn vector(letter: u8, digits: &[u8]) -> bool {
-    if !hex::whole(digits) {
-        return false;
+// What a digit stands for; 16 for any other byte.
+fn value(digit: u8) -> u8 {
+    match digit {
+        b'0'..=b'9' => digit - b'0',
+        b'a'..=b'f' => digit - b'a' + 10,
+        _ => 16,
     }
-    let mut bytes = [0u8; 8192];
-    let n = hex::decode(digits, &mut bytes);
-    match letter {
-        b'r' => calls::read(&bytes[0..n]),
-        b'w' => calls::write(&bytes[0..n]),
-        b'c' => calls::copy(&bytes[0..n]),
-        b'a' => calls::alpha(&bytes[0..n]),
-        b'f' => calls::flow(&bytes[0..n]),
-        _ => false,
-    }
-}
-
-fn unknown() {
-    print::line(b"unknown line");
 }

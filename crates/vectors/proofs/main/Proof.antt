@@ -14,4 +14,4 @@ pub main-spec : {M : Type 1} → statement M
 main-spec =
     tie.close
     (tie.spec Inv-loop μ-loop (λ c. search needs) (λ c. search needs) (λ c κs. search needs) (λ c. search needs) (λ c. search needs)
-    (λ c. search needs) (λ c. search needs) (λ c κs. search needs) (λ c. search needs))
+    (λ c. search needs) (λ c. search needs) (λ c. search needs))

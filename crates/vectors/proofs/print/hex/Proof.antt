@@ -7,13 +7,13 @@ use Rattle.vectors.proofs.print.hex.Statement.{statement}
 use Rattle.vectors.proofs.print.hex.Tie as tie
 
 abbrev Inv-loop : tie.InvT-loop
-Inv-loop out₀ from bytes at₀ i₀ out at i = i ≤ length bytes
+Inv-loop bytes i₀ i = i ≤ length bytes
 
 abbrev μ-loop : tie.MeasureT-loop
-μ-loop out₀ from bytes at₀ i₀ out at i = length bytes - i
+μ-loop bytes i₀ i = length bytes - i
 
 pub hex-spec : {M : Type 1} → statement M
 hex-spec =
     tie.close
-    (tie.spec Inv-loop μ-loop (λ c κs. search needs) (λ c. search needs) (λ c. search needs) (λ c κs. search needs) (λ c. search needs)
+    (tie.spec Inv-loop μ-loop (λ c. search needs) (λ c. search needs) (λ c κs. search needs) (λ c. search needs)
     (λ c. search needs) (λ c. search needs) (λ c. search needs))

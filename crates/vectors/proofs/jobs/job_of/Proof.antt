@@ -1,12 +1,12 @@
--- `vectors::calls::job_of` is safe and ends: byte 6 holds the number of slots that the record has room for.
+-- `vectors::jobs::job_of` is safe and ends: byte 6 holds the number of slots that the record has room for.
 -- Assumes nothing.
 use Prim.Native.Nat.{_<_}
 use native.Mathlib.Omega.{arith}
 use lib.ListN.{length, length-set}
 use lib.Seq.{getD-set-same}
 use borrow.Author.Needs.{needs}
-use Rattle.vectors.proofs.calls.job_of.Statement.{statement}
-use Rattle.vectors.proofs.calls.job_of.Tie as tie
+use Rattle.vectors.proofs.jobs.job_of.Statement.{statement}
+use Rattle.vectors.proofs.jobs.job_of.Tie as tie
 
 job-of-requires : tie.Need-job-of-requires
 job-of-requires c κs =

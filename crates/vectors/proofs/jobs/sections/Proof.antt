@@ -1,9 +1,9 @@
--- `vectors::report::sections` is safe and ends.
+-- `vectors::jobs::sections` is safe and ends.
 -- Assumes nothing.
 use Prim.Native.Nat.{_≤_, _-_}
 use borrow.Author.Needs.{needs}
-use Rattle.vectors.proofs.report.sections.Statement.{statement}
-use Rattle.vectors.proofs.report.sections.Tie as tie
+use Rattle.vectors.proofs.jobs.sections.Statement.{statement}
+use Rattle.vectors.proofs.jobs.sections.Tie as tie
 
 abbrev Inv-loop : tie.InvT-loop
 Inv-loop count sections i₀ i = i ≤ 64

@@ -1,10 +1,10 @@
--- `vectors::choices::holds_only` is safe and ends.
+-- `vectors::calls::holds_only` is safe and ends.
 -- Assumes nothing.
 use Prim.Native.Nat.{_≤_, _-_}
 use lib.ListN.{length}
 use borrow.Author.Needs.{needs}
-use Rattle.vectors.proofs.choices.holds_only.Statement.{statement}
-use Rattle.vectors.proofs.choices.holds_only.Tie as tie
+use Rattle.vectors.proofs.calls.holds_only.Statement.{statement}
+use Rattle.vectors.proofs.calls.holds_only.Tie as tie
 
 abbrev Inv-loop : tie.InvT-loop
 Inv-loop bytes fill i₀ i = i ≤ length bytes

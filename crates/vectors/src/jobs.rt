@@ -1,0 +1,105 @@
+// Jobs as fields: read, and written.
+use crate::print;
+use answer::Answer;
+use fields::Header;
+use fields::Job;
+use fields::Section;
+ghost use Prim.Native.Nat.{_≤_};
+ghost use lib.ListN.{length};
+
+// A record is read. The fields that it gives are printed, and written again.
+pub fn read(record: &[u8], out: &mut [u8]) {
+    let reading = job::read(record);
+    let answer = reading.answer;
+    print::number(answer::number(answer));
+    match answer {
+        Answer::Done => {
+            print::byte(b' ');
+            fields(reading.job);
+            print::byte(b' ');
+            written(reading.job, out);
+        }
+        _ => {}
+    }
+}
+
+// Fields are written.
+pub fn write(raw: &[u8], out: &mut [u8]) {
+    if raw.len() <= 665 {
+        written(job_of(raw), out);
+    }
+}
+
+// The fields stand as in a record from byte 5 on, with up to 63 slots. All 63 are taken, whatever the number of sections says.
+fn job_of(raw: &[u8]) -> Job
+    requires { ⌜ length (now raw) ≤ 665 ⌝ }
+{
+    let mut record = [0u8; 670];
+    wire::put(&mut record, 5, raw);
+    let head = record::head_of(&record);
+    record[6] = 63;
+    let all = record::job_of(&record);
+    let residents = all.residents;
+    let sections = all.sections;
+    Job {
+        header: head,
+        residents,
+        sections,
+    }
+}
+
+fn written(job: Job, out: &mut [u8]) {
+    let answer = job::write(job, out);
+    print::given(answer, out);
+}
+
+fn fields(job: Job) {
+    let count = job.header.sections;
+    let by_kind = job.residents;
+    let by_number = job.sections;
+    head(job.header);
+    residents(by_kind);
+    sections(by_number, count as usize);
+}
+
+fn head(h: Header) {
+    let first = [h.tenths, h.sections, h.hours];
+    print::hex(&first);
+    two(h.meter);
+    two(h.guaranteed);
+    two(h.delivered);
+    two(h.limit);
+}
+
+fn two(n: u16) {
+    let bytes = wire::bytes16(n);
+    print::hex(&bytes);
+}
+
+fn residents(residents: [u16; 12]) {
+    let mut c: usize = 0;
+    while c < 12 {
+        two(residents[c]);
+        c += 1;
+    }
+}
+
+fn section(s: Section) {
+    let first = [s.parent, s.kind];
+    print::hex(&first);
+    two(s.fixtures);
+    two(s.decimetres);
+    two(wire::bits16(s.elevation));
+    two(s.free);
+}
+
+// Sections 1 to count.
+fn sections(sections: [Section; 64], count: usize) {
+    let mut i: usize = 1;
+    while i < 64 {
+        if i <= count {
+            section(sections[i]);
+        }
+        i += 1;
+    }
+}
