@@ -36,7 +36,7 @@ fn job_of(raw: &[u8]) -> Job
 {
     let mut record = [0u8; 670];
     wire::put(&mut record, 5, raw);
-    let head = record::head_of(&record);
+    let head = record::header_of(&record);
     record[6] = 63;
     let all = record::job_of(&record);
     let residents = all.residents;
