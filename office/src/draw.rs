@@ -22,8 +22,8 @@ const SHORT: &str = "#b3261e";
 const FAINT: &str = "#5f6b76";
 const INK: &str = "#1c2329";
 
-/// The drawing of a rated house. `cost` is the cheapest list's, in tenths of the price unit, where one was chosen.
-pub fn draw(record: &Record, pipes: &[Pipe], rating: &Rating, cost: Option<u32>) -> String {
+/// The drawing of a rated house. `cost` is in tenths of the price unit.
+pub fn draw(record: &Record, pipes: &[Pipe], rating: &Rating, cost: u64) -> String {
     let places = layout::places(pipes);
     let (columns, rows) = layout::extent(&places);
     // Room for the heading over a small house.
@@ -51,12 +51,12 @@ fn missing(record: &Record, rating: &Rating) -> i64 {
 }
 
 /// Three lines above the drawing, and a fourth where the head is too little: an end marked SHORT may lie far from here.
-fn heading(svg: &mut Svg, record: &Record, rating: &Rating, cost: Option<u32>) {
+fn heading(svg: &mut Svg, record: &Record, rating: &Rating, cost: u64) {
     let (required, pump, guaranteed) = (rating.required, rating.pump, record.guaranteed);
     let heads = format!("required head {required} cm, pump head {pump} cm over the guaranteed {guaranteed} cm");
     svg.text(20, 28, 15, INK, "bold", &heads);
-    let bought = cost.map_or(String::new(), |cost| format!("; the pipes cost {}.{}", cost / 10, cost % 10));
-    let path = format!("dictating path, red and wide: pump to section {}{bought}", rating.dictating);
+    let bought = format!("the pipes cost {}.{}", cost / 10, cost % 10);
+    let path = format!("dictating path, red and wide: pump to section {}; {bought}", rating.dictating);
     svg.text(20, 48, 12, FAINT, "normal", &path);
     let left = format!("left: head left at an end when {} cm are delivered; needs: its free head", record.delivered);
     svg.text(20, 65, 12, FAINT, "normal", &left);

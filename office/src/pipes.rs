@@ -12,6 +12,8 @@ pub struct Pipe {
     pub size: u8,
     /// mm
     pub bore: u16,
+    /// Per metre.
+    pub price: u16,
     /// ml/s
     pub flow: u32,
     /// mm/s
@@ -23,6 +25,13 @@ pub struct Pipe {
     pub left: i64,
     /// Whether the section lies between the pump and the dictating end.
     pub dictating: bool,
+}
+
+impl Pipe {
+    /// In tenths of the price unit: the price is per metre, the length in dm.
+    pub fn cost(&self) -> u64 {
+        u64::from(self.price) * u64::from(self.section.length)
+    }
 }
 
 /// The pipes of a house, section 1 first. The job, the catalogue and the sizes are ones that the library has rated; if the
@@ -41,11 +50,13 @@ pub fn pipes(job: &[u8], cat: &[u8], sizes: &[u8], flow: &Flow, rating: &Rating)
         };
         paths.push(above + i64::from(rated.loss));
         let size = *sizes.get(place)?;
+        let of_table = catalogue.size(size)?;
         pipes.push(Pipe {
             number,
             section: *section,
             size,
-            bore: catalogue.size(size)?.bore,
+            bore: of_table.bore,
+            price: of_table.price,
             flow: *flow.flows.get(place)?,
             velocity: rated.velocity,
             loss: rated.loss,

@@ -20,7 +20,7 @@ fn drawn(job: &[u8]) -> (String, usize) {
     let flow = calls::flow(job).unwrap_or_else(|refusal| panic!("{refusal}"));
     let rating = calls::rate(job, &cat, &sizes).unwrap_or_else(|refusal| panic!("{refusal}"));
     let pipes = pipes(job, &cat, &sizes, &flow, &rating).expect("the answers are this house's");
-    (draw(&record, &pipes, &rating, Some(u32::MAX)), pipes.len())
+    (draw(&record, &pipes, &rating, u64::from(u32::MAX)), pipes.len())
 }
 
 /// A house of 63 sections, each with fixtures, hung as `parent` says.
