@@ -8,11 +8,12 @@ pub const LONGEST: usize = 200;
 
 /// A text with its hidden characters written out, cut at [`LONGEST`].
 pub fn shown(text: &str) -> String {
-    let mut out = escaped(text.chars().take(LONGEST));
-    if text.chars().nth(LONGEST).is_some() {
-        out.push_str("...");
+    // Writing characters out makes a text longer and never shorter.
+    let whole = escaped(text.chars().take(LONGEST + 1));
+    match whole.char_indices().nth(LONGEST) {
+        Some((at, _)) => format!("{}...", &whole[..at]),
+        None => whole,
     }
-    out
 }
 
 /// Characters with the hidden ones written out.

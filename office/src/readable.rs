@@ -83,16 +83,15 @@ fn unreadable(number: usize, line: &[u8]) -> Option<Mistake> {
         return mistake(at, "a carriage return alone", expected);
     }
     let said = line.split(|byte| *byte == b'#').next().unwrap_or(line);
-    let text = match std::str::from_utf8(said) {
-        Ok(text) => text,
-        Err(why) => {
-            return mistake(why.valid_up_to(), "no UTF-8: an older code page (cp1251, cp866), or no text", LEADS_OUT);
-        }
-    };
+    let whole = std::str::from_utf8(said).map_err(|why| why.valid_up_to());
+    let front = whole.err().unwrap_or(said.len());
+    let text = std::str::from_utf8(&said[..front]).unwrap_or("");
     let control = |c: char| (c.is_control() && c != '\t' && c != '\u{c}') || matches!(c, '\u{2028}' | '\u{2029}');
-    text.char_indices()
-        .find(|(_, c)| control(*c))
-        .and_then(|(at, _)| mistake(at, "no letter but a control character", LEADS_OUT))
+    match (text.char_indices().find(|(_, c)| control(*c)), whole) {
+        (Some((at, _)), _) => mistake(at, "no letter but a control character", LEADS_OUT),
+        (None, Err(at)) => mistake(at, "no UTF-8: an older code page (cp1251, cp866), or no text", LEADS_OUT),
+        (None, Ok(_)) => None,
+    }
 }
 
 /// A line that says something.
