@@ -15,6 +15,7 @@ mod refused;
 mod report;
 mod trials;
 
+use crate::closed;
 use arguments::Arguments;
 use outcome::{Misuse, Outcome};
 use std::ffi::OsString;
@@ -43,6 +44,9 @@ pub fn run(words: &[OsString]) -> ExitCode {
 fn said(output: &[u8]) -> std::io::Result<()> {
     if output.is_empty() {
         return Ok(());
+    }
+    if closed::output_was_closed() {
+        return Err(std::io::Error::other("it is closed"));
     }
     let mut out = std::io::stdout().lock();
     out.write_all(output).and_then(|()| out.flush())

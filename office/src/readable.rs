@@ -78,6 +78,12 @@ fn unreadable(number: usize, line: &[u8]) -> Option<Mistake> {
         let wrong = format!("byte {} of the line, {:02X}, is {what}", at + 1, line[at]);
         Some(Mistake::on(number, &String::from_utf8_lossy(line), wrong, expected))
     };
+    if line.len() > LONGEST_LINE {
+        let wrong = format!("the line has {} bytes", line.len());
+        // Of a long line only its start is for the message; the rest is not looked at.
+        let start = String::from_utf8_lossy(&line[..LONGEST_LINE]);
+        return Some(Mistake::on(number, &start, wrong, "at most 10000 bytes in a line"));
+    }
     if let Some(at) = line.iter().position(|byte| *byte == b'\r') {
         let expected = "lines that all end alike: to one program it ends a line, to another it doesn't";
         return mistake(at, "a carriage return alone", expected);
@@ -114,21 +120,13 @@ pub fn lines(text: &str) -> impl Iterator<Item = Said<'_>> {
 }
 
 impl Said<'_> {
-    /// A line that is too long to be one, or a sign for comments that may be part of a word.
+    /// A sign for comments that may be part of a word.
     pub fn fault(&self) -> Option<Mistake> {
-        let mistake = |wrong: String, expected: &str| Some(Mistake::on(self.number, self.text, wrong, expected));
-        if self.text.len() > LONGEST_LINE {
-            return mistake(format!("the line has {} bytes", self.text.len()), "at most 10000 bytes in a line");
-        }
         let behind = self.text[self.said.len()..].chars().nth(1);
         let word = self.said.chars().last().is_some_and(char::is_alphanumeric);
-        if word && behind.is_some_and(char::is_alphanumeric) {
-            return mistake(
-                "`#` stands within a word".to_string(),
-                "a blank before a comment; no # in a name or number",
-            );
-        }
-        None
+        let within = word && behind.is_some_and(char::is_alphanumeric);
+        let expected = "a blank before a comment; no # in a name or number";
+        within.then(|| Mistake::on(self.number, self.text, "`#` stands within a word", expected))
     }
 }
 

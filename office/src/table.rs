@@ -11,7 +11,7 @@ mod sizes;
 use crate::at::Lines;
 use crate::catalogue::{Catalogue, NoCatalogue};
 use crate::mistake::{Mistake, Mistakes};
-use crate::readable::{self, Said};
+use crate::readable;
 use cells::Cells;
 use odd::Odd;
 
@@ -56,12 +56,12 @@ pub fn pack(text: &str) -> Result<Vec<u8>, Mistakes> {
 /// The catalogue of a readable table, and where each row stands in the text; or all that is wrong with it.
 pub fn read(text: &str) -> Result<Packed, Mistakes> {
     let mut mistakes = Mistakes::default();
-    let said: Vec<Said> = readable::lines(text).collect();
-    said.iter().filter_map(Said::fault).for_each(|fault| mistakes.add(fault));
-    let said = mistakes.none(said)?;
-    let (separator, from) = cells::separator(&said)?;
+    readable::lines(text).filter_map(|said| said.fault()).for_each(|fault| mistakes.add(fault));
+    mistakes.none(())?;
+    let (separator, from) = cells::separator(text)?;
     // A line of nothing but separators is empty: spreadsheets fill short lines up with empty cells.
-    let mut lines = said[from..].iter().map(|said| Cells::of(said, separator)).filter(Cells::says).peekable();
+    let lines = readable::lines(text).skip(from).map(|said| Cells::of(&said, separator));
+    let mut lines = lines.filter(Cells::says).peekable();
     let mut odd = Odd::default();
     while let Some(line) = lines.next_if(odd::knows) {
         odd.take(&line)?;

@@ -150,11 +150,13 @@ impl File<'_> {
             return Ok(bytes);
         }
         let text = readable::text(&bytes).map_err(|found| Misuse::Mistakes(name.clone(), found))?;
-        let said: Vec<readable::Said> = readable::lines(&text).collect();
-        if let Some(fault) = said.iter().find_map(readable::Said::fault) {
-            return Err(Misuse::Mistakes(name, fault.into()));
+        let mut found = Vec::new();
+        for line in readable::lines(&text) {
+            if let Some(fault) = line.fault() {
+                return Err(Misuse::Mistakes(name, fault.into()));
+            }
+            found.extend(numbers(line.said)?);
         }
-        let found = numbers(&said.iter().map(|line| line.said).collect::<Vec<_>>().join("\n"))?;
         match found.is_empty() {
             false => Ok(found),
             true => Err(Misuse::Words(format!(

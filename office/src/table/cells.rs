@@ -3,7 +3,7 @@
 use super::{header, odd};
 use crate::measure::Measure;
 use crate::mistake::Mistake;
-use crate::readable::Said;
+use crate::readable::{self, Said};
 
 /// A line that says something, parted at its separators.
 pub struct Cells<'a> {
@@ -25,20 +25,20 @@ pub fn named_separator(said: &Said) -> Option<Option<char>> {
     Some(separator.filter(|_| rest.as_str().is_empty()))
 }
 
-/// The one separator of a file, and the line from which it is a table. The separator is what a first line `sep=;` names, or
+/// The one separator of a file, and how many lines stand before the table. The separator is what a first line `sep=;` names, or
 /// what parts the header into its six columns: whoever took another one too would read one number as two.
-pub fn separator(said: &[Said]) -> Result<(char, usize), Mistake> {
-    if let Some(first) = said.first()
-        && let Some(named) = named_separator(first)
+pub fn separator(text: &str) -> Result<(char, usize), Mistake> {
+    if let Some(first) = readable::lines(text).next()
+        && let Some(named) = named_separator(&first)
     {
-        let line = Cells::of(first, ',');
+        let line = Cells::of(&first, ',');
         let expected = "`sep=;`, `sep=,` or `sep=` and a tab, or no such line";
         return named.map(|c| (c, 1)).ok_or_else(|| line.mistake("`sep=` names no separator of a table", expected));
     }
     let known =
-        |said: &&Said| !SEPARATORS.iter().any(|(c, _)| odd::knows(&Cells::of(said, *c)) || !Cells::of(said, *c).says());
-    let Some(line) = said.iter().find(known) else { return Ok((',', 0)) };
-    let whole = SEPARATORS.iter().find(|(c, _)| header::complete(&Cells::of(line, *c)));
+        |said: &Said| !SEPARATORS.iter().any(|(c, _)| odd::knows(&Cells::of(said, *c)) || !Cells::of(said, *c).says());
+    let Some(line) = readable::lines(text).find(known) else { return Ok((',', 0)) };
+    let whole = SEPARATORS.iter().find(|(c, _)| header::complete(&Cells::of(&line, *c)));
     // A header with a mistake in it is read by the first separator that it has, so that the mistake can be named.
     let found = whole.or_else(|| SEPARATORS.iter().find(|(c, _)| line.said.contains(*c)));
     Ok((found.map_or(',', |(c, _)| *c), 0))

@@ -150,13 +150,13 @@ impl Part {
         if bare && self.lines.len() == 1 {
             return Ok(());
         }
-        if self.size.rows.len() + 1 != self.lines.len() {
-            let wrong = format!("size {size} has a line without flow, velocity and slope before this one");
-            return Err(row.line.mistake(wrong, "a size without rows has one line only"));
-        }
         if self.size.rows.len() == 255 {
             let wrong = format!("size {size} has more rows than the count's byte holds");
             return Err(row.line.mistake(wrong, "2 to 64 rows"));
+        }
+        if self.size.rows.len() + 1 != self.lines.len() {
+            let wrong = format!("size {size} has a line without flow, velocity and slope before this one");
+            return Err(row.line.mistake(wrong, "a size without rows has one line only"));
         }
         self.size.rows.push(Row {
             flow: row.noted(3, mistakes) as u32,
