@@ -2,9 +2,10 @@
 
 use crate::calls::{Flow, Rating};
 use crate::catalogue::Catalogue;
+use crate::places::{gentlest, reading};
 use crate::record::{Record, Section};
 
-/// One section with its size.
+/// One section with its size. Where no size serves it, its size is 0.
 #[derive(Clone, Debug, PartialEq, Eq)]
 pub struct Pipe {
     pub number: u8,
@@ -65,6 +66,31 @@ pub fn pipes(job: &[u8], cat: &[u8], sizes: &[u8], flow: &Flow, rating: &Rating)
         });
     }
     Some(pipes)
+}
+
+/// The pipes of a house for which no list of sizes suits: each section with the size of the least loss that serves it. Without
+/// a size for each there is no rating, so losses and heads are 0 and not to be shown.
+pub fn sketch(job: &[u8], cat: &[u8], flow: &Flow) -> Option<Vec<Pipe>> {
+    let record = Record::read(job).ok()?;
+    let catalogue = Catalogue::read(cat).ok()?;
+    let sizes = gentlest(&record, &catalogue, &flow.flows);
+    let pipes = record.numbered().zip(sizes).zip(&flow.flows).map(|(((number, section), size), flow)| {
+        let of_table = size.and_then(|size| catalogue.size(size));
+        let velocity = of_table.and_then(|size| reading(size, *flow)).map_or(0, |reading| reading.velocity as u16);
+        Pipe {
+            number,
+            section: *section,
+            size: size.unwrap_or(0),
+            bore: of_table.map_or(0, |size| size.bore),
+            price: of_table.map_or(0, |size| size.price),
+            flow: *flow,
+            velocity,
+            loss: 0,
+            left: 0,
+            dictating: false,
+        }
+    });
+    Some(pipes.collect())
 }
 
 /// The sections from an end back to the pump.

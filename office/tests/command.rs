@@ -275,3 +275,22 @@ fn a_drawing_is_drawn_for_the_cheapest_and_for_a_given_list() {
     let wide = std::fs::read_to_string(&kept).expect("written");
     assert!(drawn.text().starts_with("<?xml") && wide.starts_with("<?xml") && wide != drawn.text());
 }
+
+#[test]
+fn where_no_list_suits_there_is_a_drawing_all_the_same() {
+    for (from, to, title) in [
+        ("velocity limit  1500 mm/s", "velocity limit 400 mm/s", ": NO SIZE SERVES</title>"),
+        ("delivered head  1800 cm", "delivered head 1500 cm", ": TOO LITTLE HEAD</title>"),
+    ] {
+        let text = read(HOUSE).replacen(from, to, 1);
+        let drawn = office_with(&["draw", "-", TABLE], text.as_bytes());
+        assert_eq!(drawn.status, 1);
+        assert!(drawn.text().starts_with("<?xml") && drawn.text().contains(title), "{}", drawn.text());
+        assert!(drawn.error.contains("refused 16: "), "{}", drawn.error);
+        let chosen = office_with(&["choose", "-", TABLE], text.as_bytes());
+        assert!(chosen.status == 1 && chosen.text().starts_with("refused 16: "), "{}", chosen.text());
+        let kept = scratch("unsuitable.svg");
+        assert_eq!(office_with(&["draw", "-", TABLE, "-o", &kept], text.as_bytes()).status, 1);
+        assert_eq!(std::fs::read(&kept).expect("written"), drawn.output);
+    }
+}

@@ -90,7 +90,8 @@ JOB is a readable house or a job record, CAT a readable table or a catalogue. Th
         text: "\
 JOB, CAT and SIZES as for `rate`; without SIZES a cheapest list is drawn. The pump is at the left. Each pipe has its number,
 bore, size and length above it, flow, velocity and loss below it, and the head left at its end against the free head. The
-dictating path is red and wide.",
+dictating path is red and wide. Where no list suits (refusal 16, status 1) the house is drawn all the same, and the refusal
+stands on standard error.",
     },
     Command {
         name: "soak",

@@ -8,6 +8,7 @@ use super::outcome::{Misuse, Outcome};
 use super::rating::Rated;
 use super::refused::Given;
 use super::report::{self, Fields};
+use office::pipes::sketch;
 use office::record::Record;
 use office::{Flow, Refusal, calls, draw as drawing, kinds};
 
@@ -90,9 +91,23 @@ pub fn draw(arguments: &Arguments) -> Result<Outcome, Misuse> {
     let given = Given { job: Some(&job), cat: Some(&cat), sizes: sizes.as_deref().unwrap_or(&[]) };
     let rated = if sizes.is_some() { Rated::with_sizes(&given) } else { Rated::chosen(&given) };
     match rated {
-        Ok(rated) => report::answer(arguments, &given, Vec::new, || {
-            drawing::draw(&rated.record, &rated.pipes, &rated.rating, rated.cost).into_bytes()
-        }),
+        Ok(rated) => report::answer(arguments, &given, Vec::new, || rated.drawing().into_bytes()),
+        Err(why) if why == Refusal::NoSuitableList => {
+            let drawn = unsuitable(&given).unwrap_or_default();
+            Ok(report::all_the_same(arguments, &given, &why, Vec::new(), drawn.into_bytes()))
+        }
         Err(why) => Ok(report::refusal(arguments, &why, &given)),
+    }
+}
+
+/// The drawing of a house for which no list suits: with the sizes of the least losses, or, where some section has none at
+/// all, without heads.
+fn unsuitable(given: &Given) -> Option<String> {
+    let (job, cat) = (given.job?, given.cat?);
+    let pipes = sketch(&job.bytes, &cat.bytes, &calls::flow(&job.bytes).ok()?)?;
+    let sizes: Vec<u8> = pipes.iter().map(|pipe| pipe.size).collect();
+    match Rated::with_sizes(&Given { sizes: &sizes, ..*given }) {
+        Ok(rated) => Some(rated.drawing()),
+        Err(_) => Some(drawing::sketch(&Record::read(&job.bytes).ok()?, &pipes)),
     }
 }

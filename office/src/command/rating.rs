@@ -8,7 +8,7 @@ use super::refused::Given;
 use super::report::Fields;
 use office::pipes::{Pipe, pipes};
 use office::record::Record;
-use office::{Flow, Rating, Refusal, calls, kinds};
+use office::{Flow, Rating, Refusal, calls, draw, kinds};
 
 pub struct Rated {
     pub record: Record,
@@ -47,6 +47,10 @@ impl Rated {
     /// How many cm of the delivered head are left over; fewer than none where it is too little.
     fn spare(&self) -> i64 {
         i64::from(self.record.delivered) - i64::from(self.rating.required)
+    }
+
+    pub fn drawing(&self) -> String {
+        draw::draw(&self.record, &self.pipes, &self.rating, self.cost)
     }
 
     pub fn fields(&self) -> Fields {
