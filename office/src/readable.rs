@@ -45,8 +45,11 @@ pub fn text(bytes: &[u8]) -> Result<String, Mistakes> {
     let end = if bytes.contains(&b'\n') { b'\n' } else { b'\r' };
     let mut mistakes = Mistakes::default();
     let mut text = String::with_capacity(bytes.len());
+    let lines: usize = 1 + bytes.iter().filter(|byte| **byte == end).count();
     for (place, line) in bytes.split(|byte| *byte == end).enumerate() {
-        let line = if end == b'\n' { line.strip_suffix(b"\r").unwrap_or(line) } else { line };
+        // Behind the last newline there is no line end that a carriage return could belong to.
+        let ended = end == b'\n' && place + 1 < lines;
+        let line = if ended { line.strip_suffix(b"\r").unwrap_or(line) } else { line };
         if let Some(mistake) = unreadable(place + 1, line) {
             mistakes.add(mistake);
         }
@@ -112,7 +115,6 @@ pub struct Said<'a> {
 
 /// The lines that are not blank without their comments.
 pub fn lines(text: &str) -> impl Iterator<Item = Said<'_>> {
-    let text = text.strip_prefix('\u{feff}').unwrap_or(text);
     text.lines().enumerate().filter_map(|(place, text)| {
         let said = text.split('#').next().unwrap_or("");
         (!said.trim().is_empty()).then_some(Said { number: place + 1, text, said })

@@ -143,7 +143,6 @@ fn what_is_forgiven() {
         ("kind hotel-75", "kind 7"),
         ("residents hotel-75", "Residents  HOTEL-75"),
         ("hours 24", "  hours 24   # all day"),
-        ("# document", "\u{feff}# document"),
         ("hours 24", "version 1\nhours 24\nstated length 50 bytes"),
     ] {
         assert_eq!(house::pack(&OWN.replacen(from, to, 1)).as_ref(), Ok(&plain), "{to}");

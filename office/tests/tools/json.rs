@@ -1,4 +1,5 @@
-//! A small reader of JSON: it takes nothing that JSON does not.
+//! A small reader of JSON: it takes nothing that JSON does not. Not every test needs all of it.
+#![allow(dead_code)]
 
 use std::collections::BTreeMap;
 
