@@ -145,3 +145,28 @@ fn a_record_that_is_damaged_in_its_first_byte_is_read_where_that_is_said() {
     let unclear = office_with(&["choose", "-", TABLE, "--record"], &job);
     assert!(unclear.status == 2 && unclear.error.contains("stands before the file"), "{}", unclear.error);
 }
+
+/// The sheet program has no status to give; what it wrote tells whether it is whole.
+#[test]
+fn a_lost_sheet_is_told_from_a_whole_one() {
+    let whole = "house 4542 17750 740\nsection 1 2052 1026 71\nsection 2 9 8 7\nhead -21 0 1\n";
+    let cut = |lines: usize| whole.split_inclusive('\n').take(lines).collect::<String>();
+    let sheets = [
+        (whole.to_string(), true),
+        ("refused 12\n".to_string(), true),
+        (String::new(), false),
+        (cut(1), false),
+        (cut(3), false),
+        (whole.trim_end().to_string(), false),
+        (whole.replace("section 2", "section 3"), false),
+        (format!("{whole}{whole}"), false),
+        ("refused 12".to_string(), false),
+        ("refused\n".to_string(), false),
+    ];
+    let kept = scratch("sheet");
+    for (sheet, expected) in sheets {
+        std::fs::write(&kept, &sheet).expect("written");
+        let ran = Command::new("sh").args(["examples/whole-sheet.sh", &kept]).current_dir(top()).output();
+        assert_eq!(ran.expect("the shell starts").status.success(), expected, "{sheet:?}");
+    }
+}
