@@ -13,13 +13,17 @@ pub fn is_record(bytes: &[u8]) -> bool {
     bytes.first() == Some(&0) && !is_wide(bytes)
 }
 
-/// Whether bytes look like UTF-16 without its mark: in plain text every second byte is then 0. A record that states its
-/// own length has two such bytes in front, which a text in UTF-16 can't have.
+/// Whether bytes look like UTF-16 without its mark: in plain text every second byte is then 0, and beside it stands a letter.
+/// A record that states its own length has two such bytes in front, which a text in UTF-16 can't have.
 fn is_wide(bytes: &[u8]) -> bool {
-    let zeros = |rest: usize| bytes.iter().skip(rest).step_by(2).filter(|byte| **byte == 0).count();
-    let (even, odd) = (zeros(0), zeros(1));
-    let pairs = bytes.len() / 2;
-    pairs >= 2 && ((even * 10 >= pairs * 8 && odd == 0) || (odd * 10 >= pairs * 8 && even == 0))
+    let letter = |byte: u8| byte >= 0x20 || b"\t\n\r".contains(&byte);
+    let plain = |zero: usize| {
+        let pairs = bytes.chunks_exact(2);
+        let (all, zeros) = (pairs.len(), pairs.clone().filter(|two| two[zero] == 0).count());
+        let letters = pairs.filter(|two| two[zero] == 0).all(|two| letter(two[1 - zero]));
+        all >= 2 && zeros * 10 >= all * 8 && letters
+    };
+    plain(0) || plain(1)
 }
 
 /// The text of a readable file, its lines ended by newlines, or what is no text in it, by line and byte.
@@ -169,6 +173,7 @@ mod tests {
     #[test]
     fn a_record_is_told_by_its_first_byte() {
         assert!(is_record(&[0, 0, 0, 50, 1]) && is_record(&[0]) && is_record(&[0; 40]) && is_record(&[0, 7, 1, 9]));
+        assert!(is_record(&[0, 1, 0, 2]) && is_record(b"\0\0\0(\0\0"));
         assert!(!is_record(b"") && !is_record(b"hours") && !is_record(&[1, 0, 0, 50]) && !is_record(b"\0h\0o\0u\0r"));
     }
 }

@@ -26,8 +26,19 @@ pub struct Packed {
 }
 
 /// The words that begin a house's lines: where one begins the first line, the file is no table.
-const OF_A_HOUSE: [&str; 9] =
-    ["local", "hours", "meter", "guaranteed", "delivered", "velocity limit", "residents", "section ", "section\t"];
+const OF_A_HOUSE: [&str; 11] = [
+    "local",
+    "hours",
+    "meter",
+    "guaranteed",
+    "delivered",
+    "velocity limit",
+    "residents",
+    "section ",
+    "section\t",
+    "version",
+    "stated length",
+];
 
 /// Whether a readable file is a table: the first line that is no odd catalogue's has cells.
 pub fn is_table(text: &str) -> bool {
@@ -42,8 +53,7 @@ pub fn is_table(text: &str) -> bool {
             continue;
         }
         let line = said.said.trim().to_lowercase();
-        return !OF_A_HOUSE.iter().any(|word| line.starts_with(word))
-            && (line.split([',', ';']).count() > 2 || header::complete(&parted('\t')));
+        return !OF_A_HOUSE.iter().any(|word| line.starts_with(word)) && line.split([',', ';', '\t']).count() > 2;
     }
     false
 }

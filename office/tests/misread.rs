@@ -181,6 +181,11 @@ fn what_can_mean_two_things_is_named_in_a_table() {
     // The header is parted by one of the three, and a line that is parted otherwise does not fit it.
     let mixed = table::pack(&put(&SIZES.replace(',', "\t"), "1\t40\t900", "1,40,900")).expect_err("commas");
     assert!(mixed.list[0].expected.contains("cells are parted by tabs"), "{mixed}");
+    let tabs = put(&SIZES.replace(',', "\t"), "bore mm", "bore");
+    assert!(office_with(&["pack", "-"], tabs.as_bytes()).error.contains("its unit, mm, is missing"));
+    for house in ["version\t1\n", "stated length\t48\tbytes\n", "Hours\t24\t\t\n"] {
+        assert!(!table::is_table(&format!("{house}{OWN}")), "{house}");
+    }
     // A house that begins with commas is no table.
     let house = "section 1 from pump, length 10 m, elevation 0 cm, kind none\n";
     assert!(!table::is_table(house) && !table::is_table("residents offices, 4, 5, 6\n"));
@@ -269,40 +274,46 @@ fn what_is_expected_is_what_the_library_takes() {
     }
 }
 
+/// A text in UTF-16.
+fn wide(text: &str, big: bool, mark: bool) -> Vec<u8> {
+    let units = mark.then_some(0xfeff).into_iter().chain(text.encode_utf16());
+    units.flat_map(|unit| if big { unit.to_be_bytes() } else { unit.to_le_bytes() }).collect()
+}
+
 #[test]
-fn texts_as_other_programs_save_them() {
+fn texts_as_other_programs_save_them_are_read() {
     let house = read(HOUSE);
     let packed = house::pack(&house).expect("a house");
-    let wide = |big: bool, mark: bool| -> Vec<u8> {
-        let units = mark.then_some(0xfeff).into_iter().chain(house.encode_utf16());
-        units.flat_map(|unit| if big { unit.to_be_bytes() } else { unit.to_le_bytes() }).collect()
-    };
-    let comment = [b"# \x8d\xe3\xea\xf3\xf5\xed\xff\x00\x1b\xff\n", house.as_bytes()].concat();
     let taken = [
         house.replace('\n', "\r").into_bytes(),
         house.replace('\n', "\r\n").into_bytes(),
         [house.as_bytes(), b"\x1a"].concat(),
-        wide(true, true),
-        wide(false, true),
-        comment,
+        wide(&house, true, true),
+        wide(&house, false, true),
+        [b"# \x8d\xe3\xea\xf3\xf5\xed\xff\x00\x1b\xff\n", house.as_bytes()].concat(),
     ];
     for bytes in taken {
         let ran = office_with(&["pack", "-"], &bytes);
         assert_eq!((ran.status, &ran.output), (0, &packed), "{}", ran.error);
     }
-    // см in cp1251 and in cp866
+}
+
+#[test]
+fn what_is_no_text_is_refused_by_line_and_byte() {
+    let house = read(HOUSE);
     let put_bytes = |bytes: &[u8]| {
         let (front, rest) = OWN.split_once("50 cm").expect("a head");
         [front.as_bytes(), b"50 ", bytes, rest.as_bytes()].concat()
     };
     let lone = house.replacen("\nhours", "\rhours", 1);
+    // The first two are the unit in cp1251 and in cp866.
     let refused: [(Vec<u8>, &str, &str); 7] = [
         (put_bytes(b"\xf1\xec"), "line 3: meter loss 50", "byte 15 of the line, F1, is no UTF-8"),
         (put_bytes(b"\xe1\xac"), "line 3: meter loss 50", "byte 15 of the line, E1, is no UTF-8"),
         (put_bytes(b"cm\0"), "line 3: meter loss 50 cm", "byte 17 of the line, 00, is no letter"),
         (put_bytes(b"cm\x1a"), "line 3: meter loss 50 cm", "byte 17 of the line, 1A, is no letter"),
-        (wide(true, false), "line 1: ", "UTF-16 without its mark"),
-        (wide(false, false), "line 1: ", "UTF-16 without its mark"),
+        (wide(&house, true, false), "line 1: ", "UTF-16 without its mark"),
+        (wide(&house, false, false), "line 1: ", "UTF-16 without its mark"),
         (lone.into_bytes(), "line 4: local losses", "a carriage return alone"),
     ];
     for (bytes, line, wrong) in refused {
@@ -325,6 +336,9 @@ fn a_text_is_never_a_record() {
     let shown = office_with(&["show", "-"], &text);
     assert!(shown.status == 2 && shown.error.contains("readable already"), "{}", shown.error);
     assert_eq!(office_with(&["show", "--record", "-"], &text).status, 1);
+    let wide: Vec<u8> = OWN.encode_utf16().flat_map(u16::to_be_bytes).collect();
+    let shown = office_with(&["show", "-"], &wide);
+    assert!(shown.status == 2 && shown.error.contains("saved as UTF-8, `office pack` packs it"), "{}", shown.error);
     let record = office(&["pack", HOUSE]).output;
     let packed = office_with(&["pack", "-"], &record);
     assert!(packed.status == 2 && packed.error.contains("`office show` shows a record"), "{}", packed.error);

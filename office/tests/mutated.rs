@@ -215,49 +215,47 @@ fn every_command(shell: &mut Shell, text: &[u8], turn: usize) -> bool {
     let done = shell.run("pack t -o record");
     let record = shell.file("record");
     assert_eq!(record.is_some(), done.status < 2, "a record is there exactly where one was packed");
-    if let Some(record) = &record {
-        assert_eq!(packed(text).as_ref().map(|(bytes, _)| bytes), Some(record), "{}", String::from_utf8_lossy(text));
-    }
-    let is_table = readable::text(text).is_ok_and(|text| table::is_table(&text));
     if shell.run("show t").status != 2 {
         assert!(readable::is_record(text), "a text is never a record");
     }
+    let is_table = readable::text(text).is_ok_and(|text| table::is_table(&text));
     if turn % 5 == 0 {
         let said = shell.run(&format!("{} --json", calls("t", is_table)[turn / 5 % 3]));
         if !said.output.is_empty() {
             assert_eq!(json::parse(&String::from_utf8(said.output).expect("text")).number("schema"), 1);
         }
     }
-    let Some(record) = record else {
-        for words in calls("t", is_table) {
-            let ran = shell.run(&words);
-            assert!(ran.status > 0, "{words}");
+    match &record {
+        None => calls("t", is_table).iter().for_each(|words| assert!(shell.run(words).status > 0, "{words}")),
+        Some(record) => {
+            assert_eq!(packed(text), Some((record.clone(), is_table)), "{}", String::from_utf8_lossy(text));
+            answers_alike(shell, record, is_table, done.status);
         }
-        shell.tidy();
-        return false;
-    };
-    // Text and record answer alike: a refusal's places name the line in one and not in the other.
+    }
+    shell.tidy();
+    record.is_some()
+}
+
+/// The text in `t` and its record in `record` answer alike, and packing what is shown gives the same bytes.
+fn answers_alike(shell: &mut Shell, record: &[u8], is_table: bool, status: i32) {
     // A record that states a length of 2^24 or more does not begin with 0, which is to be said.
-    let name = if readable::is_record(&record) { "record" } else { "--record record" };
+    let name = if readable::is_record(record) { "record" } else { "--record record" };
     for (text, binary) in calls("t", is_table).iter().zip(calls(name, is_table)) {
         let (one, other) = (shell.run(text), shell.run(&binary));
         if is_table && text.starts_with("flow") {
             continue;
         }
         assert_eq!(one.status, other.status, "{text}: {}", one.error);
+        // A refusal's places name the line in one and not in the other.
         let line = |bytes: &[u8]| bytes.split(|byte| *byte == b'\n').next().map(<[u8]>::to_vec);
         match one.status {
             0 => assert!(one.output == other.output, "{text}"),
             _ => assert_eq!(line(&one.output), line(&other.output), "{text}"),
         }
     }
-    // Packing what is shown gives the same bytes.
-    let shown = shell.run(&format!("show {name} -o again"));
-    assert_eq!(shown.status, done.status);
+    assert_eq!(shell.run(&format!("show {name} -o again")).status, status);
     let again = shell.file("again").expect("shown");
     assert_eq!(shell.run("pack again").output, record, "{}", String::from_utf8_lossy(&again));
-    shell.tidy();
-    true
 }
 
 /// 5,000 texts through every command, on two shells.

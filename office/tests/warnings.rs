@@ -48,7 +48,21 @@ fn what_lies_at_the_edge_is_no_slip() {
     assert_eq!(found("length 22.0 m", "length 104.1 m"), [At::Section(10)]);
 }
 
-/// The section of the issue: an end at 15.2 m that is written as -5.2 m or 15 cm sizes another pump without a word.
+/// Each command answers with a warning, and with `--strict` gives nothing.
+fn every_command_warns(text: &str) {
+    let kept = scratch("strict.out");
+    let _ = std::fs::remove_file(&kept);
+    for command in [&["flow", "-"][..], &["rate", "-", TABLE, "6,6"], &["draw", "-", TABLE], &["pack", "-"]] {
+        let ran = office_with(command, text.as_bytes());
+        assert!(ran.status == 0 && ran.error.starts_with("warning: ") && !ran.output.is_empty(), "{command:?}");
+        let strict = office_with(&[command, &["--strict", "-o", &kept]].concat(), text.as_bytes());
+        assert_eq!((strict.status, strict.output.len()), (2, 0), "{command:?}");
+        assert!(strict.error.contains("line 9, section 2") && strict.error.contains("--strict"), "{}", strict.error);
+        assert!(!std::path::Path::new(&kept).exists(), "{command:?}");
+    }
+}
+
+/// An end at 15.2 m that is written as -5.2 m or 15 cm sizes another pump without a word.
 #[test]
 fn the_command_warns_with_the_line_and_answers_all_the_same() {
     let riser = "local losses 0.3\nhours 24\nmeter loss 50 cm\nguaranteed head 500 cm\ndelivered head 2600 cm\n\
@@ -72,20 +86,7 @@ fn the_command_warns_with_the_line_and_answers_all_the_same() {
         assert_eq!((warning.number("line"), said.get("refusal")), (9, &Value::Null));
         assert_eq!(warning.get("file"), &Value::Text("standard input".to_string()));
         assert!(said.number("pump_head_cm") > 0);
-        for command in [&["flow", "-"][..], &["rate", "-", TABLE, "6,6"], &["draw", "-", TABLE], &["pack", "-"]] {
-            let ran = office_with(command, text.as_bytes());
-            assert!(ran.status == 0 && ran.error.starts_with("warning: ") && !ran.output.is_empty(), "{command:?}");
-            let kept = scratch("strict.out");
-            let _ = std::fs::remove_file(&kept);
-            let strict = office_with(&[command, &["--strict", "-o", &kept]].concat(), text.as_bytes());
-            assert_eq!((strict.status, strict.output.len()), (2, 0), "{command:?}");
-            assert!(
-                strict.error.contains("line 9, section 2") && strict.error.contains("--strict"),
-                "{}",
-                strict.error
-            );
-            assert!(!std::path::Path::new(&kept).exists(), "{command:?}");
-        }
+        every_command_warns(&text);
         let strict = office_with(&["choose", "-", TABLE, "--json", "--strict"], text.as_bytes());
         let said = json::parse(&strict.text());
         assert_eq!((strict.status, said.list("warnings").len()), (2, 1));

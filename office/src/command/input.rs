@@ -96,6 +96,10 @@ impl File<'_> {
         match bytes.first() {
             None => Err(Misuse::Words(format!("{name}: the file is empty"))),
             Some(_) if self.reading == Reading::Record || readable::is_record(&bytes) => Ok(bytes),
+            Some(0) => Err(Misuse::Words(format!(
+                "{name} is text in UTF-16 without its mark: saved as UTF-8, `office pack` packs it; `--record` shows it as a \
+                 record all the same"
+            ))),
             Some(first) => Err(Misuse::Words(format!(
                 "{name} is readable already, since its first byte is {first:02X} and a record's is 00; `office pack` packs \
                  it, and `--record` shows a record that is damaged there"

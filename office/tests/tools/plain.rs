@@ -220,6 +220,16 @@ fn of_house(words: &[&str]) -> Option<(String, i64)> {
     }
 }
 
+/// A section's field that has a unit.
+fn measured<'a>(field: &str, words: &'a [&'a str]) -> Option<(i64, &'a [&'a str])> {
+    match field {
+        "length" => quantity(words, LENGTHS, false, 0, 65_535),
+        "elevation" => quantity(words, HEADS, true, -32_768, 32_767),
+        "free" => quantity(words, HEADS, false, 0, 65_535),
+        _ => None,
+    }
+}
+
 fn of_section(words: &[&str], fields: &mut Fields) -> Option<()> {
     let own = plain(words.get(1)?).filter(|own| *own > 0)?;
     let mut rest = &words[2..];
@@ -239,13 +249,7 @@ fn of_section(words: &[&str], fields: &mut Fields) -> Option<()> {
             }
             "fixtures" => put("fixtures", count(word, 65_535)?)?,
             _ => {
-                let (units, signed, least, most): (&[(&str, usize)], bool, i64, i64) = match *field {
-                    "length" => (LENGTHS, false, 0, 65_535),
-                    "elevation" => (HEADS, true, -32_768, 32_767),
-                    "free" => (HEADS, false, 0, 65_535),
-                    _ => return None,
-                };
-                let (value, after) = quantity(behind, units, signed, least, most)?;
+                let (value, after) = measured(field, behind)?;
                 put(field, value)?;
                 rest = after;
             }
