@@ -17,7 +17,8 @@ test:
 	cargo test --release --offline --manifest-path office/Cargo.toml
 	tail -n 1 "$$verdict"
 
-# An example house of twelve sections: its cheapest sizes, its sheet by the sheet program, and its drawing.
+# An example house of twelve sections: its cheapest sizes, its sheet by the sheet program, and its drawing. The sheet program
+# has no status to give, so what it wrote is checked.
 run: target/built
 	@sizes=$$($(office) choose examples/house.txt examples/table.csv | tee target/house.txt | sed -n 's/^sizes *//p')
 	cat target/house.txt
@@ -28,7 +29,10 @@ run: target/built
 		for size in $${sizes//,/ }; do printf "\\x$$(printf %x "$$size")"; done
 	} > target/house.order
 	echo
-	target/bin/sheet < target/house.order
+	target/bin/sheet < target/house.order > target/house.sheet
+	cat target/house.sheet
+	sh examples/whole-sheet.sh target/house.sheet
+	grep -q '^head ' target/house.sheet
 	$(office) draw examples/house.txt examples/table.csv -o target/house.svg
 	echo
 	echo "target/house.svg is the drawing"

@@ -4,9 +4,16 @@
  *
  * Every slice is a pointer and then its length in bytes. For every call:
  *   - pointers are not null, also those of empty slices (length 0); lengths are below 2^63;
- *   - out and work overlap neither each other nor anything that is read;
- *   - nothing is kept after the call, no memory is allocated, and two threads may call at once with buffers of their own.
+ *   - out and work overlap neither each other nor anything that is read; slices that are only read (job, cat, sizes) may
+ *     overlap or be the same bytes;
+ *   - no pointer needs an alignment: all are read and written byte by byte;
+ *   - nothing is kept after the call, no memory is allocated, and nothing is shared between calls: threads may call at once
+ *     with out and work of their own, on the same job, cat and sizes as long as nobody writes those;
+ *   - the stack takes about 54 KB for order_choose and less for the others; a thread with 128 KB has enough.
  * Any bytes at all may be lent: each input gets its result or the number of its refusal.
+ *
+ * ABI: plain C calls of the platform that the archive is built for (System V on Linux, 64-bit little-endian hosts); size_t
+ * and pointers have 8 bytes, the result is a 32-bit unsigned number. There are no structs, callbacks, signals or errno.
  *
  * The call gives back 0 for a result, or the number of the refusal:
  *    1  job under 40 bytes, or its length isn't the bytes lent
@@ -41,6 +48,10 @@
 #ifdef __cplusplus
 extern "C" {
 #endif
+
+/* Rises when a call that is here changes or goes; a call or a refusal that is added leaves it as it is. A number that a
+ * program does not know is a refusal of a newer library. */
+#define ORDER_VERSION 1
 
 /* The greatest sizes that any accepted job needs (S = 63, H = 6,000). */
 #define ORDER_FLOW_BYTES 264u      /* 12 + 4 * 63 */

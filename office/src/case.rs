@@ -58,7 +58,7 @@ pub struct Case {
 }
 
 /// No buffer of a call needs more; a file that asks for more is refused before it is filled.
-const LONGEST: usize = 1 << 26;
+const LONGEST: usize = 1 << 21;
 
 impl Buffer {
     /// Appends the buffer's bytes.

@@ -7,50 +7,59 @@ mod files;
 mod help;
 mod input;
 mod json;
+mod keep;
 mod network;
 mod outcome;
 mod rating;
 mod refused;
+mod report;
 mod trials;
 
+use crate::closed;
 use arguments::Arguments;
 use outcome::{Misuse, Outcome};
 use std::ffi::OsString;
-use std::io::{ErrorKind, Write};
+use std::io::Write;
 use std::process::ExitCode;
 
-/// Runs one command and gives its status.
+/// Runs one command and gives its status, which is 0, 1 or 2.
 pub fn run(words: &[OsString]) -> ExitCode {
-    let outcome = match arguments::parse(words).and_then(|arguments| perform(&arguments)) {
-        Ok(outcome) => outcome,
-        Err(Misuse(text)) => Outcome::misuse(&text),
+    let outcome = match arguments::parse(words) {
+        Ok(arguments) => {
+            perform(&arguments).unwrap_or_else(|why| Outcome::misuse(&why, report::misuse(&arguments, &why)))
+        }
+        Err(why) => Outcome::misuse(&why, String::new()),
     };
     let lost = said(&outcome.output).err();
     // A warning that can't be written has nowhere else to go; the status says it too.
     let _ = std::io::stderr().write_all(outcome.warning.as_bytes());
     let Some(why) = lost else { return ExitCode::from(outcome.status) };
-    let lost = Outcome::misuse(&format!("the answer can't be written to standard output: {why}"));
-    let _ = std::io::stderr().write_all(lost.warning.as_bytes());
-    ExitCode::from(lost.status)
+    let lost = Misuse::Words(format!("the answer can't be written to standard output: {why}"));
+    let _ = std::io::stderr().write_all(lost.text().as_bytes());
+    ExitCode::from(2)
 }
 
-/// Writes to standard output. Who closes the pipe early has read enough; on a full disk the answer is lost, and a script
-/// must not take what is there for the whole of it.
+/// Writes to standard output. Where that fails the answer is lost, on a full disk as at a closed pipe, and a script must not
+/// take what is there for the whole of it.
 fn said(output: &[u8]) -> std::io::Result<()> {
-    let mut out = std::io::stdout().lock();
-    match out.write_all(output).and_then(|()| out.flush()) {
-        Err(why) if why.kind() == ErrorKind::BrokenPipe => Ok(()),
-        other => other,
+    if output.is_empty() {
+        return Ok(());
     }
+    if closed::output_was_closed() {
+        return Err(std::io::Error::other("it is closed"));
+    }
+    let mut out = std::io::stdout().lock();
+    out.write_all(output).and_then(|()| out.flush())
 }
 
 fn perform(arguments: &Arguments) -> Result<Outcome, Misuse> {
     let outcome = answer(arguments)?;
-    match &arguments.out {
+    match arguments.kept() {
         // A refusal is no answer to keep: it is said, and the file is left alone.
         Some(file) if outcome.answered => {
-            let name = file.to_string_lossy();
-            std::fs::write(file, &outcome.output).map_err(|why| Misuse(format!("{name} can't be written: {why}")))?;
+            let name = outcome::word(&file.to_string_lossy());
+            let lost = |why| Misuse::Words(format!("{name} can't be written: {why}"));
+            keep::keep(file, &outcome.output).map_err(lost)?;
             Ok(Outcome { output: Vec::new(), ..outcome })
         }
         _ => Ok(outcome),
@@ -72,6 +81,6 @@ fn answer(arguments: &Arguments) -> Result<Outcome, Misuse> {
         "replay" => trials::replay(arguments),
         "bench" => trials::bench(arguments),
         "help" => help::of(&arguments.text(0).unwrap_or("help".into())),
-        other => Err(Misuse(format!("there is no command `{other}`; the commands are {}", help::names()))),
+        other => help::none(other),
     }
 }

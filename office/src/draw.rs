@@ -22,27 +22,49 @@ const SHORT: &str = "#b3261e";
 const FAINT: &str = "#5f6b76";
 const INK: &str = "#1c2329";
 
-/// The drawing of a rated house. `cost` is the cheapest list's, in tenths of the price unit, where one was chosen.
-pub fn draw(record: &Record, pipes: &[Pipe], rating: &Rating, cost: Option<u32>) -> String {
+/// The drawing of a rated house. `cost` is in tenths of the price unit.
+pub fn draw(record: &Record, pipes: &[Pipe], rating: &Rating, cost: u64) -> String {
+    let warning = if missing(record, rating) > 0 { ": TOO LITTLE HEAD" } else { "" };
+    let (mut svg, places) = sheet(pipes, warning);
+    heading(&mut svg, record, rating, cost);
+    pump(&mut svg, record, &format!("head {} cm", rating.pump));
+    risers(&mut svg, pipes, &places);
+    for (pipe, place) in pipes.iter().zip(&places) {
+        section(&mut svg, pipe, place, &rated(pipe, pipe.number == rating.dictating));
+    }
+    svg.finish()
+}
+
+/// The drawing of a house in which no size serves some section, whose size is 0: flows and velocities, and no heads.
+pub fn sketch(record: &Record, pipes: &[Pipe]) -> String {
+    let (mut svg, places) = sheet(pipes, ": NO SIZE SERVES");
+    let unserved: Vec<String> =
+        pipes.iter().filter(|pipe| pipe.size == 0).map(|pipe| pipe.number.to_string()).collect();
+    let more = if unserved.len() > NAMED { format!(" and {} more", unserved.len() - NAMED) } else { String::new() };
+    let named = unserved[..unserved.len().min(NAMED)].join(", ");
+    svg.text(20, 28, 15, SHORT, "bold", &format!("NO SIZE SERVES section {named}{more}"));
+    let limit = format!("velocity limit {} mm/s; the other pipes have the size of their least loss", record.limit);
+    svg.text(20, 48, 12, FAINT, "normal", &limit);
+    svg.text(20, 65, 12, FAINT, "normal", "without a size for each section there are no heads");
+    pump(&mut svg, record, "head unknown");
+    risers(&mut svg, pipes, &places);
+    for (pipe, place) in pipes.iter().zip(&places) {
+        section(&mut svg, pipe, place, &[]);
+    }
+    svg.finish()
+}
+
+/// So many sections are named above a drawing.
+const NAMED: usize = 9;
+
+/// An empty sheet with room for the pipes, and their places on it.
+fn sheet(pipes: &[Pipe], warning: &str) -> (Svg, Vec<Place>) {
     let places = layout::places(pipes);
     let (columns, rows) = layout::extent(&places);
     // Room for the heading over a small house.
     let width = (LEFT + columns * COLUMN + 40).max(720);
-    let height = TOP + rows * ROW;
-    let warning = if missing(record, rating) > 0 { ": TOO LITTLE HEAD" } else { "" };
-    let mut svg = Svg::new(width, height, &format!("House network of {} sections{warning}", pipes.len()));
-    heading(&mut svg, record, rating, cost);
-    pump(&mut svg, record, rating);
-    // Branches of one pipe leave along the same upright; the dictating one is drawn last, over the others.
-    for dictating in [false, true] {
-        for (pipe, place) in pipes.iter().zip(&places).filter(|(pipe, _)| pipe.dictating == dictating) {
-            riser(&mut svg, pipe, place, &places);
-        }
-    }
-    for (pipe, place) in pipes.iter().zip(&places) {
-        section(&mut svg, pipe, place, pipe.number == rating.dictating);
-    }
-    svg.finish()
+    let title = format!("House network of {} sections{warning}", pipes.len());
+    (Svg::new(width, TOP + rows * ROW, &title), places)
 }
 
 /// How many cm the delivered head lacks of the required one; none, or fewer than none, where it is enough.
@@ -51,12 +73,12 @@ fn missing(record: &Record, rating: &Rating) -> i64 {
 }
 
 /// Three lines above the drawing, and a fourth where the head is too little: an end marked SHORT may lie far from here.
-fn heading(svg: &mut Svg, record: &Record, rating: &Rating, cost: Option<u32>) {
+fn heading(svg: &mut Svg, record: &Record, rating: &Rating, cost: u64) {
     let (required, pump, guaranteed) = (rating.required, rating.pump, record.guaranteed);
     let heads = format!("required head {required} cm, pump head {pump} cm over the guaranteed {guaranteed} cm");
     svg.text(20, 28, 15, INK, "bold", &heads);
-    let bought = cost.map_or(String::new(), |cost| format!("; the pipes cost {}.{}", cost / 10, cost % 10));
-    let path = format!("dictating path, red and wide: pump to section {}{bought}", rating.dictating);
+    let bought = format!("the pipes cost {}.{}", cost / 10, cost % 10);
+    let path = format!("dictating path, red and wide: pump to section {}; {bought}", rating.dictating);
     svg.text(20, 48, 12, FAINT, "normal", &path);
     let left = format!("left: head left at an end when {} cm are delivered; needs: its free head", record.delivered);
     svg.text(20, 65, 12, FAINT, "normal", &left);
@@ -69,14 +91,24 @@ fn heading(svg: &mut Svg, record: &Record, rating: &Rating, cost: Option<u32>) {
 }
 
 /// The pump: a circle with its arrow, and the heads beside it.
-fn pump(svg: &mut Svg, record: &Record, rating: &Rating) {
+fn pump(svg: &mut Svg, record: &Record, head: &str) {
     let (x, y) = (LEFT - 56, TOP);
     svg.circle(x, y, 18, "white", INK, 2);
     svg.path(&format!("M {} {} L {} {} L {} {} Z", x - 8, y - 11, x + 15, y, x - 8, y + 11), INK, INK, 1);
     svg.line(x + 18, y, LEFT, y, INK, 4);
     svg.middle(x, y + 36, 12, INK, "bold", "pump");
-    svg.middle(x, y + 52, 11, FAINT, "normal", &format!("head {} cm", rating.pump));
+    svg.middle(x, y + 52, 11, FAINT, "normal", head);
     svg.middle(x, y - 26, 11, FAINT, "normal", &format!("meter {} cm", record.meter));
+}
+
+/// The uprights of all sections. Branches of one pipe leave along the same one; the dictating one is drawn last, over the
+/// others.
+fn risers(svg: &mut Svg, pipes: &[Pipe], places: &[Place]) {
+    for dictating in [false, true] {
+        for (pipe, place) in pipes.iter().zip(places).filter(|(pipe, _)| pipe.dictating == dictating) {
+            riser(svg, pipe, place, places);
+        }
+    }
 }
 
 /// The upright line from the parent's end down to this section's row, where it is not the parent's own.
@@ -103,26 +135,41 @@ fn stroke(pipe: &Pipe) -> (&'static str, i64) {
     if pipe.dictating { (DICTATING, wide + 2) } else { (PIPE, wide) }
 }
 
-/// A pipe with its texts: above it number, size and length; below it flow and velocity, loss, and the head left at its end.
-fn section(svg: &mut Svg, pipe: &Pipe, place: &Place, dictates: bool) {
+/// A line of text below a pipe: its colour, its weight, and what it says.
+type Note = (&'static str, &'static str, String);
+
+/// A pipe with its texts: above it number, size and length; below it flow and velocity, and the notes.
+fn section(svg: &mut Svg, pipe: &Pipe, place: &Place, notes: &[Note]) {
     let x = LEFT + place.column * COLUMN;
     let (y, end) = (TOP + place.row * ROW, x + COLUMN);
     let (colour, width) = stroke(pipe);
-    svg.open(&format!("section-{}", pipe.number), &title(pipe));
+    svg.open(&format!("section-{}", pipe.number), &title(pipe, !notes.is_empty()));
     svg.line(x, y, end, y, colour, width);
     svg.circle(end, y, 5, "white", colour, 2);
     let at = x + STUB;
     svg.text(at, y - 9, 12, INK, "bold", &pipe.number.to_string());
     let length = format!("{}.{} m", pipe.section.length / 10, pipe.section.length % 10);
-    svg.text(at + 24, y - 9, 11, INK, "normal", &format!("{} mm (size {})  {length}", pipe.bore, pipe.size));
-    svg.text(at, y + 18, 11, INK, "normal", &format!("{} ml/s  {} mm/s", pipe.flow, pipe.velocity));
-    svg.text(at, y + 32, 11, INK, "normal", &format!("loss {} cm", pipe.loss));
-    let (colour, left) = ending(pipe);
-    svg.text(at, y + 46, 11, colour, "normal", &left);
-    if dictates {
-        svg.text(at, y + 60, 11, DICTATING, "bold", "dictating end");
+    if pipe.size == 0 {
+        svg.text(at + 24, y - 9, 11, SHORT, "bold", &format!("NO SIZE  {length}"));
+        svg.text(at, y + 18, 11, INK, "normal", &format!("{} ml/s", pipe.flow));
+    } else {
+        svg.text(at + 24, y - 9, 11, INK, "normal", &format!("{} mm (size {})  {length}", pipe.bore, pipe.size));
+        svg.text(at, y + 18, 11, INK, "normal", &format!("{} ml/s  {} mm/s", pipe.flow, pipe.velocity));
+    }
+    for (line, (colour, weight, said)) in (1..).zip(notes) {
+        svg.text(at, y + 18 + 14 * line, 11, colour, weight, said);
     }
     svg.close();
+}
+
+/// What the rating says of a section: its loss, and the head left at its end.
+fn rated(pipe: &Pipe, dictates: bool) -> Vec<Note> {
+    let (colour, left) = ending(pipe);
+    let mut notes = vec![(INK, "normal", format!("loss {} cm", pipe.loss)), (colour, "normal", left)];
+    if dictates {
+        notes.push((DICTATING, "bold", "dictating end".to_string()));
+    }
+    notes
 }
 
 /// The head left at the end against the free head, and its colour.
@@ -136,15 +183,13 @@ fn ending(pipe: &Pipe) -> (&'static str, String) {
 }
 
 /// What a viewer shows when the pointer rests on the section.
-fn title(pipe: &Pipe) -> String {
+fn title(pipe: &Pipe, rated: bool) -> String {
     let section = &pipe.section;
     let from = if section.parent == 0 { "the pump".to_string() } else { format!("section {}", section.parent) };
     let taps = match section.kind {
         0 => "junction".to_string(),
         kind => format!("{} fixtures of kind {}, free head {} cm", section.fixtures, kinds::name(kind), section.free),
     };
-    format!(
-        "Section {} from {from}: {taps}, elevation {} cm, head left {} cm",
-        pipe.number, section.elevation, pipe.left
-    )
+    let left = if rated { format!(", head left {} cm", pipe.left) } else { String::new() };
+    format!("Section {} from {from}: {taps}, elevation {} cm{left}", pipe.number, section.elevation)
 }

@@ -1,6 +1,6 @@
 //! The exported calls of the proved library, on lent buffers. `include/order.h` says what each takes and leaves.
 //!
-//! This is the only unsafe code of the package. It is sound because a Rust slice is what the library asks for: its pointer
+//! This is the only unsafe code of the library's side. It is sound because a Rust slice is what the library asks for: its pointer
 //! is not null even when it is empty, its length is below 2⁶³, and a `&mut` overlaps nothing else that is lent.
 #![allow(unsafe_code)]
 

@@ -8,8 +8,9 @@ mod head;
 mod sections;
 
 use crate::at::{At, Field, Lines};
-use crate::line::lines;
-use crate::mistake::Mistake;
+use crate::line::Line;
+use crate::mistake::Mistakes;
+use crate::readable;
 use crate::record::{NoRecord, Record};
 
 /// A readable house as bytes, with the lines that its fields came from.
@@ -20,24 +21,31 @@ pub struct Packed {
 }
 
 /// The record of a readable house.
-pub fn pack(text: &str) -> Result<Vec<u8>, Mistake> {
+pub fn pack(text: &str) -> Result<Vec<u8>, Mistakes> {
     read(text).map(|packed| packed.bytes)
 }
 
-/// The record of a readable house, and where each field stands in the text.
-pub fn read(text: &str) -> Result<Packed, Mistake> {
+/// The record of a readable house, and where each field stands in the text; or all that is wrong with it.
+pub fn read(text: &str) -> Result<Packed, Mistakes> {
     let mut head = head::Head::default();
     let mut given = sections::Given::default();
     let mut places = Lines::default();
-    for mut line in lines(text) {
+    let mut mistakes = Mistakes::default();
+    for said in readable::lines(text) {
+        if let Some(fault) = said.fault() {
+            mistakes.add(fault);
+            continue;
+        }
+        let mut line = Line::of(&said);
         if line.begins("section") {
-            given.take(&mut line, &mut places)?;
-        } else {
-            head.take(&mut line, &mut places)?;
+            given.take(&mut line, &mut places, &mut mistakes);
+        } else if let Err(mistake) = head.take(&mut line, &mut places) {
+            mistakes.add(mistake);
         }
     }
-    let mut record = head.record()?;
-    record.sections = given.sections()?;
+    head.missing(&places).into_iter().for_each(|mistake| mistakes.add(mistake));
+    let mut record = head.record();
+    record.sections = given.sections(&mut mistakes);
     if let Some((last, _)) = record.numbered().last()
         && let Some(line) = places.of(At::Section(last))
     {
@@ -46,7 +54,7 @@ pub fn read(text: &str) -> Result<Packed, Mistake> {
     if head.stated().is_none() {
         record.stated = record.len() as u32;
     }
-    Ok(Packed { bytes: record.bytes(), lines: places })
+    mistakes.none(Packed { bytes: record.bytes(), lines: places })
 }
 
 /// The canonical text of a record of 40 + 10 × S bytes, whatever its fields hold. Bytes of another length have no sections

@@ -1,7 +1,8 @@
 //! The lines of a readable house file, word by word.
 
-use crate::measure::{Fault, Measure, whole};
+use crate::measure::Measure;
 use crate::mistake::Mistake;
+use crate::readable::Said;
 
 /// A line that says something: its comment is cut off, its words are in lower case.
 pub struct Line<'a> {
@@ -11,19 +12,31 @@ pub struct Line<'a> {
     at: usize,
 }
 
-/// The lines of a file, without those that are empty or hold a comment only.
-pub fn lines(text: &str) -> impl Iterator<Item = Line<'_>> {
-    // Some editors put a mark in front of the first line.
-    let text = text.strip_prefix('\u{feff}').unwrap_or(text);
-    text.lines().enumerate().filter_map(|(place, text)| {
-        let said = text.split('#').next().unwrap_or("");
-        // Documents have a longer minus than keyboards.
-        let words: Vec<String> = said.replace('\u{2212}', "-").split_whitespace().map(str::to_lowercase).collect();
-        (!words.is_empty()).then(|| Line { number: place + 1, text, words, at: 0 })
-    })
-}
+/// No word of a house is as long; one that is longer is cut for messages and is no word any more.
+const LONGEST_WORD: usize = 60;
 
-impl Line<'_> {
+impl<'a> Line<'a> {
+    /// The words of a line. A colon behind a name parts it from its value; a semicolon behind a word ends it. Neither can
+    /// mean anything else there, and elsewhere both stay part of the word, which is then none of the format's.
+    pub fn of(said: &Said<'a>) -> Line<'a> {
+        // Documents have a longer minus than keyboards.
+        let plain = said.said.replace('\u{2212}', "-").to_lowercase();
+        let mut words: Vec<String> = Vec::new();
+        let mut parted = false;
+        for word in plain.split_whitespace() {
+            let named = words.last().is_some_and(|last| is_name(last, words.len() == 2 && words[0] == "section"));
+            if word == ":" && named && !parted {
+                parted = true;
+                continue;
+            }
+            let (front, rest) = at_colon(word, words.len() == 1 && words[0] == "section");
+            words.push(cut(front));
+            words.extend(rest.filter(|rest| !rest.is_empty()).map(cut));
+            parted = rest == Some("");
+        }
+        Line { number: said.number, text: said.text, words, at: 0 }
+    }
+
     /// The next word, if there is one.
     pub fn word(&mut self) -> Option<String> {
         let word = self.words.get(self.at).cloned();
@@ -33,6 +46,13 @@ impl Line<'_> {
 
     fn peek(&self) -> Option<&str> {
         self.words.get(self.at).map(String::as_str)
+    }
+
+    /// Goes on to the next of these words, so that one mistake does not hide those behind it.
+    pub fn skip_to(&mut self, keywords: &[&str]) {
+        while self.peek().is_some_and(|word| !keywords.contains(&word)) {
+            self.at += 1;
+        }
     }
 
     /// Whether the line begins with these words; if so it goes on behind them.
@@ -45,9 +65,9 @@ impl Line<'_> {
         found
     }
 
-    /// The first words of the line as they stand, for a message.
+    /// The first word of the line, for a message.
     pub fn first(&self) -> &str {
-        &self.words[0]
+        self.words.first().map_or("", String::as_str)
     }
 
     pub fn mistake(&self, wrong: impl Into<String>, expected: impl Into<String>) -> Mistake {
@@ -65,18 +85,20 @@ impl Line<'_> {
     /// The next quantity with its unit, within what the bytes hold. `keywords` are the words that begin another field: one
     /// of them where a unit should stand means that the unit is missing.
     pub fn quantity(&mut self, what: &str, measure: &Measure, keywords: &[&str]) -> Result<i64, Mistake> {
-        let example = format!("for example `{what} {}`", measure.show(example_of(what, measure)));
         let Some(word) = self.word() else {
-            return Err(self.mistake(format!("`{what}` has no number"), example));
+            return Err(self.mistake(format!("`{what}` has no number"), measure.example(what)));
         };
         let cut = word.find(|c: char| !"+-.,0123456789".contains(c)).unwrap_or(word.len());
         let (number, glued) = word.split_at(cut);
         if number.is_empty() {
-            return Err(self.mistake(format!("`{word}` is no number for `{what}`"), example));
+            return Err(self.mistake(format!("`{word}` is no number for `{what}`"), measure.example(what)));
         }
         let power = self.unit(what, measure, number, glued, keywords)?;
-        let value = whole(number, power).map_err(|fault| self.fault(fault, what, measure, &word))?;
-        if value < measure.least || value > measure.most {
+        let value = measure.number(number, power).map_err(|fault| {
+            let (wrong, expected) = measure.fault(fault, what, number, power);
+            self.mistake(wrong, expected)
+        })?;
+        if !measure.holds(value) {
             return Err(self.too_great(what, measure, value, power));
         }
         Ok(value)
@@ -102,8 +124,7 @@ impl Line<'_> {
         if next.is_empty() || keywords.contains(&next.as_str()) {
             let wrong = format!("the unit of `{what} {number}` is missing");
             // Which unit was meant only the writer knows: any one put behind this number may be the wrong one.
-            let ways = measure.ways(example_of(what, measure));
-            return Err(self.mistake(wrong, format!("write a unit, for example {ways}")));
+            return Err(self.mistake(wrong, format!("write a unit, for example {}", measure.ways(measure.example))));
         }
         Err(self.mistake(format!("`{next}` is no unit of `{what}`"), measure.named()))
     }
@@ -111,38 +132,17 @@ impl Line<'_> {
     /// A unit where none is taken. The number in front of it counts something else, so it is not what to write.
     fn unitless(&self, what: &str, measure: &Measure, unit: &str) -> Mistake {
         let expected = match measure.counts {
-            "tenths" => format!("{what} as a part of one, {TAKEN}"),
-            _ => format!("a number alone, for example `{what} {}`", measure.show(example_of(what, measure))),
+            "tenths" => format!("{what} as a part of one, {}", measure.taken),
+            _ => format!("a number alone, {}", measure.example(what)),
         };
         self.mistake(format!("`{what}` has no unit, but `{unit}` is given"), expected)
-    }
-
-    fn fault(&self, fault: Fault, what: &str, measure: &Measure, word: &str) -> Mistake {
-        match fault {
-            Fault::NoNumber => {
-                let example = measure.show(example_of(what, measure));
-                self.mistake(format!("`{word}` is no number for `{what}`"), format!("for example `{what} {example}`"))
-            }
-            Fault::Comma => self.mistake(
-                format!("`{word}` has a comma"),
-                "a point before decimals and nothing between thousands, for example 12.5 or 1200",
-            ),
-            Fault::TooFine => {
-                let wrong = format!("`{what} {word}` is finer than the record keeps");
-                let taken = if measure.counts == "tenths" { format!(", {TAKEN}") } else { String::new() };
-                self.mistake(wrong, format!("a whole number of {}{taken}", measure.counts))
-            }
-        }
     }
 
     /// A value that the bytes can't hold. An elevation read as unsigned is so common that it gets its own advice, where it
     /// was copied in the bytes' own unit and its signed reading is an elevation that the library takes.
     fn too_great(&self, what: &str, measure: &Measure, value: i64, power: u32) -> Mistake {
         let shown = measure.show(value);
-        let mut expected = measure.bounds();
-        if measure.counts == "tenths" {
-            expected = format!("{expected} in the bytes; {TAKEN}");
-        }
+        let mut expected = measure.taken.to_string();
         // Two bytes hold up to 65,535, so a signed reading is below 0; document 01's elevations begin at -1,000.
         let signed = value - 65_536;
         if measure.least < 0 && power == 0 && (-1_000..0).contains(&signed) {
@@ -155,20 +155,23 @@ impl Line<'_> {
     }
 }
 
-/// The local losses that the library takes: 20 and 30 percent, in the file's way of writing.
-const TAKEN: &str = "0.2 or 0.3";
+/// Whether a word is a name, or the number behind `section`.
+fn is_name(word: &str, section: bool) -> bool {
+    word.starts_with(char::is_alphabetic) || (section && word.bytes().all(|b| b.is_ascii_digit()))
+}
 
-/// A plausible value for a message's example.
-pub fn example_of(what: &str, measure: &Measure) -> i64 {
-    match (what, measure.counts) {
-        ("meter loss", _) => 50,
-        ("guaranteed head", _) => 500,
-        ("delivered head", _) => 1_200,
-        (_, "cm") => 200,
-        (_, "dm") => 125,
-        (_, "mm/s") => 1_500,
-        (_, "tenths") => 3,
-        (_, "bytes") => 50,
-        _ => 24,
+/// A word without the semicolon at its end, parted at its first colon if a name stands before that.
+fn at_colon(word: &str, section: bool) -> (&str, Option<&str>) {
+    let word = word.strip_suffix(';').filter(|rest| !rest.is_empty()).unwrap_or(word);
+    match word.split_once(':') {
+        Some((name, rest)) if is_name(name, section) && !name.is_empty() => (name, Some(rest)),
+        _ => (word, None),
+    }
+}
+
+fn cut(word: &str) -> String {
+    match word.char_indices().nth(LONGEST_WORD) {
+        Some((at, _)) => format!("{}...", &word[..at]),
+        None => word.to_string(),
     }
 }

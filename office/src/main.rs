@@ -3,6 +3,9 @@
 //! Standard output carries the answer, or the refusal, which is the library's answer too. Standard error carries warnings,
 //! mistakes in readable files, and misuse. The status is 0 for an answer, 1 for a refusal, 2 for misuse or a mistake.
 
+#![deny(unsafe_code)]
+
+mod closed;
 mod command;
 
 use std::ffi::OsString;

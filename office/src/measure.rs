@@ -1,4 +1,5 @@
-//! Quantities with units: 12.5 m in a readable file, 125 dm in the record. Exact, no floating point.
+//! Quantities with units: 12.5 m in a readable file, 125 dm in the record. Exact, no floating point. Houses and tables are
+//! read by the same rule.
 
 /// A quantity of the readable file and what the record's bytes can hold of it.
 pub struct Measure {
@@ -7,26 +8,95 @@ pub struct Measure {
     pub units: &'static [(&'static str, u32)],
     /// What the record counts.
     pub counts: &'static str,
+    /// What the record's bytes hold.
     pub least: i64,
     pub most: i64,
+    /// What the library takes: a message promises no more than that.
+    pub taken: &'static str,
+    /// A plausible value for a message.
+    pub example: i64,
 }
 
+const CENTIMETRES: &[(&str, u32)] = &[("cm", 0), ("m", 2)];
+const NONE: &[(&str, u32)] = &[("", 0)];
+
 /// Heads and losses: two bytes, cm.
-pub const HEAD: Measure = Measure { units: &[("cm", 0), ("m", 2)], counts: "cm", least: 0, most: 65_535 };
+const fn head(taken: &'static str, example: i64) -> Measure {
+    Measure { units: CENTIMETRES, counts: "cm", least: 0, most: 65_535, taken, example }
+}
+
+/// A number without a unit.
+const fn bare(counts: &'static str, most: i64, taken: &'static str, example: i64) -> Measure {
+    Measure { units: NONE, counts, least: 0, most, taken, example }
+}
+
+pub const METER: Measure = head("0 to 1000 cm", 50);
+pub const GUARANTEED: Measure = head("0 to 6000 cm", 500);
+pub const DELIVERED: Measure = head("0 to 6000 cm", 1_200);
+pub const FREE: Measure = head("0 to 1000 cm", 200);
 /// Elevations: two bytes, cm, signed.
-pub const ELEVATION: Measure = Measure { units: &[("cm", 0), ("m", 2)], counts: "cm", least: -32_768, most: 32_767 };
+pub const ELEVATION: Measure = Measure { least: -32_768, most: 32_767, ..head("-1000 to 6000 cm", 200) };
 /// Lengths: two bytes, dm.
-pub const LENGTH: Measure = Measure { units: &[("m", 1), ("dm", 0)], counts: "dm", least: 0, most: 65_535 };
+pub const LENGTH: Measure = Measure {
+    units: &[("m", 1), ("dm", 0)],
+    counts: "dm",
+    least: 0,
+    most: 65_535,
+    taken: "0.1 to 500.0 m",
+    example: 125,
+};
 /// Velocities: two bytes, mm/s.
-pub const VELOCITY: Measure = Measure { units: &[("mm/s", 0), ("m/s", 3)], counts: "mm/s", least: 0, most: 65_535 };
+pub const VELOCITY: Measure = Measure {
+    units: &[("mm/s", 0), ("m/s", 3)],
+    counts: "mm/s",
+    least: 0,
+    most: 65_535,
+    taken: "1 to 3000 mm/s",
+    example: 1_500,
+};
 /// Local losses: one byte, tenths.
-pub const TENTHS: Measure = Measure { units: &[("", 1)], counts: "tenths", least: 0, most: 255 };
-/// Hours a day, the version: one byte.
-pub const BYTE: Measure = Measure { units: &[("", 0)], counts: "ones", least: 0, most: 255 };
+pub const TENTHS: Measure =
+    Measure { units: &[("", 1)], counts: "tenths", least: 0, most: 255, taken: "0.2 or 0.3", example: 3 };
+pub const HOURS: Measure = bare("", 255, "1 to 24", 24);
+pub const VERSION: Measure = bare("", 255, "1", 1);
 /// Residents, fixtures: two bytes.
-pub const COUNT: Measure = Measure { units: &[("", 0)], counts: "ones", least: 0, most: 65_535 };
+pub const COUNT: Measure = bare("", 65_535, "1 to 65535", 24);
 /// A stated length: four bytes.
-pub const BYTES: Measure = Measure { units: &[("bytes", 0)], counts: "bytes", least: 0, most: 4_294_967_295 };
+pub const BYTES: Measure = Measure {
+    units: &[("bytes", 0)],
+    counts: "bytes",
+    least: 0,
+    most: 4_294_967_295,
+    taken: "the record's own length",
+    example: 50,
+};
+
+// The columns of a table; their units stand in its header.
+pub const SIZE: Measure = bare("", 255, "1 to 12", 1);
+pub const BORE: Measure = bare("mm", 65_535, "1 to 65535", 40);
+pub const PRICE: Measure = bare("price units", 65_535, "1 to 10000", 900);
+pub const FLOW: Measure = bare("ml/s", 4_294_967_295, "1 to 1000000", 1_000);
+pub const SPEED: Measure = bare("mm/s", 65_535, "1 to 65535", 800);
+pub const SLOPE: Measure = bare("mm/m", 65_535, "1 to 65535", 40);
+pub const ROWS: Measure = bare("rows", 255, "2 to 64", 8);
+pub const STATED: Measure = bare("bytes", 4_294_967_295, "the catalogue's own length", 47);
+
+/// Units in Cyrillic letters and the ones they are.
+const CYRILLIC: [(&str, &str); 8] = [
+    ("см", "cm"),
+    ("м", "m"),
+    ("дм", "dm"),
+    ("мм/с", "mm/s"),
+    ("м/с", "m/s"),
+    ("мм", "mm"),
+    ("мл/с", "ml/s"),
+    ("мм/м", "mm/m"),
+];
+
+/// A unit in Latin letters.
+pub fn latin(unit: &str) -> &str {
+    CYRILLIC.iter().find(|(cyrillic, _)| *cyrillic == unit).map_or(unit, |(_, latin)| latin)
+}
 
 /// Why a number can't be taken.
 #[derive(Clone, Copy, Debug, PartialEq, Eq)]
@@ -34,7 +104,14 @@ pub enum Fault {
     NoNumber,
     /// A comma may part thousands or decimals; who guesses gets one of them wrong by a factor of 1,000.
     Comma,
+    /// A sign where nothing below 0 can be meant.
+    Sign,
+    /// A point where the record keeps whole numbers of the unit given.
+    Point,
+    /// Three digits behind a point where the record keeps fewer decimals: they may be thousands.
+    Thousands,
     TooFine,
+    TooLong,
 }
 
 impl Measure {
@@ -47,7 +124,7 @@ impl Measure {
 
     /// The power of ten of a unit, if it is one of this quantity's.
     pub fn power(&self, unit: &str) -> Option<u32> {
-        self.units.iter().find(|(name, _)| *name == unit).map(|(_, power)| *power)
+        self.units.iter().find(|(name, _)| *name == latin(unit)).map(|(_, power)| *power)
     }
 
     /// The units for a message.
@@ -65,10 +142,61 @@ impl Measure {
         self.units.iter().map(way).collect::<Vec<_>>().join(" or ")
     }
 
-    /// The bounds of the bytes for a message.
-    pub fn bounds(&self) -> String {
-        let (unit, power) = self.units[0];
-        format!("{} to {} {unit}", shown(self.least, power), shown(self.most, power)).trim_end().to_string()
+    /// A line or a cell that would be taken, for a message.
+    pub fn example(&self, what: &str) -> String {
+        format!("for example `{what} {}`", self.show(self.example))
+    }
+
+    /// A number of this quantity in a unit with this power, within what the bytes hold.
+    pub fn number(&self, text: &str, power: u32) -> Result<i64, Fault> {
+        if self.least == 0 && text.starts_with(['+', '-']) && !text.contains(',') {
+            return Err(Fault::Sign);
+        }
+        whole(text, power)
+    }
+
+    /// The whole numbers that are taken, for a message.
+    pub fn whole(&self) -> String {
+        let of = if self.counts.is_empty() { String::new() } else { format!(" of {}", self.counts) };
+        format!("a whole number{of}, {}", self.taken)
+    }
+
+    pub fn holds(&self, value: i64) -> bool {
+        (self.least..=self.most).contains(&value)
+    }
+
+    /// What is wrong with a number, and what is expected.
+    pub fn fault(&self, fault: Fault, what: &str, text: &str, power: u32) -> (String, String) {
+        let whole = self.whole();
+        let behind = text.split('.').nth(1).unwrap_or("");
+        let joined = text.replace('.', "");
+        let front = text.split('.').next().unwrap_or("");
+        let short = if text.contains('.') { text.trim_end_matches('0').trim_end_matches('.') } else { text };
+        match fault {
+            Fault::NoNumber => (format!("`{text}` is no number for `{what}`"), self.example(what)),
+            Fault::Comma if power == 0 => {
+                (format!("`{text}` for `{what}` has a comma"), format!("{whole}, nothing between thousands"))
+            }
+            Fault::Comma => (
+                format!("`{text}` for `{what}` has a comma"),
+                format!("a point before decimals and nothing between thousands, {}", self.example(what)),
+            ),
+            Fault::Sign => (format!("`{text}` for `{what}` has a sign"), format!("the number alone, {}", self.taken)),
+            Fault::Thousands => (
+                format!("`{text}` for `{what}` may be {short} or {joined}"),
+                "fewer decimals, and nothing between thousands".to_string(),
+            ),
+            Fault::Point if behind.len() == 3 => (
+                format!("`{text}` for `{what}` has a point: it may be {front} or {joined}"),
+                format!("{whole}, nothing between thousands"),
+            ),
+            Fault::Point if behind.bytes().all(|b| b == b'0') => {
+                (format!("`{text}` for `{what}` has a point"), format!("{whole}; write {front} if that is meant"))
+            }
+            Fault::Point => (format!("`{text}` for `{what}` is finer than the record keeps"), whole),
+            Fault::TooFine => (format!("`{text}` for `{what}` is finer than the record keeps"), whole),
+            Fault::TooLong => (format!("`{text}` for `{what}` has too many digits"), self.taken.to_string()),
+        }
     }
 }
 
@@ -82,7 +210,7 @@ fn shown(value: i64, power: u32) -> String {
     format!("{sign}{}.{:0width$}", value.abs() / ten, value.abs() % ten, width = power as usize)
 }
 
-/// A decimal number times 10 to the power, if that is whole.
+/// A decimal number times 10 to the power, if that is whole and can mean one thing only.
 pub fn whole(text: &str, power: u32) -> Result<i64, Fault> {
     if text.contains(',') {
         return Err(Fault::Comma);
@@ -91,17 +219,26 @@ pub fn whole(text: &str, power: u32) -> Result<i64, Fault> {
         Some(rest) => (-1, rest),
         None => (1, text.strip_prefix('+').unwrap_or(text)),
     };
-    let (whole, part) = digits.split_once('.').unwrap_or((digits, ""));
-    let part = part.trim_end_matches('0');
-    let plain = |text: &str| text.bytes().all(|b| b.is_ascii_digit());
-    // Fifteen digits are far more than any field holds and can't overflow.
-    if digits.is_empty() || digits == "." || !plain(whole) || !plain(part) || whole.len() > 15 {
+    let (whole, part) = digits.split_once('.').unwrap_or((digits, "0"));
+    let plain = |text: &str| !text.is_empty() && text.bytes().all(|b| b.is_ascii_digit());
+    if !plain(whole) || !plain(part) {
         return Err(Fault::NoNumber);
     }
-    if part.len() > power as usize {
+    if digits.contains('.') && power == 0 {
+        return Err(Fault::Point);
+    }
+    if part.len() == 3 && power < 3 {
+        return Err(Fault::Thousands);
+    }
+    let kept = part.trim_end_matches('0');
+    if kept.len() > power as usize {
         return Err(Fault::TooFine);
     }
-    let padded = format!("0{whole}{part:0<width$}", width = power as usize);
+    // Twelve digits are more than any field holds and can't overflow.
+    if whole.len() > 12 {
+        return Err(Fault::TooLong);
+    }
+    let padded = format!("{whole}{kept:0<width$}", width = power as usize);
     padded.parse::<i64>().map(|value| sign * value).map_err(|_| Fault::NoNumber)
 }
 
@@ -113,32 +250,55 @@ mod tests {
     fn numbers_are_exact() {
         assert_eq!(whole("12.5", 1), Ok(125));
         assert_eq!(whole("12.50", 1), Ok(125));
-        assert_eq!(whole("-.5", 1), Ok(-5));
+        assert_eq!(whole("-0.5", 1), Ok(-5));
         assert_eq!(whole("+7", 0), Ok(7));
-        assert_eq!(whole("7.", 2), Ok(700));
+        assert_eq!(whole("007", 2), Ok(700));
+        assert_eq!(whole("2.000", 3), Ok(2_000));
         assert_eq!(whole("12.55", 1), Err(Fault::TooFine));
         assert_eq!(whole("1,200", 0), Err(Fault::Comma));
-        for text in ["", ".", "-", "1.2.3", "1-2", "ten", "99999999999999999999"] {
+        for text in ["", ".", "-", ".5", "7.", "1.2.3", "1-2", "ten", "--1"] {
             assert_eq!(whole(text, 1), Err(Fault::NoNumber), "{text}");
+        }
+        assert_eq!(whole("9999999999999", 3), Err(Fault::TooLong));
+    }
+
+    #[test]
+    fn a_point_has_no_place_where_whole_numbers_are_kept() {
+        for text in ["1.000", "84.0", "2.5", "310.00"] {
+            assert_eq!(COUNT.number(text, 0), Err(Fault::Point), "{text}");
+        }
+        for text in ["+84", "-84"] {
+            assert_eq!(COUNT.number(text, 0), Err(Fault::Sign), "{text}");
+            assert_eq!(ELEVATION.number(text, 0).map(i64::abs), Ok(84), "{text}");
+        }
+        for (text, power) in [("1.000", 1), ("12.500", 1), ("1.000", 2), ("-3.250", 2)] {
+            assert_eq!(ELEVATION.number(text, power), Err(Fault::Thousands), "{text}");
         }
     }
 
     #[test]
     fn a_quantity_in_each_of_its_units() {
-        assert_eq!(HEAD.ways(1_200), "1200 cm or 12 m");
-        assert_eq!(HEAD.ways(50), "50 cm or 0.5 m");
+        assert_eq!(DELIVERED.ways(1_200), "1200 cm or 12 m");
+        assert_eq!(METER.ways(50), "50 cm or 0.5 m");
         assert_eq!(LENGTH.ways(125), "12.5 m or 125 dm");
         assert_eq!(VELOCITY.ways(1_500), "1500 mm/s or 1.5 m/s");
         assert_eq!(BYTES.ways(50), "50 bytes");
     }
 
     #[test]
+    fn cyrillic_units_are_the_units_they_are() {
+        assert_eq!((FREE.power("см"), FREE.power("м"), LENGTH.power("дм")), (Some(0), Some(2), Some(0)));
+        assert_eq!((VELOCITY.power("мм/с"), VELOCITY.power("м/с"), FREE.power("дм")), (Some(0), Some(3), None));
+        assert_eq!(FREE.power("сm"), None, "two alphabets in one word");
+    }
+
+    #[test]
     fn shown_values_are_read_again() {
-        for measure in [HEAD, ELEVATION, LENGTH, VELOCITY, TENTHS, BYTE, COUNT, BYTES] {
-            for value in [measure.least, measure.least + 1, -9.max(measure.least), 0, 7, 65, measure.most] {
+        for measure in [METER, DELIVERED, FREE, ELEVATION, LENGTH, VELOCITY, TENTHS, HOURS, COUNT, BYTES, FLOW] {
+            for value in [measure.least, measure.least + 1, (-9).max(measure.least), 0, 7, 65, measure.most] {
                 let text = measure.show(value);
                 let number = text.split(' ').next().expect("split gives at least one part");
-                assert_eq!(whole(number, measure.units[0].1), Ok(value), "{text}");
+                assert_eq!(measure.number(number, measure.units[0].1), Ok(value), "{text}");
             }
         }
     }

@@ -2,9 +2,10 @@
 
 use crate::calls::{Flow, Rating};
 use crate::catalogue::Catalogue;
+use crate::places::{gentlest, reading};
 use crate::record::{Record, Section};
 
-/// One section with its size.
+/// One section with its size. Where no size serves it, its size is 0.
 #[derive(Clone, Debug, PartialEq, Eq)]
 pub struct Pipe {
     pub number: u8,
@@ -12,6 +13,8 @@ pub struct Pipe {
     pub size: u8,
     /// mm
     pub bore: u16,
+    /// Per metre.
+    pub price: u16,
     /// ml/s
     pub flow: u32,
     /// mm/s
@@ -23,6 +26,13 @@ pub struct Pipe {
     pub left: i64,
     /// Whether the section lies between the pump and the dictating end.
     pub dictating: bool,
+}
+
+impl Pipe {
+    /// In tenths of the price unit: the price is per metre, the length in dm.
+    pub fn cost(&self) -> u64 {
+        u64::from(self.price) * u64::from(self.section.length)
+    }
 }
 
 /// The pipes of a house, section 1 first. The job, the catalogue and the sizes are ones that the library has rated; if the
@@ -41,11 +51,13 @@ pub fn pipes(job: &[u8], cat: &[u8], sizes: &[u8], flow: &Flow, rating: &Rating)
         };
         paths.push(above + i64::from(rated.loss));
         let size = *sizes.get(place)?;
+        let of_table = catalogue.size(size)?;
         pipes.push(Pipe {
             number,
             section: *section,
             size,
-            bore: catalogue.size(size)?.bore,
+            bore: of_table.bore,
+            price: of_table.price,
             flow: *flow.flows.get(place)?,
             velocity: rated.velocity,
             loss: rated.loss,
@@ -54,6 +66,31 @@ pub fn pipes(job: &[u8], cat: &[u8], sizes: &[u8], flow: &Flow, rating: &Rating)
         });
     }
     Some(pipes)
+}
+
+/// The pipes of a house for which no list of sizes suits: each section with the size of the least loss that serves it. Without
+/// a size for each there is no rating, so losses and heads are 0 and not to be shown.
+pub fn sketch(job: &[u8], cat: &[u8], flow: &Flow) -> Option<Vec<Pipe>> {
+    let record = Record::read(job).ok()?;
+    let catalogue = Catalogue::read(cat).ok()?;
+    let sizes = gentlest(&record, &catalogue, &flow.flows);
+    let pipes = record.numbered().zip(sizes).zip(&flow.flows).map(|(((number, section), size), flow)| {
+        let of_table = size.and_then(|size| catalogue.size(size));
+        let velocity = of_table.and_then(|size| reading(size, *flow)).map_or(0, |reading| reading.velocity as u16);
+        Pipe {
+            number,
+            section: *section,
+            size: size.unwrap_or(0),
+            bore: of_table.map_or(0, |size| size.bore),
+            price: of_table.map_or(0, |size| size.price),
+            flow: *flow,
+            velocity,
+            loss: 0,
+            left: 0,
+            dictating: false,
+        }
+    });
+    Some(pipes.collect())
 }
 
 /// The sections from an end back to the pump.

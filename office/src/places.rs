@@ -13,6 +13,8 @@ mod sizes;
 
 use crate::at::At;
 use crate::refusal::Refusal;
+pub use choice::gentlest;
+pub use pipe::read as reading;
 use std::fmt;
 
 /// One place that a refusal lies at.

@@ -1,15 +1,19 @@
-//! A readable table of pipe sizes (CSV, one line a row) and the catalogue, both ways.
+//! A readable table of pipe sizes (one line a row, as spreadsheets save them) and the catalogue, both ways.
 //!
 //! As with houses: packing refuses only what is no line of the format and what can't be written as bytes; the rules of
 //! document 01 are the library's. `docs/FILES.md` describes the format.
 
 mod cells;
+mod header;
+mod odd;
 mod sizes;
 
 use crate::at::Lines;
-use crate::catalogue::{Catalogue, NoCatalogue, Size};
-use crate::mistake::Mistake;
+use crate::catalogue::{Catalogue, NoCatalogue};
+use crate::mistake::{Mistake, Mistakes};
+use crate::readable;
 use cells::Cells;
+use odd::Odd;
 
 /// The columns, in the order in which they are shown; a file may have them in another.
 pub const COLUMNS: [&str; 6] = ["size", "bore mm", "price", "flow ml/s", "velocity mm/s", "slope mm/m"];
@@ -21,26 +25,68 @@ pub struct Packed {
     pub lines: Lines,
 }
 
+/// The words that begin a house's lines: where one begins the first line, the file is no table.
+const OF_A_HOUSE: [&str; 11] = [
+    "local",
+    "hours",
+    "meter",
+    "guaranteed",
+    "delivered",
+    "velocity limit",
+    "residents",
+    "section ",
+    "section\t",
+    "version",
+    "stated length",
+];
+
+/// Whether a readable file is a table: the first line that is no odd catalogue's has cells.
+pub fn is_table(text: &str) -> bool {
+    let mut first = true;
+    for said in readable::lines(text) {
+        if first && cells::named_separator(&said).is_some() {
+            return true;
+        }
+        first = false;
+        let parted = |separator: char| Cells::of(&said, separator);
+        if [',', ';', '\t'].iter().any(|separator| odd::knows(&parted(*separator))) {
+            continue;
+        }
+        let line = said.said.trim().to_lowercase();
+        return !OF_A_HOUSE.iter().any(|word| line.starts_with(word)) && line.split([',', ';', '\t']).count() > 2;
+    }
+    false
+}
+
 /// The catalogue of a readable table.
-pub fn pack(text: &str) -> Result<Vec<u8>, Mistake> {
+pub fn pack(text: &str) -> Result<Vec<u8>, Mistakes> {
     read(text).map(|packed| packed.bytes)
 }
 
-/// The catalogue of a readable table, and where each row stands in the text.
-pub fn read(text: &str) -> Result<Packed, Mistake> {
-    let mut lines = cells::lines(text).peekable();
+/// The catalogue of a readable table, and where each row stands in the text; or all that is wrong with it.
+pub fn read(text: &str) -> Result<Packed, Mistakes> {
+    let mut mistakes = Mistakes::default();
+    readable::lines(text).filter_map(|said| said.fault()).for_each(|fault| mistakes.add(fault));
+    mistakes.none(())?;
+    let (separator, from) = cells::separator(text)?;
+    // A line of nothing but separators is empty: spreadsheets fill short lines up with empty cells.
+    let lines = readable::lines(text).skip(from).map(|said| Cells::of(&said, separator));
+    let mut lines = lines.filter(Cells::says).peekable();
     let mut odd = Odd::default();
-    while let Some(line) = lines.next_if(|line| odd.knows(line)) {
+    while let Some(line) = lines.next_if(odd::knows) {
         odd.take(&line)?;
     }
     let Some(header) = lines.next() else {
-        return Err(Mistake::lacking("the file has no header line", format!("`{}`", COLUMNS.join(","))));
+        return Err(Mistake::lacking("the file has no header line", format!("`{}`", COLUMNS.join(","))).into());
     };
-    let columns = header.columns()?;
+    let columns = header::columns(&header)?;
     let mut given = sizes::Given::default();
+    let mut mistakes = Mistakes::default();
     for line in lines {
-        given.take(&line, &columns)?;
+        given.take(&line, &columns, &mut mistakes);
     }
+    // A row that can't be read may be the one that a size lacks.
+    let given = mistakes.none(given)?;
     let (sizes, rows, places) = given.sizes()?;
     let rows = odd.rows_of(&sizes, rows)?;
     let mut catalogue = Catalogue { stated: 0, version: odd.version.unwrap_or(1), rows, sizes };
@@ -52,55 +98,11 @@ pub fn read(text: &str) -> Result<Packed, Mistake> {
 /// back as [`NoCatalogue`], which says how many bytes there are and how many the counts ask for.
 pub fn show(bytes: &[u8]) -> Result<String, NoCatalogue> {
     let catalogue = Catalogue::read(bytes)?;
-    let mut text = String::new();
-    if catalogue.stated as usize != catalogue.len() {
-        text.push_str(&format!("stated length,{}\n", catalogue.stated));
-    }
-    if catalogue.version != 1 {
-        text.push_str(&format!("version,{}\n", catalogue.version));
-    }
-    if catalogue.sizes.is_empty() && catalogue.rows != 0 {
-        text.push_str(&format!("rows,{}\n", catalogue.rows));
-    }
+    let mut text = odd::show(&catalogue);
     text.push_str(&COLUMNS.join(","));
     text.push('\n');
     for (number, size) in (1..).zip(&catalogue.sizes) {
         text.push_str(&sizes::show(number, size));
     }
     Ok(text)
-}
-
-/// Lines above the header that only an odd catalogue has: those that are not what packing would write.
-#[derive(Default)]
-struct Odd {
-    stated: Option<u32>,
-    version: Option<u8>,
-    rows: Option<u8>,
-}
-
-impl Odd {
-    fn knows(&self, line: &Cells) -> bool {
-        line.cells.len() == 2 && matches!(line.cells[0].as_str(), "stated length" | "version" | "rows")
-    }
-
-    fn take(&mut self, line: &Cells) -> Result<(), Mistake> {
-        match line.cells[0].as_str() {
-            "stated length" => self.stated = Some(line.number(1, "stated length", u32::MAX)?),
-            "version" => self.version = Some(line.number(1, "version", 255)? as u8),
-            _ => self.rows = Some(line.number(1, "rows", 255)? as u8),
-        }
-        Ok(())
-    }
-
-    /// A table without sizes has no rows to count, so only there a line may say what the count's byte holds.
-    fn rows_of(&self, sizes: &[Size], counted: u8) -> Result<u8, Mistake> {
-        match self.rows {
-            Some(said) if sizes.is_empty() => Ok(said),
-            Some(said) if said != counted => Err(Mistake::lacking(
-                format!("the line `rows` says {said}, but each size has {counted} rows"),
-                "no line `rows`: the rows are counted",
-            )),
-            _ => Ok(counted),
-        }
-    }
 }

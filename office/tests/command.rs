@@ -93,7 +93,9 @@ fn readable_files_and_records_are_alike() {
     assert_eq!(office_with(&["choose", HOUSE, "-"], read(TABLE).as_bytes()).text(), readable);
     let older = [b"# \xea\xf3\xf5\xed\xff\n", read(HOUSE).as_bytes()].concat();
     assert_eq!(office_with(&["choose", "-", TABLE], &older).text(), readable, "comments in an older code page");
-    assert!(office_with(&["flow", "-"], &[0xee; 50]).text().starts_with("refused 1: "), "bytes that are no text");
+    let damaged = [&[0xee], &job[1..]].concat();
+    assert_eq!(office_with(&["flow", "-"], &damaged).status, 2, "what does not begin with 0 is text");
+    assert!(office_with(&["flow", "--record", "-"], &damaged).text().starts_with("refused 1: "));
     let sizes = calls::choose(&job, &cat).expect("some list suits").sizes;
     let (bytes, words) = (scratch("alike.sizes"), scratch("alike.numbers"));
     std::fs::write(&bytes, &sizes).expect("written");
@@ -125,7 +127,7 @@ fn a_refused_record_is_packed_and_shown_with_a_warning() {
     let packed = office(&["pack", file]);
     assert_eq!(packed.status, 1);
     assert_eq!(packed.output, house::pack(&read(file)).expect("it has its bytes"));
-    assert!(packed.error.starts_with("warning: "), "{}", packed.error);
+    assert!(packed.error.starts_with("warning: the library will not take this\n"), "{}", packed.error);
     assert!(packed.error.contains("refused 5: ") && packed.error.contains("line 10, section 2: it hangs"));
     let shown = office_with(&["show", "-"], &packed.output);
     assert_eq!(shown.status, 1);
@@ -191,7 +193,7 @@ fn misuse_has_status_2_and_says_why() {
         (&["flow", "no-such-file"], "no-such-file can't be read"),
         (&["flow", HOUSE, "-o", "no-such-folder/file"], "no-such-folder/file can't be written"),
         (&["flow", TABLE], "is a table of sizes; a house is expected"),
-        (&["choose", HOUSE, HOUSE], "is no table of sizes"),
+        (&["choose", HOUSE, HOUSE], "is no table of sizes: its first line is not `size,bore mm"),
         (&["choose", "-", "-"], "standard input can be read only once"),
         (&["rate", HOUSE, TABLE, "1,two"], "`two` is no size number"),
         (&["show", HOUSE], "is readable already"),
@@ -210,8 +212,6 @@ fn misuse_has_status_2_and_says_why() {
         "{}",
         neither.error
     );
-    let wide = office_with(&["flow", "-"], b"\xff\xfeh\0o\0");
-    assert!(wide.status == 2 && wide.error.contains("save it as UTF-8"), "{}", wide.error);
     let binary = office_with(&["pack", "-"], &[0; 40]);
     assert!(binary.status == 2 && binary.error.contains("is no readable file"), "{}", binary.error);
 }
@@ -284,4 +284,23 @@ fn the_readmes_worked_example() {
     let shown: String =
         said.lines().map(|line| if line.is_empty() { "\n".into() } else { format!("    {line}\n") }).collect();
     assert!(read("README.md").contains(&shown), "{shown}");
+}
+
+#[test]
+fn where_no_list_suits_there_is_a_drawing_all_the_same() {
+    for (from, to, title) in [
+        ("velocity limit  1500 mm/s", "velocity limit 400 mm/s", ": NO SIZE SERVES</title>"),
+        ("delivered head  1800 cm", "delivered head 1500 cm", ": TOO LITTLE HEAD</title>"),
+    ] {
+        let text = read(HOUSE).replacen(from, to, 1);
+        let drawn = office_with(&["draw", "-", TABLE], text.as_bytes());
+        assert_eq!(drawn.status, 1);
+        assert!(drawn.text().starts_with("<?xml") && drawn.text().contains(title), "{}", drawn.text());
+        assert!(drawn.error.contains("refused 16: "), "{}", drawn.error);
+        let chosen = office_with(&["choose", "-", TABLE], text.as_bytes());
+        assert!(chosen.status == 1 && chosen.text().starts_with("refused 16: "), "{}", chosen.text());
+        let kept = scratch("unsuitable.svg");
+        assert_eq!(office_with(&["draw", "-", TABLE, "-o", &kept], text.as_bytes()).status, 1);
+        assert_eq!(std::fs::read(&kept).expect("written"), drawn.output);
+    }
 }

@@ -4,9 +4,9 @@
 mod xml;
 
 use office::draw::draw;
-use office::pipes::pipes;
+use office::pipes::{pipes, sketch};
 use office::record::{Record, Section};
-use office::{calls, house, table};
+use office::{calls, draw, house, table};
 use xml::{Element, elements};
 
 const CAT: &str = "size,bore mm,price,flow ml/s,velocity mm/s,slope mm/m\n1,40,900,1,1,1\n1,40,900,3000,1000,40\n\
@@ -20,7 +20,34 @@ fn drawn(job: &[u8]) -> (String, usize) {
     let flow = calls::flow(job).unwrap_or_else(|refusal| panic!("{refusal}"));
     let rating = calls::rate(job, &cat, &sizes).unwrap_or_else(|refusal| panic!("{refusal}"));
     let pipes = pipes(job, &cat, &sizes, &flow, &rating).expect("the answers are this house's");
-    (draw(&record, &pipes, &rating, Some(u32::MAX)), pipes.len())
+    (draw(&record, &pipes, &rating, u64::from(u32::MAX)), pipes.len())
+}
+
+/// Tables in which some section, or every one, has no size.
+const NARROW: &str = "size,bore mm,price,flow ml/s,velocity mm/s,slope mm/m\n1,20,900,1,1,1\n1,20,900,400,1000,40\n";
+const NONE: &str = "size,bore mm,price,flow ml/s,velocity mm/s,slope mm/m\n1,20,900,1,1,1\n1,20,900,2,1,1\n";
+
+/// The drawing of a house without heads.
+fn sketch_of(job: &[u8], cat: &str) -> String {
+    let flow = calls::flow(job).unwrap_or_else(|refusal| panic!("{refusal}"));
+    let pipes = sketch(job, &table::pack(cat).expect("a table"), &flow).expect("of this house");
+    draw::sketch(&Record::read(job).expect("a record"), &pipes)
+}
+
+#[test]
+fn a_house_that_no_size_serves_is_drawn_all_the_same() {
+    let hotel = &houses()[0];
+    let svg = sketch_of(hotel, NARROW);
+    assert!(svg.contains("<title>House network of 12 sections: NO SIZE SERVES</title>"));
+    assert!(svg.contains(">NO SIZE SERVES section 1, 2, 3, 4, 5, 6, 7, 8, 9<"), "{svg}");
+    assert!(svg.contains("20 mm (size 1)") && svg.contains(">2289 ml/s<") && !svg.contains("head left"));
+    assert!(sketch_of(hotel, NONE).contains("4, 5, 6, 7, 8, 9 and 3 more<"));
+    assert!(sketch_of(&great(|_| 0), NONE).contains("8, 9 and 54 more<"));
+    let well_formed = elements(&svg);
+    assert!((1..=12).all(|number| {
+        let id = format!("section-{number}");
+        well_formed.iter().any(|element| element.attributes.get("id") == Some(&id))
+    }));
 }
 
 /// A house of 63 sections, each with fixtures, hung as `parent` says.
@@ -105,8 +132,9 @@ fn meet(a: (i64, i64, i64, i64), b: (i64, i64, i64, i64)) -> bool {
 
 #[test]
 fn no_text_meets_another_or_a_pipe() {
-    for job in houses() {
-        let (svg, _) = drawn(&job);
+    let jobs = houses();
+    let sketched = jobs.iter().flat_map(|job| [NARROW, NONE].map(|cat| sketch_of(job, cat)));
+    for svg in jobs.iter().map(|job| drawn(job).0).chain(sketched) {
         let all = elements(&svg);
         let texts: Vec<&Element> = all.iter().filter(|element| element.name == "text").collect();
         let (width, height) = (all[0].number("width"), all[0].number("height"));

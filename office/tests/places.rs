@@ -4,6 +4,7 @@
 use office::at::{At, Field};
 use office::case::Call;
 use office::places::{Asked, Place, places};
+use office::record::{Record, Section};
 use office::{Refusal, calls, generate, house, table};
 
 const JOB: &str = "local losses 0.3\nhours 24\nmeter loss 50 cm\nguaranteed head 500 cm\ndelivered head 1200 cm\n\
@@ -73,8 +74,54 @@ fn jobs() {
     check(of_job(&with(&own, &crowd)), 8, At::House, "over 400000000");
 }
 
+/// The number before these words in the reason of a place.
+fn told(place: &Place, behind: &str) -> Option<u16> {
+    let front = place.why.split(behind).next().filter(|front| front.len() < place.why.len())?;
+    front.split(|c: char| !c.is_ascii_digit()).next_back().and_then(|number| number.parse().ok())
+}
+
+/// A house of fixtures that hang on the pump, each line a kind with its residents and fixtures.
+fn crowd(kinds: &[(u8, u16, u16)]) -> Record {
+    let mut record = Record { version: 1, tenths: 3, hours: 24, delivered: 6_000, limit: 3_000, ..Record::default() };
+    for (kind, residents, fixtures) in kinds {
+        record.residents[usize::from(*kind) - 1] = *residents;
+        record.sections.push(Section { kind: *kind, fixtures: *fixtures, length: 10, ..Section::default() });
+    }
+    record.stated = record.len() as u32;
+    record
+}
+
+fn number_of(record: &Record) -> u32 {
+    calls::flow(&record.bytes()).err().map_or(0, |refusal| refusal.number())
+}
+
+/// What a place says of residents and fixtures holds in the library: so many pass, one more or one fewer doesn't.
+fn the_advice_holds(record: &Record, place: &Place, number: u32) -> bool {
+    let At::Residents(kind) = place.at else { return false };
+    let of = |residents: u16| {
+        let mut other = record.clone();
+        other.residents[usize::from(kind) - 1] = residents;
+        number_of(&other)
+    };
+    let words = if number == 9 { " residents would pass" } else { " would pass" };
+    let passes = told(place, words);
+    if let Some(pass) = passes {
+        assert_eq!(of(pass), 0, "{place}");
+        assert!([8, 9].contains(&of(pass + 1)), "{place}");
+    }
+    let Some(more) = told(place, " more in section ") else { return passes.is_some() };
+    let section: usize = place.why.rsplit(' ').next().and_then(|word| word.parse().ok()).expect("a section");
+    let with = |more: u16| {
+        let mut other = record.clone();
+        other.sections[section - 1].fixtures += more;
+        number_of(&other)
+    };
+    assert_eq!((with(more), with(more - 1)), (0, 9), "{place}");
+    true
+}
+
 #[test]
-fn nine_says_how_many_fixtures_are_needed() {
+fn nine_says_what_would_pass() {
     let own = job();
     check(
         of_job(&with(&own, &[(43, 18)])),
@@ -84,34 +131,48 @@ fn nine_says_how_many_fixtures_are_needed() {
     );
     let few = of_job(&with(&own, &[(43, 70)]));
     check(few.clone(), 9, At::House, "the hour's sum is 7100000 millionths");
-    check(few.clone(), 9, At::House, "at least about 71 fixtures are needed");
-    check(few, 9, At::Residents(7), "they weigh most, 7100000 of 7100000 millionths: 71 residents, 70 fixtures");
+    check(few.clone(), 9, At::Residents(7), "71 residents weigh 7100000 millionths, and 70 fixtures of kind hotel-75");
+    check(few, 9, At::Residents(7), "70 residents would pass; 71 fixtures would do, 1 more in section 1");
     assert!(calls::flow(&with(&own, &[(43, 71)])).is_ok(), "71 fixtures are enough");
+}
+
+/// A hotel of 120 in 160 fixtures has the larger share; the offices of 200 in 36 are the ones that are over.
+#[test]
+fn nine_blames_the_kind_that_is_over_and_not_the_largest() {
+    let record = crowd(&[(7, 120, 160), (11, 200, 36)]);
+    let (number, found) = of_job(&record.bytes());
+    let blamed: Vec<&Place> = found.iter().filter(|place| matches!(place.at, At::Residents(_))).collect();
+    assert_eq!((number, blamed.len(), blamed[0].at), (9, 1, At::Residents(11)), "{found:?}");
+    assert!(the_advice_holds(&record, blamed[0], 9), "{found:?}");
 }
 
 #[test]
 fn nine_from_a_section_alone() {
-    let text = "local losses 0.3\nhours 24\nmeter loss 0 cm\nguaranteed head 0 cm\ndelivered head 6000 cm\n\
-        velocity limit 3000 mm/s\nresidents offices 3200\n\
-        section 1 from pump length 1 m elevation 0 cm kind offices fixtures 50 free 0 cm\n\
-        section 2 from pump length 1 m elevation 0 cm kind offices fixtures 200 free 0 cm\n";
-    let found = of_job(&house::pack(text).expect("a house"));
+    let record = crowd(&[(11, 3_200, 50), (11, 3_200, 200)]);
+    let found = of_job(&record.bytes());
     assert!(found.1.iter().all(|place| place.at != At::House), "the house itself passes");
     check(found.clone(), 9, At::Section(2), "200, carry at most 20000000");
-    check(found.clone(), 9, At::Section(2), "over 200 fixtures are needed, where this rule ends");
-    check(found, 9, At::Residents(11), "3200 residents, 250 fixtures of theirs in the house");
+    check(found, 9, At::Residents(11), "3150 residents would pass; 254 fixtures would do, 4 more in section 1");
 }
 
 #[test]
-fn nine_names_the_heaviest_kinds_only() {
-    let text = "local losses 0.3\nhours 24\nmeter loss 0 cm\nguaranteed head 0 cm\ndelivered head 6000 cm\n\
-        velocity limit 3000 mm/s\nresidents offices 3\nresidents dwelling 90\nresidents hotel-25 2\n\
-        section 1 from pump length 1 m elevation 0 cm kind offices fixtures 5 free 0 cm\n\
-        section 2 from pump length 1 m elevation 0 cm kind hotel-25 fixtures 5 free 0 cm\n\
-        section 3 from pump length 1 m elevation 0 cm kind dwelling fixtures 5 free 0 cm\n";
-    let (number, found) = of_job(&house::pack(text).expect("a house"));
-    let named: Vec<At> = found.iter().map(|place| place.at).filter(|at| matches!(at, At::Residents(_))).collect();
-    assert_eq!((number, named), (9, vec![At::Residents(1)]));
+fn the_advice_of_eight_and_nine_holds_in_the_library() {
+    let (mut eights, mut nines) = (0, 0);
+    for index in 0..30_000 {
+        let case = generate::case(13, index);
+        let Err(refusal) = calls::flow(&case.job) else { continue };
+        if ![8, 9].contains(&refusal.number()) {
+            continue;
+        }
+        let record = Record::read(&case.job).expect("it passed 4");
+        let found = places(&refusal, &Asked { job: &case.job, ..Asked::default() });
+        assert!(found.iter().any(|place| place.at == At::House || matches!(place.at, At::Residents(_))), "{found:?}");
+        let held = found.iter().filter(|place| the_advice_holds(&record, place, refusal.number())).count();
+        *if refusal.number() == 8 { &mut eights } else { &mut nines } += usize::from(held > 0);
+    }
+    assert!(eights > 30 && nines > 100, "{eights} {nines}");
+    let own = with(&job(), &[(28, 255), (29, 255), (42, 255), (43, 255)]);
+    check(of_job(&own), 8, At::Residents(7), "65535 given, 6553500000 of 6553500000 millionths; 4000 would pass");
 }
 
 fn rated(job: &[u8], cat: &[u8], sizes: &[u8]) -> (u32, Vec<Place>) {
@@ -158,7 +219,15 @@ fn the_missing_head() {
     let slow = with(&job(), &[(14, 1), (15, 0)]);
     let refusal = calls::choose(&slow, &cat).expect_err("256 mm/s are too slow");
     let found = (refusal.number(), places(&refusal, &Asked { job: &slow, cat: &cat, sizes: &[] }));
-    check(found, 16, At::Section(1), "the least velocity is 1026 mm/s, in size 2, and the limit is 256 mm/s");
+    check(found.clone(), 16, At::Section(1), "at 2052 ml/s the least velocity is 1026 mm/s, in size 2 (50 mm)");
+    // 2,052,000 cubic mm a second at 256 mm/s take 8,016 square mm, a bore of 101.02 mm.
+    check(found, 16, At::Section(1), "and the limit is 256 mm/s; a bore of about 102 mm would do");
+    let small = with(&cat, &[(21, 7), (22, 0xd0), (41, 7), (42, 0xd0)]);
+    let refusal = calls::choose(&job(), &small).expect_err("the rows end at 2,000 ml/s");
+    let found = (refusal.number(), places(&refusal, &Asked { job: &job(), cat: &small, sizes: &[] }));
+    let why = "no size serves its flow of 2052 ml/s; the greatest flow in the table is 2000 ml/s, and the limit is 1500 mm/s; \
+        a bore of about 51 mm would do";
+    check(found, 16, At::Section(1), why);
 }
 
 /// Every refusal of the made-up orders has a place, and its place is of its own kind.

@@ -29,7 +29,7 @@ fn a_lost_answer_is_no_success() {
 }
 
 #[test]
-fn who_closes_the_pipe_early_has_read_enough() {
+fn a_closed_pipe_is_a_lost_answer() {
     let mut child = Command::new(env!("CARGO_BIN_EXE_office"))
         .args(["flow", "-"])
         .current_dir(top())
@@ -44,7 +44,9 @@ fn who_closes_the_pipe_early_has_read_enough() {
     std::io::Write::write_all(&mut input, read(HOUSE).as_bytes()).expect("it reads");
     drop(input);
     let ran = child.wait_with_output().expect("the command ends");
-    assert_eq!((ran.status.code(), ran.stderr.as_slice()), (Some(0), &b""[..]));
+    let said = String::from_utf8_lossy(&ran.stderr).into_owned();
+    assert_eq!(ran.status.code(), Some(2), "{said}");
+    assert!(said.starts_with("office: the answer can't be written to standard output: "), "{said}");
 }
 
 /// A folder may hold names in an older code page than UTF-8.
@@ -118,20 +120,53 @@ fn the_mark_in_front_of_utf_8_is_no_letter() {
 }
 
 #[test]
-fn a_record_that_begins_as_utf_16_does_is_a_record() {
+fn a_record_that_is_damaged_in_its_first_byte_is_read_where_that_is_said() {
     for file in [HOUSE, TABLE] {
-        for mark in [[0xff, 0xfe], [0xfe, 0xff]] {
+        for first in [0xff, b'h', 1] {
             let mut bytes = office(&["pack", file]).output;
-            bytes[..2].copy_from_slice(&mark);
-            let shown = office_with(&["show", "-"], &bytes);
-            assert_eq!(shown.status, 1, "{}", shown.error);
-            assert!(shown.text().contains("stated length"), "{}", shown.text());
-            assert_eq!(office_with(&["pack", "-"], &shown.output).output, bytes);
-            let longer = [bytes.as_slice(), &[0]].concat();
-            assert!(office_with(&["show", "-"], &longer).error.contains("save it as UTF-8"), "no record's length");
+            bytes[0] = first;
+            let told = office_with(&["show", "-"], &bytes);
+            assert_eq!(told.status, 2, "{}", told.error);
+            assert!(told.error.contains("`--record` shows a record that is damaged there"), "{}", told.error);
+            let packed = office_with(&["pack", "-"], &bytes);
+            assert!(packed.status == 2 && packed.error.contains("read with --record"), "{}", packed.error);
+            for words in [&["show", "--record", "-"], &["show", "-", "--record"]] {
+                let shown = office_with(words, &bytes);
+                assert_eq!(shown.status, 1, "{}", shown.error);
+                assert!(shown.text().contains("stated length"), "{}", shown.text());
+                assert_eq!(office_with(&["pack", "-"], &shown.output).output, bytes);
+            }
         }
     }
     let mut job = office(&["pack", HOUSE]).output;
-    job[..2].copy_from_slice(&[0xff, 0xfe]);
-    assert!(office_with(&["flow", "-"], &job).text().starts_with("refused 1: "));
+    job[0] = 0xff;
+    assert!(office_with(&["flow", "-", "--record"], &job).text().starts_with("refused 1: "));
+    assert!(office_with(&["choose", "--record", "-", TABLE], &job).text().starts_with("refused 1: "));
+    let unclear = office_with(&["choose", "-", TABLE, "--record"], &job);
+    assert!(unclear.status == 2 && unclear.error.contains("stands before the file"), "{}", unclear.error);
+}
+
+/// The sheet program has no status to give; what it wrote tells whether it is whole.
+#[test]
+fn a_lost_sheet_is_told_from_a_whole_one() {
+    let whole = "house 4542 17750 740\nsection 1 2052 1026 71\nsection 2 9 8 7\nhead -21 0 1\n";
+    let cut = |lines: usize| whole.split_inclusive('\n').take(lines).collect::<String>();
+    let sheets = [
+        (whole.to_string(), true),
+        ("refused 12\n".to_string(), true),
+        (String::new(), false),
+        (cut(1), false),
+        (cut(3), false),
+        (whole.trim_end().to_string(), false),
+        (whole.replace("section 2", "section 3"), false),
+        (format!("{whole}{whole}"), false),
+        ("refused 12".to_string(), false),
+        ("refused\n".to_string(), false),
+    ];
+    let kept = scratch("sheet");
+    for (sheet, expected) in sheets {
+        std::fs::write(&kept, &sheet).expect("written");
+        let ran = Command::new("sh").args(["examples/whole-sheet.sh", &kept]).current_dir(top()).output();
+        assert_eq!(ran.expect("the shell starts").status.success(), expected, "{sheet:?}");
+    }
 }

@@ -1,65 +1,100 @@
 //! The command's words: its name, its files, its options.
 
 use super::help;
-use super::input;
-use super::outcome::Misuse;
+use super::input::{File, Reading};
+use super::keep;
+use super::outcome::{Misuse, word};
 use std::borrow::Cow;
-use std::ffi::{OsStr, OsString};
+use std::ffi::OsString;
 
 #[derive(Debug, Default)]
 pub struct Arguments {
     pub command: String,
     /// Files, size lists and numbers, in their order.
     pub words: Vec<OsString>,
+    /// How each of the words is to be read.
+    readings: Vec<Reading>,
     pub out: Option<OsString>,
     pub json: bool,
+    pub strict: bool,
     pub seed: Option<u64>,
     pub help: bool,
 }
 
-/// Options may stand anywhere; behind `--` everything is a plain word.
+/// Options may stand anywhere, but those that say how a file is read stand before it; behind `--` everything is a plain
+/// word.
 pub fn parse(words: &[OsString]) -> Result<Arguments, Misuse> {
     let mut found = Arguments::default();
-    let mut plain = Vec::new();
+    let mut plain: Vec<(OsString, Reading)> = Vec::new();
+    let mut next = Reading::ByContent;
     let mut rest = words.iter();
     while let Some(word) = rest.next() {
         // What is no text is no option either.
         match word.to_str().unwrap_or("") {
-            "--" => plain.extend(rest.by_ref().cloned()),
+            "--" => plain.extend(rest.by_ref().map(|word| (word.clone(), std::mem::take(&mut next)))),
             "--json" => found.json = true,
+            "--strict" => found.strict = true,
             "-h" | "--help" => found.help = true,
+            "--record" => set_reading(&mut next, Reading::Record)?,
+            "--text" => set_reading(&mut next, Reading::Text)?,
             "-o" => found.set_out(value(rest.next(), "-o", "a file")?)?,
             "--seed" => {
                 found.seed = Some(number(&value(rest.next(), "--seed", "a number")?.to_string_lossy(), "--seed")?)
             }
             option if option.starts_with('-') && option != "-" => {
-                return Err(Misuse(format!("there is no option `{option}`; `office help` lists them")));
+                let option = self::word(option);
+                return Err(Misuse::Words(format!("there is no option `{option}`; `office help` lists them")));
             }
-            _ => plain.push(word.clone()),
+            // The command's own name is no file.
+            _ if plain.is_empty() => plain.push((word.clone(), Reading::ByContent)),
+            _ => plain.push((word.clone(), std::mem::take(&mut next))),
         }
     }
     let mut plain = plain.into_iter();
-    found.command = plain.next().map_or("help".to_string(), |word| word.to_string_lossy().into_owned());
-    found.words = plain.collect();
+    found.command = plain.next().map_or("help".to_string(), |(word, _)| word.to_string_lossy().into_owned());
+    (found.words, found.readings) = plain.unzip();
+    found.last_reading(next)?;
     found.check()?;
     Ok(found)
 }
 
+fn set_reading(next: &mut Reading, reading: Reading) -> Result<(), Misuse> {
+    if *next != Reading::ByContent {
+        return Err(Misuse::Words("`--record` and `--text` stand before a file each".to_string()));
+    }
+    *next = reading;
+    Ok(())
+}
+
 fn value(word: Option<&OsString>, option: &str, what: &str) -> Result<OsString, Misuse> {
-    word.cloned().ok_or_else(|| Misuse(format!("`{option}` wants {what}")))
+    word.cloned().ok_or_else(|| Misuse::Words(format!("`{option}` wants {what}")))
 }
 
 /// A whole number given as a word.
-pub fn number(word: &str, what: &str) -> Result<u64, Misuse> {
-    word.parse().map_err(|_| Misuse(format!("`{word}` is no whole number for {what}")))
+pub fn number(given: &str, what: &str) -> Result<u64, Misuse> {
+    let plain = given.bytes().all(|b| b.is_ascii_digit());
+    let no = || Misuse::Words(format!("`{}` is no whole number for {what}", word(given)));
+    given.parse().ok().filter(|_| plain).ok_or_else(no)
 }
 
 impl Arguments {
-    /// There is one answer, so it has one file.
+    /// There is one answer, so it has one file. A dash is standard output, where it goes anyway.
     fn set_out(&mut self, file: OsString) -> Result<(), Misuse> {
         match self.out.replace(file) {
             None => Ok(()),
-            Some(_) => Err(Misuse("`-o` is given twice; the answer goes to one file".to_string())),
+            Some(_) => Err(Misuse::Words("`-o` is given twice; the answer goes to one file".to_string())),
+        }
+    }
+
+    /// A reading behind the last file is about it, where there is no other that could be meant.
+    fn last_reading(&mut self, reading: Reading) -> Result<(), Misuse> {
+        match (reading, self.readings.as_mut_slice()) {
+            (Reading::ByContent, _) => Ok(()),
+            (_, [Reading::ByContent]) => {
+                self.readings[0] = reading;
+                Ok(())
+            }
+            _ => Err(Misuse::Words("`--record` or `--text` stands before the file that it is about".to_string())),
         }
     }
 
@@ -68,10 +103,14 @@ impl Arguments {
         self.words.get(place).map(|word| word.to_string_lossy())
     }
 
-    /// Whether the command reads this file, itself or behind the sign `@`. The word of `soak` is a number.
-    fn reads(&self, out: &OsStr) -> bool {
-        let read = |word: &OsString| same(word, out) || input::behind_at(word).is_some_and(|file| same(&file, out));
-        self.command != "soak" && self.words.iter().any(read)
+    /// A word that is a file's name.
+    pub fn file(&self, place: usize) -> File<'_> {
+        File { file: &self.words[place], reading: self.readings[place] }
+    }
+
+    /// The file of the answer, where it does not go to standard output.
+    pub fn kept(&self) -> Option<&OsString> {
+        self.out.as_ref().filter(|out| *out != "-")
     }
 
     /// The right count of words, and no option that the command would not heed.
@@ -80,30 +119,32 @@ impl Arguments {
         if self.help {
             return Ok(());
         }
-        let misuse = |why: String| Err(Misuse(format!("{why}\nusage: {}", known.usage)));
+        let misuse = |why: String| Err(Misuse::Words(format!("{why}\nusage: {}", known.usage)));
         if self.words.len() < known.least || self.words.len() > known.most {
             return misuse(format!("`{}` takes {}, not {}", self.command, count(known), self.words.len()));
         }
-        for (given, option) in [(self.json, "--json"), (self.out.is_some(), "-o"), (self.seed.is_some(), "--seed")] {
-            if given && !known.usage.contains(option) {
-                return misuse(format!("`{}` has no option {option}", self.command));
-            }
+        let forced = |reading: Reading| self.readings.contains(&reading);
+        let options = [
+            (self.json, "--json"),
+            (self.strict, "--strict"),
+            (forced(Reading::Record), "--record"),
+            (forced(Reading::Text), "--text"),
+            (self.out.is_some(), "-o"),
+            (self.seed.is_some(), "--seed"),
+        ];
+        for (_, option) in options.iter().filter(|(given, option)| *given && !known.usage.contains(option)) {
+            return misuse(format!("`{}` has no option {option}", self.command));
         }
         if self.words.iter().filter(|word| *word == "-" || *word == "@-").count() > 1 {
             return misuse("standard input can be read only once".to_string());
         }
-        if let Some(file) = self.out.as_ref().filter(|out| self.reads(out)) {
-            let name = file.to_string_lossy();
+        // The word of `soak` is a number.
+        if let Some(file) = self.kept().filter(|out| self.command != "soak" && keep::is_read(out, &self.words)) {
+            let name = word(&file.to_string_lossy());
             return misuse(format!("`-o {name}` would overwrite the file that is read; name another"));
         }
         Ok(())
     }
-}
-
-/// Whether two names lead to one file of the disk. A terminal may be read and written in one go.
-fn same(one: &OsStr, other: &OsStr) -> bool {
-    let way = |name: &OsStr| std::fs::canonicalize(name).ok().filter(|way| way.is_file());
-    way(one).is_some_and(|found| way(other) == Some(found))
 }
 
 fn count(known: &help::Command) -> String {

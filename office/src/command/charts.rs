@@ -34,8 +34,11 @@ pub fn chart(columns: &[Column], rows: &[Vec<String>]) -> String {
     text
 }
 
-/// Single figures under one another: name, number, unit, and a remark.
-pub fn figures(rows: &[(&str, String, String)]) -> String {
+/// A figure: its name, its number, its unit and a remark.
+pub type Figure = (&'static str, String, String);
+
+/// Single figures under one another.
+pub fn figures(rows: &[Figure]) -> String {
     let name = rows.iter().map(|row| row.0.chars().count()).max().unwrap_or(0);
     let value = rows.iter().map(|row| row.1.chars().count()).max().unwrap_or(0);
     rows.iter()

@@ -1,11 +1,10 @@
 //! The fields of a record as JSON.
 
 use super::json::Json;
+use super::report::Fields;
 use office::catalogue::{Catalogue, Size};
 use office::kinds;
 use office::record::{Record, Section};
-
-type Fields = Vec<(&'static str, Json)>;
 
 pub fn job(record: &Record) -> Fields {
     let residents = (1_u8..).zip(record.residents).filter(|(_, count)| *count != 0).map(|(kind, count)| {

@@ -2,79 +2,68 @@
 
 use super::arguments::Arguments;
 use super::fields;
-use super::input::{self, Binary, Source};
+use super::input::{self, Binary, Content, Source};
 use super::json::Json;
 use super::outcome::{Misuse, Outcome};
-use super::refused::{self, Given};
+use super::refused::Given;
+use super::report::{self, Fields};
 use office::at::Lines;
 use office::{Refusal, calls, house, table};
 use std::io::IsTerminal;
 
-/// A readable file as a record's bytes, with the library's refusal as a warning.
+/// A readable file as a record's bytes, with the library's refusal beside it.
 pub fn pack(arguments: &Arguments) -> Result<Outcome, Misuse> {
-    let file = &arguments.words[0];
-    let bytes = input::content(file)?;
-    let Some(text) = input::text(&bytes) else {
-        return Err(Misuse(format!("{} is no readable file; `office show` shows a record", input::name(file))));
+    let file = arguments.file(0);
+    let Content::Text(text) = file.some_content()? else {
+        let way = "its first byte is 00; `office show` shows a record, `--text` reads a text that begins so";
+        return Err(Misuse::Words(format!("{} is no readable file: {way}", file.name())));
     };
-    let is_table = input::is_table(&text);
-    let source = if is_table { input::table(file, &text)? } else { input::house(file, &text)? };
-    let refusal = if is_table { catalogue_refusal(&source.bytes) } else { calls::flow(&source.bytes).err() };
-    let given = given(&source, is_table);
-    if arguments.json {
-        let hex: String = source.bytes.iter().map(|byte| format!("{byte:02x}")).collect();
-        let answer = Json::Object(vec![
-            ("refusal", refusal.map_or(Json::Null, |refusal| refused::json(&refusal, &given))),
-            ("kind", Json::text(if is_table { "catalogue" } else { "job" })),
-            ("bytes", Json::Number(source.bytes.len() as i64)),
-            ("record", Json::text(hex)),
-        ]);
-        return Ok(Outcome { status: u8::from(refusal.is_some()), ..Outcome::answer(answer.line()) });
+    let is_table = table::is_table(&text);
+    let source = if is_table { file.table(&text)? } else { file.house(&text)? };
+    if !arguments.json && arguments.kept().is_none() && std::io::stdout().is_terminal() {
+        let why = "a record is binary; name its file with -o, or send it on with a pipe";
+        return Err(Misuse::Words(why.to_string()));
     }
-    if arguments.out.is_none() && std::io::stdout().is_terminal() {
-        return Err(Misuse("a record is binary; name its file with -o, or send it on with a pipe".to_string()));
-    }
-    let warning = refusal.map_or(String::new(), |refusal| warning(&refusal, &given));
-    Ok(Outcome::warned(source.bytes, warning))
+    let hex: String = source.bytes.iter().map(|byte| format!("{byte:02x}")).collect();
+    let fields = vec![
+        ("kind", Json::text(if is_table { "catalogue" } else { "job" })),
+        ("bytes", Json::Number(source.bytes.len() as i64)),
+        ("record", Json::text(hex)),
+    ];
+    done(arguments, &source, is_table, fields, source.bytes.clone())
 }
 
-/// A record as a readable file, with the library's refusal as a warning.
+/// A record as a readable file, with the library's refusal beside it.
 pub fn show(arguments: &Arguments) -> Result<Outcome, Misuse> {
-    let file = &arguments.words[0];
-    let bytes = input::content(file)?;
-    let name = input::name(file);
-    if input::text(&bytes).is_some() {
-        return Err(Misuse(format!("{name} is readable already; `office pack` packs it")));
-    }
-    let source = Source { name: name.clone(), bytes, lines: Lines::default() };
-    let no_record = |why: String| Misuse(format!("{name} can't be shown: {why}"));
+    let file = arguments.file(0);
+    let name = file.name();
+    let source = Source { name: name.clone(), bytes: file.record()?, lines: Lines::default() };
     let (text, fields, is_table) = match input::binary(&source.bytes) {
         Binary::Job(record) => (house::show(&source.bytes).unwrap_or_default(), fields::job(&record), false),
         Binary::Catalogue(catalogue) => {
             (table::show(&source.bytes).unwrap_or_default(), fields::catalogue(&catalogue), true)
         }
-        Binary::Neither(why) => return Err(no_record(why)),
+        Binary::Neither(why) => return Err(Misuse::Words(format!("{name} can't be shown: {why}"))),
     };
-    let refusal = if is_table { catalogue_refusal(&source.bytes) } else { calls::flow(&source.bytes).err() };
-    let given = given(&source, is_table);
-    if arguments.json {
-        let mut all = vec![("refusal", refusal.map_or(Json::Null, |refusal| refused::json(&refusal, &given)))];
-        all.extend(fields);
-        let answer = Json::Object(all).line();
-        return Ok(Outcome { status: u8::from(refusal.is_some()), ..Outcome::answer(answer) });
-    }
-    Ok(Outcome::warned(text, refusal.map_or(String::new(), |refusal| warning(&refusal, &given))))
+    done(arguments, &source, is_table, fields, text.into_bytes())
 }
 
-fn given(source: &Source, is_table: bool) -> Given<'_> {
-    match is_table {
-        true => Given { cat: Some(source), ..Given::default() },
-        false => Given { job: Some(source), ..Given::default() },
+/// The work is done, whether the library takes the record or not.
+fn done(
+    arguments: &Arguments,
+    source: &Source,
+    is_table: bool,
+    fields: Fields,
+    words: Vec<u8>,
+) -> Result<Outcome, Misuse> {
+    let (given, refusal) = match is_table {
+        true => (Given { cat: Some(source), ..Given::default() }, catalogue_refusal(&source.bytes)),
+        false => (Given { job: Some(source), ..Given::default() }, calls::flow(&source.bytes).err()),
+    };
+    match refusal {
+        Some(refusal) => Ok(report::all_the_same(arguments, &given, &refusal, fields, words)),
+        None => report::answer(arguments, &given, || fields, || words),
     }
-}
-
-fn warning(refusal: &Refusal, given: &Given) -> String {
-    format!("warning: the library will not take this\n{}", refused::words(refusal, given))
 }
 
 /// A house that the library takes, to lend with a catalogue: no call takes a catalogue alone.

@@ -1,12 +1,37 @@
-//! Files as the command reads them: a readable file or a binary record, told apart by content.
+//! Files as the command reads them: a readable file or a binary record, told apart by the first byte.
 
-use super::outcome::Misuse;
+use super::outcome::{Misuse, word};
 use office::at::Lines;
 use office::catalogue::Catalogue;
+use office::readable::{self, MOST_BYTES};
 use office::record::Record;
 use office::{house, table};
 use std::ffi::{OsStr, OsString};
 use std::io::Read;
+
+/// How a file is to be read.
+#[derive(Clone, Copy, Debug, Default, PartialEq, Eq)]
+pub enum Reading {
+    #[default]
+    ByContent,
+    /// `--record`
+    Record,
+    /// `--text`
+    Text,
+}
+
+/// A file that a word of the command names.
+#[derive(Clone, Copy)]
+pub struct File<'a> {
+    pub file: &'a OsStr,
+    pub reading: Reading,
+}
+
+/// What a file holds.
+pub enum Content {
+    Record(Vec<u8>),
+    Text(String),
+}
 
 /// A job or a catalogue, with the lines of its fields where it came from a readable file.
 pub struct Source {
@@ -16,91 +41,134 @@ pub struct Source {
     pub lines: Lines,
 }
 
-/// The bytes of a file; `-` is standard input.
-pub fn bytes(file: &OsStr) -> Result<Vec<u8>, Misuse> {
+/// The bytes of a file, up to the limit; `-` is standard input.
+fn bytes(file: &OsStr) -> Result<Vec<u8>, Misuse> {
     let mut bytes = Vec::new();
+    // One byte more shows that there is more, without reading what may have no end.
+    let most = MOST_BYTES as u64 + 1;
     let read = match file == "-" {
-        true => std::io::stdin().read_to_end(&mut bytes).map(|_| ()),
-        false => std::fs::read(file).map(|content| bytes = content),
+        true => std::io::stdin().lock().take(most).read_to_end(&mut bytes),
+        false => std::fs::File::open(file).and_then(|open| open.take(most).read_to_end(&mut bytes)),
     };
-    read.map_err(|why| Misuse(format!("{} can't be read: {why}", name(file))))?;
-    // Some editors call this "Unicode". A damaged record may begin so too, and its length tells it from a text.
-    let marked = bytes.starts_with(&[0xff, 0xfe]) || bytes.starts_with(&[0xfe, 0xff]);
-    if marked && matches!(binary(&bytes), Binary::Neither(_)) {
-        return Err(Misuse(format!("{} is text in UTF-16; save it as UTF-8", name(file))));
-    }
-    Ok(bytes)
-}
-
-/// The bytes of a file that no library call has a number for: there must be some.
-pub fn content(file: &OsStr) -> Result<Vec<u8>, Misuse> {
-    let bytes = bytes(file)?;
-    if bytes.is_empty() {
-        return Err(Misuse(format!("{}: the file is empty", name(file))));
+    read.map_err(|why| Misuse::Words(format!("{} can't be read: {why}", name(file))))?;
+    if bytes.len() > MOST_BYTES {
+        let name = name(file);
+        return Err(Misuse::Words(format!("{name} has over {MOST_BYTES} bytes; no house or table is as long")));
     }
     Ok(bytes)
 }
 
 pub fn name(file: &OsStr) -> String {
-    if file == "-" { "standard input".to_string() } else { file.to_string_lossy().into_owned() }
+    if file == "-" { "standard input".to_string() } else { word(&file.to_string_lossy()) }
 }
 
-/// The text of a readable file. A record has bytes that no text has: its length's first byte is 0. No bytes at all are no
-/// text either, so that the library gives its number for them. Comments in an older code page than UTF-8 do no harm, so a
-/// file that is mostly plain letters is text whatever its other bytes.
-pub fn text(bytes: &[u8]) -> Option<String> {
-    let control = |byte: &u8| (*byte < 0x20 && !b"\t\n\r\x0c".contains(byte)) || *byte == 0x7f;
-    let letters = bytes.iter().filter(|byte| byte.is_ascii()).count();
-    let plain = std::str::from_utf8(bytes).is_ok() || letters > bytes.len() / 2;
-    (plain && !bytes.is_empty() && !bytes.iter().any(control)).then(|| unmarked(bytes))
-}
+impl File<'_> {
+    pub fn name(&self) -> String {
+        name(self.file)
+    }
 
-/// The text without the mark that some editors put in front of UTF-8. It goes before anybody looks at the first line, or a
-/// comment there would be no comment.
-fn unmarked(bytes: &[u8]) -> String {
-    let text = String::from_utf8_lossy(bytes);
-    text.strip_prefix('\u{feff}').unwrap_or(&text).to_string()
-}
-
-/// Whether a readable file is a table: its first line that says something has cells.
-pub fn is_table(text: &str) -> bool {
-    let said = text.lines().map(|line| line.split('#').next().unwrap_or("").trim()).find(|line| !line.is_empty());
-    let parts: Vec<&str> = said.unwrap_or("").split([',', ';']).map(str::trim).collect();
-    parts.len() > 2 || (parts.len() == 2 && matches!(parts[0], "stated length" | "version" | "rows"))
-}
-
-/// A job: a readable house is packed, a record is taken as it is.
-pub fn job(file: &OsStr) -> Result<Source, Misuse> {
-    let bytes = bytes(file)?;
-    match text(&bytes) {
-        None => Ok(Source { name: name(file), bytes, lines: Lines::default() }),
-        Some(text) if is_table(&text) => {
-            Err(Misuse(format!("{} is a table of sizes; a house is expected", name(file))))
+    /// The file's record or text. No bytes at all are no text, so that the library gives its number for them.
+    pub fn content(&self) -> Result<Content, Misuse> {
+        let bytes = bytes(self.file)?;
+        let record = match self.reading {
+            Reading::ByContent => bytes.is_empty() || readable::is_record(&bytes),
+            forced => forced == Reading::Record,
+        };
+        match record {
+            true => Ok(Content::Record(bytes)),
+            false => readable::text(&bytes).map(Content::Text).map_err(|found| Misuse::Mistakes(self.name(), found)),
         }
-        Some(text) => house(file, &text),
     }
-}
 
-/// A readable house.
-pub fn house(file: &OsStr, text: &str) -> Result<Source, Misuse> {
-    let packed = house::read(text).map_err(|mistake| Misuse(format!("{} {mistake}", name(file))))?;
-    Ok(Source { name: name(file), bytes: packed.bytes, lines: packed.lines })
-}
-
-/// A catalogue: a readable table is packed, a record is taken as it is.
-pub fn catalogue(file: &OsStr) -> Result<Source, Misuse> {
-    let bytes = bytes(file)?;
-    match text(&bytes) {
-        None => Ok(Source { name: name(file), bytes, lines: Lines::default() }),
-        Some(text) if is_table(&text) => table(file, &text),
-        Some(_) => Err(Misuse(format!("{} is no table of sizes: its first line has no cells", name(file)))),
+    /// The content of a file that no library call has a number for: there must be some.
+    pub fn some_content(&self) -> Result<Content, Misuse> {
+        match self.content()? {
+            Content::Record(bytes) if bytes.is_empty() => {
+                Err(Misuse::Words(format!("{}: the file is empty", self.name())))
+            }
+            content => Ok(content),
+        }
     }
-}
 
-/// A readable table.
-pub fn table(file: &OsStr, text: &str) -> Result<Source, Misuse> {
-    let packed = table::read(text).map_err(|mistake| Misuse(format!("{} {mistake}", name(file))))?;
-    Ok(Source { name: name(file), bytes: packed.bytes, lines: packed.lines })
+    /// The bytes of a record for `show`, which has no use for a text.
+    pub fn record(&self) -> Result<Vec<u8>, Misuse> {
+        let (name, bytes) = (self.name(), bytes(self.file)?);
+        match bytes.first() {
+            None => Err(Misuse::Words(format!("{name}: the file is empty"))),
+            Some(_) if self.reading == Reading::Record || readable::is_record(&bytes) => Ok(bytes),
+            Some(0) => Err(Misuse::Words(format!(
+                "{name} is text in UTF-16 without its mark: saved as UTF-8, `office pack` packs it; `--record` shows it as a \
+                 record all the same"
+            ))),
+            Some(first) => Err(Misuse::Words(format!(
+                "{name} is readable already, since its first byte is {first:02X} and a record's is 00; `office pack` packs \
+                 it, and `--record` shows a record that is damaged there"
+            ))),
+        }
+    }
+
+    /// A job: a readable house is packed, a record is taken as it is.
+    pub fn job(&self) -> Result<Source, Misuse> {
+        match self.content()? {
+            Content::Record(bytes) => Ok(Source { name: self.name(), bytes, lines: Lines::default() }),
+            Content::Text(text) if table::is_table(&text) => {
+                Err(Misuse::Words(format!("{} is a table of sizes; a house is expected", self.name())))
+            }
+            Content::Text(text) => self.house(&text),
+        }
+    }
+
+    /// A readable house.
+    pub fn house(&self, text: &str) -> Result<Source, Misuse> {
+        let packed = house::read(text).map_err(|mistakes| Misuse::Mistakes(self.name(), mistakes))?;
+        Ok(Source { name: self.name(), bytes: packed.bytes, lines: packed.lines })
+    }
+
+    /// A catalogue: a readable table is packed, a record is taken as it is.
+    pub fn catalogue(&self) -> Result<Source, Misuse> {
+        match self.content()? {
+            Content::Record(bytes) => Ok(Source { name: self.name(), bytes, lines: Lines::default() }),
+            Content::Text(text) if table::is_table(&text) => self.table(&text),
+            Content::Text(_) => {
+                let header = table::COLUMNS.join(",");
+                let name = self.name();
+                Err(Misuse::Words(format!("{name} is no table of sizes: its first line is not `{header}`")))
+            }
+        }
+    }
+
+    /// A readable table.
+    pub fn table(&self, text: &str) -> Result<Source, Misuse> {
+        let packed = table::read(text).map_err(|mistakes| Misuse::Mistakes(self.name(), mistakes))?;
+        Ok(Source { name: self.name(), bytes: packed.bytes, lines: packed.lines })
+    }
+
+    /// A list of sizes: numbers between commas, or `@` and a file with such numbers or with the bytes themselves.
+    pub fn sizes(&self) -> Result<Vec<u8>, Misuse> {
+        let Some(file) = behind_at(self.file) else { return numbers(&self.file.to_string_lossy()) };
+        let (name, bytes) = (name(&file), bytes(&file)?);
+        // Sizes 9, 10, 12 and 13 are blanks as letters: only a byte that no text has shows size bytes.
+        let blank = |byte: &u8| b"\t\n\x0c\r ".contains(byte);
+        let raw = !bytes.is_empty() && bytes.iter().all(|byte| *byte < 0x20) && !bytes.iter().all(blank);
+        if self.reading == Reading::Record || (self.reading == Reading::ByContent && raw) {
+            return Ok(bytes);
+        }
+        let text = readable::text(&bytes).map_err(|found| Misuse::Mistakes(name.clone(), found))?;
+        let mut found = Vec::new();
+        for line in readable::lines(&text) {
+            if let Some(fault) = line.fault() {
+                return Err(Misuse::Mistakes(name, fault.into()));
+            }
+            found.extend(numbers(line.said)?);
+        }
+        match found.is_empty() {
+            false => Ok(found),
+            true => Err(Misuse::Words(format!(
+                "{name} has no size number; `--record` takes its {} bytes as sizes",
+                bytes.len()
+            ))),
+        }
+    }
 }
 
 /// What binary bytes are, by their length: the two layouts never have the same length for the same counts.
@@ -119,16 +187,6 @@ pub fn binary(bytes: &[u8]) -> Binary {
     }
 }
 
-/// A list of sizes: numbers between commas, or `@` and a file with such numbers or with the bytes themselves.
-pub fn sizes(word: &OsStr) -> Result<Vec<u8>, Misuse> {
-    let Some(file) = behind_at(word) else { return numbers(&word.to_string_lossy()) };
-    let bytes = bytes(&file)?;
-    match text(&bytes) {
-        Some(text) if text.bytes().any(|byte| byte.is_ascii_digit()) => numbers(&text),
-        _ => Ok(bytes),
-    }
-}
-
 /// The file behind `@`, whose name need not be text.
 #[cfg(unix)]
 pub fn behind_at(word: &OsStr) -> Option<OsString> {
@@ -143,9 +201,14 @@ pub fn behind_at(word: &OsStr) -> Option<OsString> {
 }
 
 fn numbers(text: &str) -> Result<Vec<u8>, Misuse> {
-    let words = text.split(|c: char| c == ',' || c.is_whitespace()).filter(|word| !word.is_empty());
-    let expected = "size numbers from 0 to 255 between commas, or @FILE";
+    let words = text.split(|c: char| c == ',' || c.is_whitespace()).filter(|part| !part.is_empty());
+    let plain = |part: &str| part.bytes().all(|b| b.is_ascii_digit());
     words
-        .map(|word| word.parse().map_err(|_| Misuse(format!("`{word}` is no size number; SIZES is {expected}"))))
+        .map(|part| {
+            let no = || Misuse::Words(format!("`{}` is no size number; SIZES is {SIZES}", word(part)));
+            part.parse().ok().filter(|_| plain(part)).ok_or_else(no)
+        })
         .collect()
 }
+
+const SIZES: &str = "a size number from 1 to 12 for each section, between commas, or @FILE";

@@ -1,9 +1,11 @@
 //! Values as JSON, on one line.
 
+use office::echo::hidden;
 use std::fmt;
 
 pub enum Json {
     Null,
+    Truth(bool),
     Number(i64),
     Text(String),
     List(Vec<Json>),
@@ -31,6 +33,7 @@ impl fmt::Display for Json {
     fn fmt(&self, f: &mut fmt::Formatter) -> fmt::Result {
         match self {
             Json::Null => f.write_str("null"),
+            Json::Truth(value) => write!(f, "{value}"),
             Json::Number(value) => write!(f, "{value}"),
             Json::Text(text) => string(f, text),
             Json::List(values) => {
@@ -60,7 +63,12 @@ fn string(f: &mut fmt::Formatter, text: &str) -> fmt::Result {
             '"' => f.write_str("\\\"")?,
             '\\' => f.write_str("\\\\")?,
             '\n' => f.write_str("\\n")?,
-            c if (c as u32) < 0x20 => write!(f, "\\u{:04x}", c as u32)?,
+            // Who prints the line must not print what moves a cursor or turns text round.
+            c if hidden(c) => {
+                for unit in c.encode_utf16(&mut [0; 2]) {
+                    write!(f, "\\u{unit:04x}")?;
+                }
+            }
             c => write!(f, "{c}")?,
         }
     }

@@ -1,53 +1,51 @@
 //! `office flow`, `rate`, `choose` and `draw`: the library's answers as tables, as JSON, as a drawing.
 
 use super::arguments::Arguments;
-use super::charts::{chart, figures, number, words};
-use super::input::{self, Source};
+use super::charts::{Figure, chart, figures, number, words};
+use super::input::Source;
 use super::json::Json;
 use super::outcome::{Misuse, Outcome};
 use super::rating::Rated;
-use super::refused::{self, Given};
+use super::refused::Given;
+use super::report::{self, Fields};
+use office::pipes::sketch;
 use office::record::Record;
 use office::{Flow, Refusal, calls, draw as drawing, kinds};
 
-/// A refusal as the answer, in words or as JSON.
-fn refusal(arguments: &Arguments, refusal: &Refusal, given: &Given) -> Outcome {
-    Outcome::refusal(match arguments.json {
-        true => Json::Object(vec![("refusal", refused::json(refusal, given))]).line(),
-        false => refused::words(refusal, given),
-    })
-}
-
 pub fn flow(arguments: &Arguments) -> Result<Outcome, Misuse> {
-    let job = input::job(&arguments.words[0])?;
+    let job = arguments.file(0).job()?;
     let given = Given { job: Some(&job), ..Given::default() };
-    let flow = match calls::flow(&job.bytes) {
-        Ok(flow) => flow,
-        Err(why) => return Ok(refusal(arguments, &why, &given)),
-    };
-    Ok(Outcome::answer(if arguments.json { flow_json(&flow) } else { flow_chart(&job, &flow) }))
+    match calls::flow(&job.bytes) {
+        Ok(flow) => report::answer(arguments, &given, || flow_fields(&flow), || flow_chart(&job, &flow).into_bytes()),
+        Err(why) => Ok(report::refusal(arguments, &why, &given)),
+    }
 }
 
-fn flow_json(flow: &Flow) -> String {
-    let sections = (1_u8..)
-        .zip(&flow.flows)
-        .map(|(section, flow)| Json::Object(vec![("section", section.into()), ("flow_ml_per_s", (*flow).into())]));
-    Json::Object(vec![
-        ("refusal", Json::Null),
-        ("hour_l_per_h", flow.hour.into()),
-        ("day_l", flow.day.into()),
-        ("mean_hour_l_per_h", flow.mean_hour.into()),
-        ("sections", Json::List(sections.collect())),
-    ])
-    .line()
+/// What the house asks for as a whole.
+pub fn house_fields(flow: &Flow) -> Fields {
+    vec![("hour_l_per_h", flow.hour.into()), ("day_l", flow.day.into()), ("mean_hour_l_per_h", flow.mean_hour.into())]
 }
 
-fn flow_chart(job: &Source, flow: &Flow) -> String {
-    let house = figures(&[
+/// What the house asks for as a whole, for people.
+pub fn house_figures(flow: &Flow) -> Vec<Figure> {
+    vec![
         ("greatest hour", flow.hour.to_string(), "l/h".to_string()),
         ("greatest day", flow.day.to_string(), "l".to_string()),
         ("mean hour", flow.mean_hour.to_string(), "l/h".to_string()),
-    ]);
+    ]
+}
+
+fn flow_fields(flow: &Flow) -> Fields {
+    let sections = (1_u8..)
+        .zip(&flow.flows)
+        .map(|(section, flow)| Json::Object(vec![("section", section.into()), ("flow_ml_per_s", (*flow).into())]));
+    let mut fields = house_fields(flow);
+    fields.push(("sections", Json::List(sections.collect())));
+    fields
+}
+
+fn flow_chart(job: &Source, flow: &Flow) -> String {
+    let house = figures(&house_figures(flow));
     let record = Record::read(&job.bytes).unwrap_or_default();
     let columns = [number("section", ""), words("from"), words("kind"), number("fixtures", ""), number("flow", "ml/s")];
     let rows: Vec<Vec<String>> = record
@@ -67,32 +65,49 @@ pub fn from(parent: u8) -> String {
 }
 
 pub fn rate(arguments: &Arguments) -> Result<Outcome, Misuse> {
-    let (job, cat) = (input::job(&arguments.words[0])?, input::catalogue(&arguments.words[1])?);
-    let sizes = input::sizes(&arguments.words[2])?;
+    let (job, cat) = (arguments.file(0).job()?, arguments.file(1).catalogue()?);
+    let sizes = arguments.file(2).sizes()?;
     let given = Given { job: Some(&job), cat: Some(&cat), sizes: &sizes };
-    Ok(match Rated::with_sizes(&given) {
-        Ok(rated) => Outcome::answer(if arguments.json { rated.json() } else { rated.chart() }),
-        Err(why) => refusal(arguments, &why, &given),
-    })
+    rated(arguments, &given, Rated::with_sizes(&given))
 }
 
 pub fn choose(arguments: &Arguments) -> Result<Outcome, Misuse> {
-    let (job, cat) = (input::job(&arguments.words[0])?, input::catalogue(&arguments.words[1])?);
+    let (job, cat) = (arguments.file(0).job()?, arguments.file(1).catalogue()?);
     let given = Given { job: Some(&job), cat: Some(&cat), sizes: &[] };
-    Ok(match Rated::chosen(&given) {
-        Ok(rated) => Outcome::answer(if arguments.json { rated.json() } else { rated.chart() }),
-        Err(why) => refusal(arguments, &why, &given),
-    })
+    rated(arguments, &given, Rated::chosen(&given))
+}
+
+fn rated(arguments: &Arguments, given: &Given, rated: Result<Rated, Refusal>) -> Result<Outcome, Misuse> {
+    match rated {
+        Ok(rated) => report::answer(arguments, given, || rated.fields(), || rated.chart().into_bytes()),
+        Err(why) => Ok(report::refusal(arguments, &why, given)),
+    }
 }
 
 /// With sizes the rated list, without them the cheapest.
 pub fn draw(arguments: &Arguments) -> Result<Outcome, Misuse> {
-    let (job, cat) = (input::job(&arguments.words[0])?, input::catalogue(&arguments.words[1])?);
-    let sizes = arguments.words.get(2).map(|word| input::sizes(word)).transpose()?;
+    let (job, cat) = (arguments.file(0).job()?, arguments.file(1).catalogue()?);
+    let sizes = if arguments.words.len() > 2 { Some(arguments.file(2).sizes()?) } else { None };
     let given = Given { job: Some(&job), cat: Some(&cat), sizes: sizes.as_deref().unwrap_or(&[]) };
     let rated = if sizes.is_some() { Rated::with_sizes(&given) } else { Rated::chosen(&given) };
-    Ok(match rated {
-        Ok(rated) => Outcome::answer(drawing::draw(&rated.record, &rated.pipes, &rated.rating, rated.cost)),
-        Err(why) => refusal(arguments, &why, &given),
-    })
+    match rated {
+        Ok(rated) => report::answer(arguments, &given, Vec::new, || rated.drawing().into_bytes()),
+        Err(why) if why == Refusal::NoSuitableList => {
+            let drawn = unsuitable(&given).unwrap_or_default();
+            Ok(report::all_the_same(arguments, &given, &why, Vec::new(), drawn.into_bytes()))
+        }
+        Err(why) => Ok(report::refusal(arguments, &why, &given)),
+    }
+}
+
+/// The drawing of a house for which no list suits: with the sizes of the least losses, or, where some section has none at
+/// all, without heads.
+fn unsuitable(given: &Given) -> Option<String> {
+    let (job, cat) = (given.job?, given.cat?);
+    let pipes = sketch(&job.bytes, &cat.bytes, &calls::flow(&job.bytes).ok()?)?;
+    let sizes: Vec<u8> = pipes.iter().map(|pipe| pipe.size).collect();
+    match Rated::with_sizes(&Given { sizes: &sizes, ..*given }) {
+        Ok(rated) => Some(rated.drawing()),
+        Err(_) => Some(drawing::sketch(&Record::read(&job.bytes).ok()?, &pipes)),
+    }
 }

@@ -1,7 +1,42 @@
-//! What a command leaves: bytes to write, a warning, a status.
+//! What a command leaves: bytes to write, words for standard error, a status.
 
-/// Wrong words, an unreadable file, a mistake in a readable file: status 2.
-pub struct Misuse(pub String);
+use office::echo;
+use office::mistake::Mistakes;
+
+/// Why a command gives no answer although no library call refused: status 2.
+pub enum Misuse {
+    /// Wrong words, an unreadable file.
+    Words(String),
+    /// Mistakes in a readable file, whose name is here.
+    Mistakes(String, Mistakes),
+    /// Warnings that `--strict` makes a refusal, in words and as JSON.
+    Strict(String, String),
+}
+
+impl Misuse {
+    /// For standard error.
+    pub fn text(&self) -> String {
+        match self {
+            Misuse::Words(text) => format!("office: {}\n", text.trim_end()),
+            Misuse::Mistakes(name, mistakes) => {
+                let mut text: String =
+                    mistakes.list.iter().map(|mistake| format!("office: {name} {mistake}\n")).collect();
+                if mistakes.more > 0 {
+                    text.push_str(&format!("office: {name} has {} more mistakes\n", mistakes.more));
+                }
+                text
+            }
+            Misuse::Strict(warnings, _) => {
+                format!("{warnings}office: there is no answer, since --strict makes a warning a refusal\n")
+            }
+        }
+    }
+}
+
+/// A word of the command line as a message repeats it.
+pub fn word(word: &str) -> String {
+    echo::shown(word).replace('\n', "\\n")
+}
 
 pub struct Outcome {
     /// For standard output, or for the file of `-o` where this is an answer.
@@ -22,14 +57,18 @@ impl Outcome {
         Outcome { output: output.into_bytes(), answered: false, warning: String::new(), status: 1 }
     }
 
-    /// Work that was done, with the library's refusal of what was worked on. The status tells a script not to go on.
-    pub fn warned(output: impl Into<Vec<u8>>, warning: String) -> Outcome {
-        let status = u8::from(!warning.is_empty());
-        Outcome { output: output.into(), answered: true, warning, status }
+    /// The same with words for standard error, which change no status.
+    pub fn with(self, warning: String) -> Outcome {
+        Outcome { warning: self.warning + &warning, ..self }
     }
 
-    pub fn misuse(text: &str) -> Outcome {
-        let warning = format!("office: {}\n", text.trim_end());
-        Outcome { output: Vec::new(), answered: false, warning, status: 2 }
+    /// Work that was done although the library refuses what was worked on. The status tells a script not to go on.
+    pub fn refused_all_the_same(self) -> Outcome {
+        Outcome { status: 1, ..self }
+    }
+
+    /// No answer. What stands on standard output is for machines.
+    pub fn misuse(misuse: &Misuse, output: String) -> Outcome {
+        Outcome { output: output.into_bytes(), answered: false, warning: misuse.text(), status: 2 }
     }
 }

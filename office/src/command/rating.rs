@@ -3,18 +3,20 @@
 use super::charts::{chart, figures, number, words};
 use super::input::Source;
 use super::json::Json;
-use super::network::from;
+use super::network::{from, house_fields, house_figures};
 use super::refused::Given;
+use super::report::Fields;
 use office::pipes::{Pipe, pipes};
 use office::record::Record;
-use office::{Rating, Refusal, calls, kinds};
+use office::{Flow, Rating, Refusal, calls, draw, kinds};
 
 pub struct Rated {
     pub record: Record,
     pub sizes: Vec<u8>,
-    /// Where the list was chosen, its cost in tenths of the price unit.
-    pub cost: Option<u32>,
+    /// Price times length over all sections, in tenths of the price unit. The library's own where it chose the list.
+    pub cost: u64,
     pub rating: Rating,
+    pub flow: Flow,
     pub pipes: Vec<Pipe>,
 }
 
@@ -23,7 +25,7 @@ impl Rated {
     pub fn with_sizes(given: &Given) -> Result<Rated, Refusal> {
         let (job, cat) = (bytes(given.job), bytes(given.cat));
         let rating = calls::rate(job, cat, given.sizes)?;
-        Ok(Rated::of(job, cat, given.sizes.to_vec(), None, rating))
+        Rated::of(job, cat, given.sizes.to_vec(), None, rating)
     }
 
     /// The cheapest list.
@@ -31,48 +33,57 @@ impl Rated {
         let (job, cat) = (bytes(given.job), bytes(given.cat));
         let choice = calls::choose(job, cat)?;
         let rating = calls::rate(job, cat, &choice.sizes)?;
-        Ok(Rated::of(job, cat, choice.sizes, Some(choice.cost), rating))
+        Rated::of(job, cat, choice.sizes, Some(choice.cost), rating)
     }
 
-    fn of(job: &[u8], cat: &[u8], sizes: Vec<u8>, cost: Option<u32>, rating: Rating) -> Rated {
-        // What the library has rated has flows and can be read; were it otherwise there would be no pipes to show.
-        let flow = calls::flow(job).ok();
-        let pipes = flow.and_then(|flow| pipes(job, cat, &sizes, &flow, &rating)).unwrap_or_default();
-        Rated { record: Record::read(job).unwrap_or_default(), sizes, cost, rating, pipes }
+    fn of(job: &[u8], cat: &[u8], sizes: Vec<u8>, cost: Option<u32>, rating: Rating) -> Result<Rated, Refusal> {
+        let flow = calls::flow(job)?;
+        // What the library has rated can be read; were it otherwise there would be no pipes to show.
+        let pipes = pipes(job, cat, &sizes, &flow, &rating).unwrap_or_default();
+        let cost = cost.map_or_else(|| pipes.iter().map(Pipe::cost).sum(), u64::from);
+        Ok(Rated { record: Record::read(job).unwrap_or_default(), sizes, cost, rating, flow, pipes })
     }
 
-    pub fn json(&self) -> String {
-        let mut fields = vec![("refusal", Json::Null)];
-        if let Some(cost) = self.cost {
-            fields.push(("cost_tenths", cost.into()));
-        }
+    /// How many cm of the delivered head are left over; fewer than none where it is too little.
+    fn spare(&self) -> i64 {
+        i64::from(self.record.delivered) - i64::from(self.rating.required)
+    }
+
+    pub fn drawing(&self) -> String {
+        draw::draw(&self.record, &self.pipes, &self.rating, self.cost)
+    }
+
+    pub fn fields(&self) -> Fields {
+        let mut fields = house_fields(&self.flow);
         fields.extend([
+            ("cost_tenths", Json::Number(self.cost as i64)),
             ("sizes", Json::List(self.sizes.iter().map(|size| (*size).into()).collect())),
+            ("suits", Json::Truth(self.spare() >= 0)),
             ("required_head_cm", self.rating.required.into()),
             ("pump_head_cm", self.rating.pump.into()),
+            ("guaranteed_head_cm", self.record.guaranteed.into()),
+            ("delivered_head_cm", self.record.delivered.into()),
             ("dictating_section", self.rating.dictating.into()),
             ("sections", Json::List(self.pipes.iter().map(of_pipe).collect())),
         ]);
-        Json::Object(fields).line()
+        fields
     }
 
     pub fn chart(&self) -> String {
         let list: Vec<String> = self.sizes.iter().map(u8::to_string).collect();
-        let delivered = i64::from(self.record.delivered);
-        let spare = delivered - i64::from(self.rating.required);
+        let spare = self.spare();
         let spared = if spare < 0 { "cm: TOO LITTLE HEAD" } else { "cm" };
         let cm = |remark: &str| format!("cm{remark}");
         let guaranteed = format!(" over the guaranteed {} cm", self.record.guaranteed);
         let mut rows = vec![
+            ("cost", format!("{}.{}", self.cost / 10, self.cost % 10), "price units".to_string()),
             ("required head", self.rating.required.to_string(), cm("")),
             ("pump head", self.rating.pump.to_string(), cm(&guaranteed)),
-            ("delivered head", delivered.to_string(), cm("")),
+            ("delivered head", self.record.delivered.to_string(), cm("")),
             ("to spare", spare.to_string(), spared.to_string()),
             ("dictating section", self.rating.dictating.to_string(), String::new()),
         ];
-        if let Some(cost) = self.cost {
-            rows.insert(0, ("cost", format!("{}.{}", cost / 10, cost % 10), "price units".to_string()));
-        }
+        rows.extend(house_figures(&self.flow));
         format!("{}sizes  {}\n\n{}", figures(&rows), list.join(","), sections(&self.pipes))
     }
 }

@@ -5,6 +5,8 @@ use super::json::Json;
 use office::Refusal;
 use office::at::At;
 use office::places::{Asked, Place, places};
+use office::record::Record;
+use office::warnings::warnings;
 
 /// What the refused call was given.
 #[derive(Clone, Copy, Default)]
@@ -35,31 +37,19 @@ impl Given<'_> {
 /// More places than this are counted and not listed.
 const LISTED: usize = 20;
 
-/// The refusal for people.
-pub fn words(refusal: &Refusal, given: &Given) -> String {
-    let found = given.places(refusal);
-    let mut text = format!("{refusal}\n");
-    if found.is_empty() {
-        text.push_str("  no place was found for it; the number is the library's and stands\n");
+impl Given<'_> {
+    /// A place in words, with its file and line.
+    fn located(&self, place: &Place) -> String {
+        match self.file(place.at) {
+            Some((name, Some(line))) => format!("{name} line {line}, {place}"),
+            Some((name, None)) => format!("{name}, {place}"),
+            None => place.to_string(),
+        }
     }
-    for place in found.iter().take(LISTED) {
-        let file = match given.file(place.at) {
-            Some((name, Some(line))) => format!("{name} line {line}, "),
-            Some((name, None)) => format!("{name}, "),
-            None => String::new(),
-        };
-        text.push_str(&format!("  {file}{place}\n"));
-    }
-    if found.len() > LISTED {
-        text.push_str(&format!("  and {} more places\n", found.len() - LISTED));
-    }
-    text
-}
 
-/// The refusal for machines.
-pub fn json(refusal: &Refusal, given: &Given) -> Json {
-    let places = given.places(refusal).into_iter().map(|place| {
-        let (file, line) = match given.file(place.at) {
+    /// A place for machines.
+    fn place_json(&self, place: Place) -> Json {
+        let (file, line) = match self.file(place.at) {
             Some((name, line)) => (Json::text(name), line.map_or(Json::Null, |line| Json::Number(line as i64))),
             None => (Json::Null, Json::Null),
         };
@@ -69,7 +59,50 @@ pub fn json(refusal: &Refusal, given: &Given) -> Json {
             ("file", file),
             ("line", line),
         ])
-    });
+    }
+
+    /// What is nearly always a slip in the house, although the library takes it.
+    fn warnings(&self) -> Vec<Place> {
+        let record = self.job.and_then(|job| Record::read(&job.bytes).ok());
+        record.map_or(Vec::new(), |record| warnings(&record))
+    }
+
+    /// The warnings for people.
+    pub fn warned(&self) -> String {
+        let found = self.warnings();
+        let mut text: String =
+            found.iter().take(LISTED).map(|place| format!("warning: {}\n", self.located(place))).collect();
+        if found.len() > LISTED {
+            text.push_str(&format!("warning: and {} more warnings\n", found.len() - LISTED));
+        }
+        text
+    }
+
+    /// The warnings for machines.
+    pub fn warned_json(&self) -> Json {
+        Json::List(self.warnings().into_iter().map(|place| self.place_json(place)).collect())
+    }
+}
+
+/// The refusal for people.
+pub fn words(refusal: &Refusal, given: &Given) -> String {
+    let found = given.places(refusal);
+    let mut text = format!("{refusal}\n");
+    if found.is_empty() {
+        text.push_str("  no place was found for it; the number is the library's and stands\n");
+    }
+    for place in found.iter().take(LISTED) {
+        text.push_str(&format!("  {}\n", given.located(place)));
+    }
+    if found.len() > LISTED {
+        text.push_str(&format!("  and {} more places\n", found.len() - LISTED));
+    }
+    text
+}
+
+/// The refusal for machines.
+pub fn json(refusal: &Refusal, given: &Given) -> Json {
+    let places = given.places(refusal).into_iter().map(|place| given.place_json(place));
     Json::Object(vec![
         ("number", refusal.number().into()),
         ("text", Json::text(refusal.text())),

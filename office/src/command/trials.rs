@@ -1,7 +1,7 @@
 //! `office soak`, `replay` and `bench`: the library against the model.
 
 use super::arguments::{Arguments, number};
-use super::input;
+use super::input::Content;
 use super::outcome::{Misuse, Outcome};
 use office::case::Case;
 use std::io::IsTerminal;
@@ -27,11 +27,12 @@ pub fn soak(arguments: &Arguments) -> Result<Outcome, Misuse> {
 
 /// One kept order.
 pub fn replay(arguments: &Arguments) -> Result<Outcome, Misuse> {
-    let file = &arguments.words[0];
-    let bytes = input::content(file)?;
-    let name = input::name(file);
-    let text = input::text(&bytes).ok_or_else(|| Misuse(format!("{name} is no text")))?;
-    Case::parse(&text).map_err(|why| Misuse(format!("{name} is no order to replay: {why}")))?;
+    let file = arguments.file(0);
+    let name = file.name();
+    let Content::Text(text) = file.some_content()? else {
+        return Err(Misuse::Words(format!("{name} is no text, and so no order to replay")));
+    };
+    Case::parse(&text).map_err(|why| Misuse::Words(format!("{name} is no order to replay: {why}")))?;
     Ok(match office::replay(&text) {
         Ok(said) => Outcome::answer(format!("{}\n", said.trim_end())),
         Err(said) => Outcome::refusal(format!("{}\n", said.trim_end())),

@@ -2,7 +2,7 @@
 
 use crate::at::{At, Field, Lines};
 use crate::kinds;
-use crate::line::{Line, example_of};
+use crate::line::Line;
 use crate::measure::{self, Measure};
 use crate::mistake::Mistake;
 use crate::record::Record;
@@ -10,12 +10,12 @@ use crate::record::Record;
 /// The fields that have a line of their own, in the order in which they are shown.
 const FIELDS: [(Field, &Measure); 8] = [
     (Field::Stated, &measure::BYTES),
-    (Field::Version, &measure::BYTE),
+    (Field::Version, &measure::VERSION),
     (Field::Losses, &measure::TENTHS),
-    (Field::Hours, &measure::BYTE),
-    (Field::Meter, &measure::HEAD),
-    (Field::Guaranteed, &measure::HEAD),
-    (Field::Delivered, &measure::HEAD),
+    (Field::Hours, &measure::HOURS),
+    (Field::Meter, &measure::METER),
+    (Field::Guaranteed, &measure::GUARANTEED),
+    (Field::Delivered, &measure::DELIVERED),
     (Field::Limit, &measure::VELOCITY),
 ];
 
@@ -65,19 +65,24 @@ impl Head {
         self.values[0]
     }
 
+    /// Lines that the file lacks. One that is there with a mistake in it is not lacking.
+    pub fn missing(&self, places: &Lines) -> Vec<Mistake> {
+        let lacks = |field: Field| places.of(At::Field(field)).is_none();
+        FIELDS
+            .iter()
+            .skip(2)
+            .filter(|(field, _)| lacks(*field))
+            .map(|(field, measure)| {
+                let name = field.name();
+                Mistake::lacking(format!("the file has no line `{name}`"), measure.example(name))
+            })
+            .collect()
+    }
+
     /// The record without its sections. The version is 1 unless a line says otherwise; residents that no line gives are 0.
-    pub fn record(&self) -> Result<Record, Mistake> {
-        for (value, (field, measure)) in self.values.iter().zip(FIELDS).skip(2) {
-            if value.is_none() {
-                let example = measure.show(example_of(field.name(), measure));
-                return Err(Mistake::lacking(
-                    format!("the file has no line `{}`", field.name()),
-                    format!("for example `{} {example}`", field.name()),
-                ));
-            }
-        }
+    pub fn record(&self) -> Record {
         let value = |place: usize| self.values[place].unwrap_or(0);
-        Ok(Record {
+        Record {
             stated: value(0) as u32,
             version: self.values[1].unwrap_or(1) as u8,
             tenths: value(2) as u8,
@@ -88,7 +93,7 @@ impl Head {
             limit: value(7) as u16,
             residents: self.residents.map(|count| count.unwrap_or(0)),
             sections: Vec::new(),
-        })
+        }
     }
 }
 

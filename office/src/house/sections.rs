@@ -5,7 +5,7 @@ use crate::at::{At, Lines};
 use crate::kinds;
 use crate::line::Line;
 use crate::measure;
-use crate::mistake::Mistake;
+use crate::mistake::{Mistake, Mistakes};
 use crate::record::{Record, Section};
 use std::collections::BTreeMap;
 
@@ -15,31 +15,48 @@ const EXAMPLE: &str = "section 2 from 1 length 12.5 m elevation 600 cm kind hote
 
 /// The sections read so far, with the line and text of each for messages.
 #[derive(Default)]
-pub struct Given(BTreeMap<u8, (Section, usize, String)>);
+pub struct Given {
+    sections: BTreeMap<u8, (Section, usize, String)>,
+    /// A line whose number can't be read may be the one that another line lacks.
+    unnumbered: bool,
+}
 
 impl Given {
-    /// Takes a line that begins with `section`.
-    pub fn take(&mut self, line: &mut Line, places: &mut Lines) -> Result<(), Mistake> {
-        let number = number(line)?;
-        once(line, places, At::Section(number))?;
-        let section = fields(line)?;
-        self.0.insert(number, (section, line.number, line.text.to_string()));
-        Ok(())
+    /// Takes a line that begins with `section`. With a mistake in it the section is there all the same, so that it is not
+    /// called missing too.
+    pub fn take(&mut self, line: &mut Line, places: &mut Lines, mistakes: &mut Mistakes) {
+        let number = match number(line) {
+            Ok(number) => number,
+            Err(mistake) => {
+                self.unnumbered = true;
+                return mistakes.add(mistake);
+            }
+        };
+        if let Err(mistake) = once(line, places, At::Section(number)) {
+            return mistakes.add(mistake);
+        }
+        let section = fields(line, mistakes);
+        self.sections.insert(number, (section, line.number, line.text.to_string()));
     }
 
     /// The sections from 1 on, without a gap.
-    pub fn sections(self) -> Result<Vec<Section>, Mistake> {
-        let last = self.0.keys().last().copied().unwrap_or(0);
+    pub fn sections(self, mistakes: &mut Mistakes) -> Vec<Section> {
+        let last = self.sections.keys().last().copied().unwrap_or(0);
         let mut sections = Vec::new();
-        for (wanted, (number, (section, line, text))) in (1..=255).zip(self.0) {
-            if number != wanted {
-                let wrong = format!("section {wanted} is missing: this line is section {number}");
+        let mut wanted = 1;
+        for (number, (section, line, text)) in self.sections {
+            if number != wanted && !self.unnumbered {
+                let gap = match number - wanted {
+                    1 => format!("section {wanted} is missing"),
+                    _ => format!("sections {wanted} to {} are missing", number - 1),
+                };
                 let expected = format!("a line for section {wanted}; sections number from 1 to {last} without a gap");
-                return Err(Mistake::on(line, &text, wrong, expected));
+                mistakes.add(Mistake::on(line, &text, format!("{gap}: this line is section {number}"), expected));
             }
+            wanted = number.saturating_add(1);
             sections.push(section);
         }
-        Ok(sections)
+        sections
     }
 }
 
@@ -50,27 +67,40 @@ fn number(line: &mut Line) -> Result<u8, Mistake> {
     };
     match word.parse::<u8>() {
         Ok(number) if number > 0 && word.bytes().all(|b| b.is_ascii_digit()) => Ok(number),
-        _ => Err(line.mistake(format!("`{word}` is no section's number"), "a number from 1 to 255")),
+        _ => Err(line.mistake(format!("`{word}` is no section's number"), "a number from 1 to 63")),
     }
 }
 
-/// The fields in any order, each once.
-fn fields(line: &mut Line) -> Result<Section, Mistake> {
+/// The fields in any order, each once. Behind a mistake it goes on with the next field.
+fn fields(line: &mut Line, mistakes: &mut Mistakes) -> Section {
     let mut section = Section::default();
     let mut seen = [false; WORDS.len()];
+    let mut unknown = false;
     while let Some(word) = line.word() {
-        let Some(place) = WORDS.iter().position(|known| *known == word) else {
-            let wrong = format!("`{word}` is no field of a section");
-            return Err(line.mistake(wrong, format!("one of: {}", WORDS.join(", "))));
+        let found = WORDS.iter().position(|known| *known == word);
+        let taken = match found {
+            None => {
+                unknown = true;
+                Err(line.mistake(format!("`{word}` is no field of a section"), format!("one of: {}", WORDS.join(", "))))
+            }
+            Some(place) if seen[place] => {
+                Err(line.mistake(format!("`{word}` is given twice"), format!("one `{word}` for each section")))
+            }
+            Some(place) => field(line, place, &mut section),
         };
-        if seen[place] {
-            return Err(line.mistake(format!("`{word}` is given twice"), format!("one `{word}` for each section")));
+        if let Some(place) = found {
+            seen[place] = true;
         }
-        seen[place] = true;
-        field(line, place, &mut section)?;
+        if let Err(mistake) = taken {
+            mistakes.add(mistake);
+            line.skip_to(&WORDS);
+        }
     }
-    complete(line, &section, &seen)?;
-    Ok(section)
+    // A word that is no field may be the one that is missing, spelt otherwise.
+    if !unknown && let Err(mistake) = complete(line, &section, &seen) {
+        mistakes.add(mistake);
+    }
+    section
 }
 
 /// The field at a place of `WORDS`.
@@ -82,7 +112,7 @@ fn field(line: &mut Line, place: usize, section: &mut Section) -> Result<(), Mis
         2 => section.elevation = line.quantity(what, &measure::ELEVATION, &WORDS)? as i16,
         3 => section.kind = kind(line)?,
         4 => section.fixtures = line.quantity(what, &measure::COUNT, &WORDS)? as u16,
-        _ => section.free = line.quantity(what, &measure::HEAD, &WORDS)? as u16,
+        _ => section.free = line.quantity(what, &measure::FREE, &WORDS)? as u16,
     }
     Ok(())
 }
@@ -102,7 +132,7 @@ fn complete(line: &Line, section: &Section, seen: &[bool; WORDS.len()]) -> Resul
 }
 
 fn parent(line: &mut Line) -> Result<u8, Mistake> {
-    let expected = "`from pump`, or `from` and the number of the section before, 1 to 255";
+    let expected = "`from pump`, or `from` and the number of the section before, 1 to 62";
     match line.word() {
         None => Err(line.mistake("`from` names nothing", expected)),
         Some(word) if word == "pump" => Ok(0),
@@ -155,6 +185,6 @@ fn cells(number: u8, section: &Section) -> [String; 7] {
         measure::ELEVATION.show(section.elevation.into()),
         kinds::name(section.kind),
         taps(section.fixtures.to_string()),
-        taps(measure::HEAD.show(section.free.into())),
+        taps(measure::FREE.show(section.free.into())),
     ]
 }

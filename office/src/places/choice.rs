@@ -10,41 +10,53 @@ pub fn none_suits(asked: &Asked) -> Vec<Place> {
     let (Ok(record), Ok(catalogue)) = (Record::read(asked.job), Catalogue::read(asked.cat)) else { return Vec::new() };
     // The flows are the library's own.
     let Ok(flow) = calls::flow(asked.job) else { return Vec::new() };
-    let mut found = Vec::new();
-    let mut gentlest = Vec::new();
-    for (section, flow) in (1..=255).zip(flow.flows) {
-        match least_slope(&catalogue, flow, record.limit) {
-            Some(size) => gentlest.push(size),
-            None => found.push(Place::new(At::Section(section), unserved(&catalogue, flow, record.limit))),
-        }
+    let sizes = gentlest(&record, &catalogue, &flow.flows);
+    let unserved = (1..=255).zip(&sizes).zip(&flow.flows).filter(|((_, size), _)| size.is_none());
+    let found: Vec<Place> = unserved
+        .map(|((section, _), flow)| Place::new(At::Section(section), why_unserved(&catalogue, *flow, record.limit)))
+        .collect();
+    match found.is_empty() {
+        true => short_of_head(asked, &record, &sizes.into_iter().flatten().collect::<Vec<u8>>()),
+        false => found,
     }
-    if found.is_empty() { short_of_head(asked, &record, &gentlest) } else { found }
 }
 
-/// The allowed size with the least slope, and so with the least loss: a section's loss depends on nothing else that may be
-/// chosen.
-fn least_slope(catalogue: &Catalogue, flow: u32, limit: u16) -> Option<u8> {
-    (1..=255)
-        .zip(&catalogue.sizes)
-        .filter_map(|(number, size)| Some((number, pipe::read(size, flow)?)))
-        .filter(|(_, reading)| reading.velocity <= u64::from(limit))
-        .min_by_key(|(_, reading)| reading.slope)
-        .map(|(number, _)| number)
+/// For each section the allowed size with the least slope, and so with the least loss: a section's loss depends on nothing
+/// else that may be chosen. None where no size serves it.
+pub fn gentlest(record: &Record, catalogue: &Catalogue, flows: &[u32]) -> Vec<Option<u8>> {
+    let allowed = |flow: u32| {
+        (1..=255)
+            .zip(&catalogue.sizes)
+            .filter_map(move |(number, size)| Some((number, pipe::read(size, flow)?)))
+            .filter(|(_, reading)| reading.velocity <= u64::from(record.limit))
+    };
+    flows.iter().map(|flow| allowed(*flow).min_by_key(|(_, reading)| reading.slope).map(|(number, _)| number)).collect()
 }
 
-/// Why no size will do for a section.
-fn unserved(catalogue: &Catalogue, flow: u32, limit: u16) -> String {
-    let readings = (1..=255).zip(&catalogue.sizes).filter_map(|(number, size)| Some((number, pipe::read(size, flow)?)));
-    match readings.min_by_key(|(_, reading)| reading.velocity) {
-        Some((number, reading)) => format!(
-            "no size serves it: at {flow} ml/s the least velocity is {} mm/s, in size {number}, and the limit is {limit} mm/s",
+/// Why no size will do for a section, and the bore that would.
+fn why_unserved(catalogue: &Catalogue, flow: u32, limit: u16) -> String {
+    let sizes = (1_u8..=255).zip(&catalogue.sizes);
+    let readings = sizes.filter_map(|(number, size)| Some((number, size.bore, pipe::read(size, flow)?)));
+    let needed = bore(flow, limit).max(catalogue.sizes.iter().map(|size| u64::from(size.bore) + 1).max().unwrap_or(1));
+    let would = format!("and the limit is {limit} mm/s; a bore of about {needed} mm would do");
+    match readings.min_by_key(|(_, _, reading)| reading.velocity) {
+        Some((number, bore, reading)) => format!(
+            "no size serves it: at {flow} ml/s the least velocity is {} mm/s, in size {number} ({bore} mm), {would}",
             reading.velocity
         ),
         None => {
             let last = catalogue.sizes.iter().map(pipe::last).max().unwrap_or(0);
-            format!("no size serves its flow of {flow} ml/s; the greatest flow in the table is {last} ml/s")
+            format!("no size serves its flow of {flow} ml/s; the greatest flow in the table is {last} ml/s, {would}")
         }
     }
+}
+
+/// The least bore in mm through which a flow in ml/s keeps a velocity in mm/s: a circle of 1,000 x flow / velocity square
+/// mm. The ratio of a circle is taken as 355 / 113.
+fn bore(flow: u32, limit: u16) -> u64 {
+    let square = (4_000 * u64::from(flow) * 113).div_ceil(355 * u64::from(limit.max(1)));
+    let root = square.isqrt();
+    root + u64::from(root * root < square)
 }
 
 /// The least required head there is, from the library's own rating of the list with the least losses.

@@ -1,7 +1,8 @@
-//! Refusals 8 and 9: m and the hour's sum, for the house and for each section, in millionths.
+//! Refusals 8 and 9: m and the hour's sum, for the house and for each section, in millionths, and what would pass.
 
 use super::Place;
 use crate::at::At;
+use crate::kinds;
 use crate::record::Record;
 
 /// Q, Z and O of kinds 1 to 12 (document 01, "Norms and design flows").
@@ -26,38 +27,43 @@ const EACH: u64 = 100_000;
 /// From 201 fixtures on, 9 doesn't apply.
 const FEW: u64 = 200;
 
-/// 8: the house's m or the hour's sum beyond the table.
+/// 8: the house's m or the hour's sum beyond the table; behind it, for each kind that can mend it alone, how many residents
+/// would pass, the heaviest first.
 pub fn over_table(job: &[u8]) -> Vec<Place> {
     let Some(demand) = Demand::of(job) else { return Vec::new() };
-    let house = demand.house();
-    let sums = [("m", demand.m(&house)), ("the hour's sum", demand.hour())];
-    sums.iter()
-        .filter(|(_, sum)| *sum > TABLE_END)
-        .map(|(what, sum)| Place::new(At::House, format!("{what} is {sum} millionths, over {TABLE_END}")))
-        .collect()
+    let sums = [demand.house_sum(), demand.hour_sum()];
+    let over: Vec<&Sum> = sums.iter().filter(|sum| sum.total() > TABLE_END).collect();
+    let place =
+        |sum: &&Sum| Place::new(At::House, format!("{} is {} millionths, over {TABLE_END}", sum.what, sum.total()));
+    let mut found: Vec<Place> = over.iter().map(place).collect();
+    let Some(worst) = over.iter().max_by_key(|sum| sum.total()) else { return found };
+    let mut kinds: Vec<usize> = (0..12).filter(|kind| worst.shares[*kind] > 0).collect();
+    kinds.sort_by_key(|kind| std::cmp::Reverse(worst.shares[*kind]));
+    for kind in kinds {
+        let (given, share) = (demand.record.residents[kind], worst.shares[kind]);
+        let Some(pass) = demand.residents_that_pass(kind) else { continue };
+        let why = format!("{given} given, {share} of {} millionths; {pass} would pass", worst.total());
+        found.push(Place::new(At::Residents(kind as u8 + 1), why));
+    }
+    if found.iter().all(|place| place.at == At::House) {
+        found.push(Place::new(At::House, "no kind alone can mend it: several need fewer residents"));
+    }
+    found
 }
 
-/// 9: too few fixtures for the demand; behind the house's places the kinds that weigh most, whose numbers are to be changed.
+/// 9: too few fixtures for the demand; behind the house's places the kinds that are over what their own fixtures carry.
 pub fn over_fixtures(job: &[u8]) -> Vec<Place> {
     let Some(demand) = Demand::of(job) else { return Vec::new() };
-    let house = demand.house();
-    let mut sums = vec![
-        Sum { at: At::House, what: "m", shares: demand.shares(&house), served: house },
-        Sum { at: At::House, what: "the hour's sum", shares: demand.hour_shares(), served: house },
-    ];
-    for (number, served) in (1..=255).zip(demand.served()) {
-        sums.push(Sum { at: At::Section(number), what: "m", shares: demand.shares(&served), served });
-    }
-    sums.retain(Sum::passes);
+    let sums: Vec<Sum> = demand.sums().into_iter().filter(Sum::is_over).collect();
     let (house, sections): (Vec<&Sum>, Vec<&Sum>) = sums.iter().partition(|sum| sum.at == At::House);
     let worst = house.iter().max_by_key(|sum| sum.total()).or(sections.first());
     let mut found: Vec<Place> = house.iter().map(|sum| sum.place()).collect();
-    found.extend(worst.map_or(Vec::new(), |sum| demand.heaviest(sum)));
+    found.extend(worst.map_or(Vec::new(), |sum| demand.crowded(sum)));
     found.extend(sections.iter().map(|sum| sum.place()));
     found
 }
 
-/// A sum that 9 looks at: its shares by kind, and the fixtures that have to carry it.
+/// A sum that 8 and 9 look at: its shares by kind, and the fixtures that have to carry it.
 struct Sum {
     at: At,
     what: &'static str,
@@ -74,20 +80,16 @@ impl Sum {
         self.served.iter().sum()
     }
 
-    fn passes(&self) -> bool {
+    /// Whether 9 refuses it.
+    fn is_over(&self) -> bool {
         self.fixtures() <= FEW && self.total() > EACH * self.fixtures()
     }
 
     fn place(&self) -> Place {
         let (what, sum, fixtures) = (self.what, self.total(), self.fixtures());
         let most = EACH * fixtures;
-        // More fixtures in a section draw more of the house's demand there, so the count is a least one.
-        let needed = match sum.div_ceil(EACH) {
-            few if few <= FEW => format!("at least about {few} fixtures are needed"),
-            _ => format!("over {FEW} fixtures are needed, where this rule ends"),
-        };
         let why = format!(
-            "{what} is {sum} millionths; the fixtures it serves, {fixtures}, carry at most {most} ({EACH} each); {needed}"
+            "{what} is {sum} millionths; the fixtures it serves, {fixtures}, carry at most {most} ({EACH} each)"
         );
         Place::new(self.at, why)
     }
@@ -96,6 +98,7 @@ impl Sum {
 /// Fixtures of kinds 1 to 12.
 type Counts = [u64; 12];
 
+#[derive(Clone)]
 struct Demand {
     record: Record,
 }
@@ -131,8 +134,7 @@ impl Demand {
     }
 
     /// The shares of m by kind, each rounded up.
-    fn shares(&self, served: &Counts) -> Counts {
-        let house = self.house();
+    fn shares(&self, house: &Counts, served: &Counts) -> Counts {
         std::array::from_fn(|kind| match house[kind] {
             0 => 0,
             all => {
@@ -142,38 +144,97 @@ impl Demand {
         })
     }
 
-    fn m(&self, served: &Counts) -> u64 {
-        self.shares(served).iter().sum()
+    fn house_sum(&self) -> Sum {
+        let house = self.house();
+        Sum { at: At::House, what: "m", shares: self.shares(&house, &house), served: house }
     }
 
-    /// The shares of the hour's sum by kind, each rounded up.
-    fn hour_shares(&self) -> Counts {
-        std::array::from_fn(|kind| {
+    /// The hour's sum by kind, each share rounded up.
+    fn hour_sum(&self) -> Sum {
+        let shares = std::array::from_fn(|kind| {
             let (q, _, o) = NORMS[kind];
             (100_000 * q * u64::from(self.record.residents[kind])).div_ceil(o)
+        });
+        Sum { at: At::House, what: "the hour's sum", shares, served: self.house() }
+    }
+
+    /// All sums that 9 looks at.
+    fn sums(&self) -> Vec<Sum> {
+        let house = self.house();
+        let mut sums = vec![self.house_sum(), self.hour_sum()];
+        for (number, served) in (1..=255).zip(self.served()) {
+            sums.push(Sum { at: At::Section(number), what: "m", shares: self.shares(&house, &served), served });
+        }
+        sums
+    }
+
+    /// Whether neither 8 nor 9 refuses it.
+    fn passes(&self) -> bool {
+        let end = [self.house_sum(), self.hour_sum()].iter().all(|sum| sum.total() <= TABLE_END);
+        end && !self.sums().iter().any(Sum::is_over)
+    }
+
+    /// The most residents of a kind with which the house passes, the others as they are; none where not even one would.
+    fn residents_that_pass(&self, kind: usize) -> Option<u16> {
+        let with = |residents: u16| {
+            let mut other = self.clone();
+            other.record.residents[kind] = residents;
+            other.passes()
+        };
+        // Every sum grows with the residents, so the least number that fails lies behind all that pass.
+        let (mut low, mut high) = (0, self.record.residents[kind]);
+        while high - low > 1 {
+            let middle = low + (high - low) / 2;
+            if with(middle) { low = middle } else { high = middle }
+        }
+        (low > 0).then_some(low)
+    }
+
+    /// The fewest fixtures of a kind to be added to one section, and the section, so that the house passes.
+    fn fixtures_that_do(&self, kind: usize) -> Option<(u16, u8)> {
+        let places: Vec<usize> = (0..self.record.sections.len())
+            .filter(|place| usize::from(self.record.sections[*place].kind) == kind + 1)
+            .collect();
+        // The house's two sums don't change with its fixtures, so fewer than they ask for needn't be tried; and with over 200
+        // fixtures 9 ends.
+        let sums = [self.house_sum(), self.hour_sum()];
+        let asked = sums.iter().map(|sum| sum.total().div_ceil(EACH)).max().unwrap_or(0).min(FEW + 1);
+        let least = asked.saturating_sub(sums[0].fixtures()).max(1) as u16;
+        (least..=FEW as u16 + 1).find_map(|more| {
+            let place = places.iter().find(|place| {
+                let mut other = self.clone();
+                let fixtures = &mut other.record.sections[**place].fixtures;
+                *fixtures = fixtures.saturating_add(more);
+                other.passes()
+            })?;
+            Some((more, *place as u8 + 1))
         })
     }
 
-    fn hour(&self) -> u64 {
-        self.hour_shares().iter().sum()
-    }
-
-    /// The kinds that make up more than half of a sum, the heaviest first: a smaller one alone can't mend it.
-    fn heaviest(&self, sum: &Sum) -> Vec<Place> {
-        let (total, house) = (sum.total(), self.house());
-        let mut kinds: Vec<usize> = (0..12).collect();
-        kinds.sort_by_key(|kind| std::cmp::Reverse(sum.shares[*kind]));
+    /// The kinds whose share is over what their own fixtures carry, the most crowded first, with what would pass: where a
+    /// sum is over, at least one kind of it is.
+    fn crowded(&self, sum: &Sum) -> Vec<Place> {
+        let mut over: Vec<usize> = (0..12).filter(|kind| sum.shares[*kind] > EACH * sum.served[*kind]).collect();
+        over.sort_by_key(|kind| std::cmp::Reverse(sum.shares[*kind] * 1_000 / sum.served[*kind].max(1)));
         let mut found = Vec::new();
-        let mut weight = 0;
-        for kind in kinds {
-            if weight * 2 > total || sum.shares[kind] == 0 {
-                break;
-            }
-            let (share, residents, fixtures) = (sum.shares[kind], self.record.residents[kind], house[kind]);
-            weight += share;
+        for kind in over {
+            let (share, own) = (sum.shares[kind], sum.served[kind]);
+            let residents = self.record.residents[kind];
+            let fewer = match self.residents_that_pass(kind) {
+                Some(pass) => format!("{pass} residents would pass"),
+                None => "fewer residents of this kind alone don't do".to_string(),
+            };
+            let more = match self.fixtures_that_do(kind) {
+                Some((more, section)) => {
+                    let all = self.house()[kind] + u64::from(more);
+                    format!("{all} fixtures would do, {more} more in section {section}")
+                }
+                None => "more fixtures in one section alone don't do".to_string(),
+            };
+            let name = kinds::name(kind as u8 + 1);
             let why = format!(
-                "they weigh most, {share} of {total} millionths: {residents} residents, {fixtures} fixtures of theirs in the \
-                 house; are there fewer residents, or more fixtures?"
+                "{residents} residents weigh {share} millionths, and {own} fixtures of kind {name} carry {}; {fewer}; {more}",
+                EACH * own
             );
             found.push(Place::new(At::Residents(kind as u8 + 1), why));
         }

@@ -15,7 +15,8 @@ pub fn names(asked: &Asked) -> Vec<Place> {
         let given = asked.sizes.len();
         found.push(Place::new(At::List, format!("size numbers given: {given}; sections of the house: {sections}")));
     }
-    for (place, number) in asked.sizes.iter().enumerate() {
+    // A list may be far longer than any house; what is behind that says nothing new.
+    for (place, number) in asked.sizes.iter().enumerate().take(255) {
         if *number == 0 || usize::from(*number) > sizes {
             found.push(Place::new(At::Entry(place + 1), format!("{number} is none of sizes 1 to {sizes}")));
         }

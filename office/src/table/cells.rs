@@ -1,37 +1,47 @@
 //! The lines of a table, cell by cell.
 
-use super::COLUMNS;
+use super::{header, odd};
+use crate::measure::Measure;
 use crate::mistake::Mistake;
+use crate::readable::{self, Said};
 
-/// A line that says something, parted at its commas (or semicolons, which some spreadsheets write).
+/// A line that says something, parted at its separators.
 pub struct Cells<'a> {
     pub line: usize,
     text: &'a str,
-    separator: char,
+    pub separator: char,
     pub cells: Vec<String>,
 }
 
-/// The lines of a file, without those that are empty or hold a comment only. Spreadsheets fill short lines up with empty
-/// cells, so a line of nothing but separators is empty too.
-pub fn lines(text: &str) -> impl Iterator<Item = Cells<'_>> {
-    let text = text.strip_prefix('\u{feff}').unwrap_or(text);
-    let separator = separator(text);
-    text.lines().enumerate().filter_map(move |(place, text)| {
-        let cells: Vec<String> = parts(uncommented(text), separator).into_iter().map(cell).collect();
-        cells.iter().any(|cell| !cell.is_empty()).then(|| Cells { line: place + 1, text, separator, cells })
-    })
+/// What may part cells, and how a message names it.
+const SEPARATORS: [(char, &str); 3] = [(';', "semicolons"), (',', "commas"), ('\t', "tabs")];
+
+/// The separator that a spreadsheet names in the file's first line, `sep=;`; `None` in it where it is no separator.
+pub fn named_separator(said: &Said) -> Option<Option<char>> {
+    let line = said.said.trim_matches([' ', '\r', '"']).to_lowercase();
+    let named = line.strip_prefix("sep=")?;
+    let mut rest = named.chars();
+    let separator = rest.next().filter(|c| SEPARATORS.iter().any(|(known, _)| known == c));
+    Some(separator.filter(|_| rest.as_str().is_empty()))
 }
 
-fn uncommented(line: &str) -> &str {
-    line.split('#').next().unwrap_or("")
-}
-
-/// The one separator of a file, which its first line shows. Where it is the semicolon, a comma is part of a number, and
-/// whoever took it for a separator too would read one number as two.
-fn separator(text: &str) -> char {
-    let says = |line: &&str| line.chars().any(|c| !c.is_whitespace() && !",;\"".contains(c));
-    let first = text.lines().map(uncommented).find(says).unwrap_or("");
-    if first.contains(';') { ';' } else { ',' }
+/// The one separator of a file, and how many lines stand before the table. The separator is what a first line `sep=;` names, or
+/// what parts the header into its six columns: whoever took another one too would read one number as two.
+pub fn separator(text: &str) -> Result<(char, usize), Mistake> {
+    if let Some(first) = readable::lines(text).next()
+        && let Some(named) = named_separator(&first)
+    {
+        let line = Cells::of(&first, ',');
+        let expected = "`sep=;`, `sep=,` or `sep=` and a tab, or no such line";
+        return named.map(|c| (c, 1)).ok_or_else(|| line.mistake("`sep=` names no separator of a table", expected));
+    }
+    let known =
+        |said: &Said| !SEPARATORS.iter().any(|(c, _)| odd::knows(&Cells::of(said, *c)) || !Cells::of(said, *c).says());
+    let Some(line) = readable::lines(text).find(known) else { return Ok((',', 0)) };
+    let whole = SEPARATORS.iter().find(|(c, _)| header::complete(&Cells::of(&line, *c)));
+    // A header with a mistake in it is read by the first separator that it has, so that the mistake can be named.
+    let found = whole.or_else(|| SEPARATORS.iter().find(|(c, _)| line.said.contains(*c)));
+    Ok((found.map_or(',', |(c, _)| *c), 0))
 }
 
 /// The cells of a line. A separator between quotation marks parts nothing; a quotation mark counts at a cell's start only,
@@ -51,14 +61,30 @@ fn parts(line: &str, separator: char) -> Vec<&str> {
     found
 }
 
+/// No cell that is read is as long; one that is longer is cut for messages and is no number any more.
+const LONGEST_CELL: usize = 60;
+
 /// A cell without the blanks and the quotation marks around it, in lower case.
 fn cell(text: &str) -> String {
     let text = text.trim();
-    let bare = text.strip_prefix('"').and_then(|text| text.strip_suffix('"')).unwrap_or(text);
-    bare.trim().to_lowercase()
+    let bare = text.strip_prefix('"').and_then(|text| text.strip_suffix('"')).unwrap_or(text).trim();
+    match bare.char_indices().nth(LONGEST_CELL) {
+        Some((at, _)) => format!("{}...", &bare[..at]).to_lowercase(),
+        None => bare.to_lowercase(),
+    }
 }
 
-impl Cells<'_> {
+impl<'a> Cells<'a> {
+    pub fn of(said: &Said<'a>, separator: char) -> Cells<'a> {
+        let cells = parts(said.said, separator).into_iter().map(cell).collect();
+        Cells { line: said.number, text: said.text, separator, cells }
+    }
+
+    /// Whether any cell holds something.
+    pub fn says(&self) -> bool {
+        self.cells.iter().any(|cell| !cell.is_empty())
+    }
+
     pub fn mistake(&self, wrong: impl Into<String>, expected: impl Into<String>) -> Mistake {
         Mistake::on(self.line, self.text, wrong, expected)
     }
@@ -68,65 +94,32 @@ impl Cells<'_> {
         self.text.to_string()
     }
 
-    /// For each of `COLUMNS` its place in this header line.
-    pub fn columns(&self) -> Result<[usize; COLUMNS.len()], Mistake> {
-        let expected = format!("`{}`", COLUMNS.join(&self.separator.to_string()));
-        for cell in self.cells.iter().filter(|cell| !cell.is_empty()) {
-            if !COLUMNS.contains(&cell.as_str()) {
-                return Err(self.mistake(format!("`{cell}` is no column of a table"), expected));
-            }
-        }
-        let mut places = [0; COLUMNS.len()];
-        for (place, column) in places.iter_mut().zip(COLUMNS) {
-            let mut found = self.cells.iter().enumerate().filter(|(_, cell)| *cell == column).map(|(at, _)| at);
-            *place = match (found.next(), found.next()) {
-                (Some(at), None) => at,
-                (None, _) => return Err(self.mistake(format!("the header has no column `{column}`"), expected)),
-                (Some(_), Some(_)) => {
-                    return Err(self.mistake(format!("the column `{column}` is there twice"), expected));
-                }
-            };
-        }
-        Ok(places)
-    }
-
     /// The cell at a place, empty where the line is too short.
     pub fn at(&self, place: usize) -> &str {
         self.cells.get(place).map_or("", String::as_str)
     }
 
     /// The whole number at a place, up to what its bytes hold.
-    pub fn number(&self, place: usize, what: &str, most: u32) -> Result<u32, Mistake> {
+    pub fn number(&self, place: usize, what: &str, measure: &Measure) -> Result<i64, Mistake> {
         let text = self.at(place);
-        let expected = format!("a whole number from 0 to {most}");
+        let expected = measure.whole();
         if text.is_empty() {
             return Err(self.mistake(format!("`{what}` is empty"), expected));
         }
-        if !text.bytes().all(|b| b.is_ascii_digit()) {
-            return Err(self.no_number(text, what, expected));
-        }
-        match text.parse::<u32>() {
-            Ok(value) if value <= most => Ok(value),
-            _ => Err(self.mistake(format!("`{what}` {text} is more than its bytes can hold"), expected)),
+        let value = measure.number(text, 0).map_err(|fault| {
+            let (wrong, expected) = measure.fault(fault, what, text, 0);
+            self.mistake(wrong, self.parted(text, expected))
+        })?;
+        match measure.holds(value) {
+            true => Ok(value),
+            false => Err(self.mistake(format!("`{what}` {text} is more than its bytes can hold"), expected)),
         }
     }
 
-    /// A cell that is no number. A comma may part thousands or decimals, and either separator may be meant as the file's.
-    fn no_number(&self, text: &str, what: &str, mut expected: String) -> Mistake {
-        let parted = match self.separator {
-            ';' => "cells are parted by semicolons, as in the file's first line",
-            _ => "cells are parted by commas, as in the file's first line",
-        };
-        if text.contains(',') {
-            expected.push_str(", nothing between thousands");
-        }
-        if text.contains([',', ';']) && !self.text.contains('"') {
-            expected = format!("{expected}; {parted}");
-        }
-        let wrong = match text.contains(',') {
-            true => format!("`{text}` for `{what}` has a comma"),
-            false => format!("`{text}` is no whole number for `{what}`"),
-        };
-        self.mistake(wrong, expected)
+    /// A cell with another separator in it may be a line that is parted otherwise than the file.
+    fn parted(&self, text: &str, expected: String) -> String {
+        let other = SEPARATORS.iter().any(|(c, _)| text.contains(*c)) && !self.text.contains('"');
+        let own = SEPARATORS.iter().find(|(c, _)| *c == self.separator).map_or("", |(_, name)| name);
+        if other { format!("{expected}; cells are parted by {own}, as in the file's first line") } else { expected }
     }
 }

@@ -2,14 +2,24 @@
 
 use super::COLUMNS;
 use super::cells::Cells;
+use super::header::Columns;
 use crate::at::{At, Lines};
 use crate::catalogue::{Row, Size};
-use crate::mistake::Mistake;
+use crate::measure::{self, Measure};
+use crate::mistake::{Mistake, Mistakes};
 use std::collections::BTreeMap;
+
+/// What stands under each of `COLUMNS`.
+const MEASURES: [&Measure; COLUMNS.len()] =
+    [&measure::SIZE, &measure::BORE, &measure::PRICE, &measure::FLOW, &measure::SPEED, &measure::SLOPE];
 
 /// The sizes read so far, with the lines of their rows and, for messages, the first line.
 #[derive(Default)]
-pub struct Given(BTreeMap<u8, Part>);
+pub struct Given {
+    sizes: BTreeMap<u8, Part>,
+    /// The size of the row before, which a row without one goes on with.
+    last: Option<u8>,
+}
 
 struct Part {
     size: Size,
@@ -20,84 +30,140 @@ struct Part {
 /// Sizes from 1 on, rows of each, and the lines.
 type Gathered = (Vec<Size>, u8, Lines);
 
+/// A line of the table under its columns.
+struct Under<'a, 'b> {
+    line: &'a Cells<'b>,
+    columns: &'a Columns,
+}
+
+impl Under<'_, '_> {
+    fn empty(&self, column: usize) -> bool {
+        self.line.at(self.columns.places[column]).is_empty()
+    }
+
+    fn number(&self, column: usize) -> Result<i64, Mistake> {
+        self.line.number(self.columns.places[column], COLUMNS[column], MEASURES[column])
+    }
+
+    /// The number, or a mistake that is noted.
+    fn noted(&self, column: usize, mistakes: &mut Mistakes) -> i64 {
+        self.number(column).unwrap_or_else(|mistake| {
+            mistakes.add(mistake);
+            0
+        })
+    }
+}
+
 impl Given {
     /// Takes one row. Rows of a size keep their order; the sizes may come in any.
-    pub fn take(&mut self, line: &Cells, columns: &[usize; COLUMNS.len()]) -> Result<(), Mistake> {
-        let number = |column: usize, most: u32| line.number(columns[column], COLUMNS[column], most);
-        let size = number(0, 255)? as u8;
-        if size == 0 {
-            return Err(line.mistake("sizes number from 1", "a size from 1 to 255"));
+    pub fn take(&mut self, line: &Cells, columns: &Columns, mistakes: &mut Mistakes) {
+        let row = Under { line, columns };
+        if let Some(cell) = line.cells.iter().enumerate().find(|(at, cell)| !columns.covers(*at) && !cell.is_empty()) {
+            let expected = "as many cells as the header has";
+            mistakes.add(line.mistake(format!("`{}` stands under no column", cell.1), expected));
         }
-        if let Some(extra) = line.cells.iter().enumerate().find(|(at, cell)| !columns.contains(at) && !cell.is_empty())
-        {
-            return Err(
-                line.mistake(format!("`{}` stands under no column", extra.1), "as many cells as the header has")
-            );
-        }
-        self.start(line, size, columns)?;
-        let part = self.0.get_mut(&size).expect("the size was started");
+        let size = match self.size(&row) {
+            Ok(size) => size,
+            Err(mistake) => {
+                mistakes.add(mistake);
+                (1..6).filter(|column| !row.empty(*column)).for_each(|column| {
+                    row.noted(column, mistakes);
+                });
+                return;
+            }
+        };
+        self.last = Some(size);
+        self.start(&row, size, mistakes);
+        let part = self.sizes.get_mut(&size).expect("the size was started");
         part.lines.push(line.line);
-        let bare = (3..6).all(|column| line.at(columns[column]).is_empty());
-        if bare && part.lines.len() == 1 {
-            return Ok(());
+        if let Err(mistake) = part.takes_row(&row, size, mistakes) {
+            mistakes.add(mistake);
         }
-        if part.size.rows.len() + 1 != part.lines.len() {
-            let wrong = format!("size {size} has a line without flow, velocity and slope before this one");
-            return Err(line.mistake(wrong, "a size without rows has one line only"));
+    }
+
+    /// The row's size: its own, or where the cell is empty that of the row before.
+    fn size(&self, row: &Under) -> Result<u8, Mistake> {
+        match self.last {
+            Some(last) if row.empty(0) => Ok(last),
+            _ => match row.number(0)? {
+                0 => Err(row.line.mistake("sizes number from 1", "a size from 1 to 12")),
+                size => Ok(size as u8),
+            },
         }
-        if part.size.rows.len() == 255 {
-            return Err(
-                line.mistake(format!("size {size} has more rows than the count's byte holds"), "at most 255 rows")
-            );
-        }
-        part.size.rows.push(Row {
-            flow: number(3, u32::MAX)?,
-            velocity: number(4, 65_535)? as u16,
-            slope: number(5, 65_535)? as u16,
-        });
-        Ok(())
     }
 
     /// Bore and price stand on a size's first line; further lines may leave them out, and if not they must agree.
-    fn start(&mut self, line: &Cells, size: u8, columns: &[usize; COLUMNS.len()]) -> Result<(), Mistake> {
-        let number = |column: usize| line.number(columns[column], COLUMNS[column], 65_535);
-        let Some(part) = self.0.get(&size) else {
-            let kept = Size { bore: number(1)? as u16, price: number(2)? as u16, rows: Vec::new() };
-            self.0.insert(size, Part { size: kept, lines: Vec::new(), text: line.said() });
-            return Ok(());
+    fn start(&mut self, row: &Under, size: u8, mistakes: &mut Mistakes) {
+        let Some(part) = self.sizes.get(&size) else {
+            let (bore, price) = (row.noted(1, mistakes) as u16, row.noted(2, mistakes) as u16);
+            let kept = Size { bore, price, rows: Vec::new() };
+            self.sizes.insert(size, Part { size: kept, lines: Vec::new(), text: row.line.said() });
+            return;
         };
         for (column, kept) in [(1, part.size.bore), (2, part.size.price)] {
-            if !line.at(columns[column]).is_empty() && number(column)? != u32::from(kept) {
-                let wrong = format!("size {size} has another {} here than on line {}", COLUMNS[column], part.lines[0]);
-                return Err(line.mistake(wrong, format!("{kept}, or the cell left empty")));
+            match row.number(column) {
+                _ if row.empty(column) => {}
+                Ok(value) if value == i64::from(kept) => {}
+                Err(mistake) => mistakes.add(mistake),
+                Ok(_) => {
+                    let name = COLUMNS[column];
+                    let wrong = format!("size {size} has another {name} here than on line {}", part.lines[0]);
+                    let expected = format!("{kept}, or the cell left empty; another size has its own number");
+                    mistakes.add(row.line.mistake(wrong, expected));
+                }
             }
         }
-        Ok(())
     }
 
     /// The sizes from 1 on, without a gap and with equally many rows: the record has one count of rows for all.
-    pub fn sizes(self) -> Result<Gathered, Mistake> {
-        let last = self.0.keys().last().copied().unwrap_or(0);
-        let rows = self.0.get(&1).map_or(0, |part| part.size.rows.len());
+    pub fn sizes(self) -> Result<Gathered, Mistakes> {
+        let last = self.sizes.keys().last().copied().unwrap_or(0);
+        let rows = self.sizes.values().next().map_or(0, |part| part.size.rows.len());
+        let mut mistakes = Mistakes::default();
         let mut sizes = Vec::new();
         let mut places = Lines::default();
-        for (wanted, (number, part)) in (1..=255).zip(self.0) {
+        for (wanted, (number, part)) in (1..=255).zip(self.sizes) {
             let mistake = |wrong: String, expected: String| Mistake::on(part.lines[0], &part.text, wrong, expected);
             if number != wanted {
                 let wrong = format!("size {wanted} is missing: this line is size {number}");
-                return Err(mistake(wrong, format!("sizes number from 1 to {last} without a gap")));
+                mistakes.add(mistake(wrong, format!("sizes number from 1 to {last} without a gap")));
+                return Err(mistakes);
             }
             if part.size.rows.len() != rows {
                 let wrong =
                     format!("size {number} has {}, but size 1 has {}", counted(part.size.rows.len()), counted(rows));
-                return Err(mistake(wrong, "equally many rows for each size".to_string()));
+                mistakes.add(mistake(wrong, "equally many rows for each size".to_string()));
             }
             for (row, line) in (1..=255).zip(&part.lines) {
                 places.note(At::Row(number, row), *line);
             }
             sizes.push(part.size);
         }
-        Ok((sizes, rows as u8, places))
+        mistakes.none((sizes, rows as u8, places))
+    }
+}
+
+impl Part {
+    /// Takes flow, velocity and slope. A size without rows has one line without them.
+    fn takes_row(&mut self, row: &Under, size: u8, mistakes: &mut Mistakes) -> Result<(), Mistake> {
+        let bare = (3..6).all(|column| row.empty(column));
+        if bare && self.lines.len() == 1 {
+            return Ok(());
+        }
+        if self.size.rows.len() == 255 {
+            let wrong = format!("size {size} has more rows than the count's byte holds");
+            return Err(row.line.mistake(wrong, "2 to 64 rows"));
+        }
+        if self.size.rows.len() + 1 != self.lines.len() {
+            let wrong = format!("size {size} has a line without flow, velocity and slope before this one");
+            return Err(row.line.mistake(wrong, "a size without rows has one line only"));
+        }
+        self.size.rows.push(Row {
+            flow: row.noted(3, mistakes) as u32,
+            velocity: row.noted(4, mistakes) as u16,
+            slope: row.noted(5, mistakes) as u16,
+        });
+        Ok(())
     }
 }
 

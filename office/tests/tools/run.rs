@@ -1,4 +1,5 @@
-//! The built command, run at the top of the repository.
+//! The built command, run at the top of the repository. Not every test needs all of it.
+#![allow(dead_code)]
 
 use std::io::Write;
 use std::path::PathBuf;

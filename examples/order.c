@@ -1,0 +1,78 @@
+/* Every call of the library from C, on document 01's own case: flows, rating, choosing and copying, and a refusal of each.
+ *
+ *   cc -std=c99 -I office/include examples/order.c target/staticlib/liborder.a -o order && ./order
+ *
+ * It prints what each call gave; the status is 1 if any of it is not what document 01 says. */
+
+#include "order.h"
+
+#include <stdio.h>
+#include <string.h>
+
+/* k 3, one section, 24 hours, meter 50, G 500, H 1,200, limit 1,500; 71 of kind 7; 80 fixtures, 100 dm, 600 cm, 200 cm. */
+static const uint8_t job[50] = {
+    0, 0, 0, 50, 1, 3, 1, 24, 0, 50, 1, 0xf4, 4, 0xb0, 5, 0xdc,
+    0, 0, 0, 0, 0, 0, 0, 0, 0, 0, 0, 0, 0, 71, 0, 0, 0, 0, 0, 0, 0, 0, 0, 0,
+    0, 7, 0, 80, 0, 100, 2, 0x58, 0, 200,
+};
+
+/* Two sizes of two rows: bore, price, and flow, velocity and slope of each row. */
+static const uint8_t cat[47] = {
+    0, 0, 0, 47, 1, 2, 2,
+    0, 40, 3, 0x84, 0, 0, 3, 0xe8, 3, 0x20, 0, 40, 0, 0, 0xb, 0xb8, 9, 0x60, 1, 0x2c,
+    0, 50, 5, 0x14, 0, 0, 3, 0xe8, 1, 0xf4, 0, 12, 0, 0, 0xb, 0xb8, 5, 0xdc, 0, 90,
+};
+
+static uint8_t out[ORDER_COPY_BYTES];
+static uint8_t work[ORDER_WORK_BYTES];
+static int wrong;
+
+static uint32_t number_at(const uint8_t *bytes)
+{
+    return (uint32_t)bytes[0] << 24 | (uint32_t)bytes[1] << 16 | (uint32_t)bytes[2] << 8 | bytes[3];
+}
+
+static void is(const char *what, uint32_t given, uint32_t expected)
+{
+    printf("%s %lu\n", what, (unsigned long)given);
+    if (given != expected) {
+        printf("  expected %lu\n", (unsigned long)expected);
+        wrong = 1;
+    }
+}
+
+int main(void)
+{
+    static const uint8_t wide[1] = {2}, narrow[1] = {1};
+    size_t needed = 4u * (1 + 1) * (1200 + 1001);
+
+    is("version", ORDER_VERSION, 1);
+
+    is("flow", order_flow(job, sizeof job, out, ORDER_FLOW_BYTES), 0);
+    is("hour", number_at(out), 4542);
+    is("day", number_at(out + 4), 17750);
+    is("mean hour", number_at(out + 8), 740);
+    is("section 1", number_at(out + 12), 2052);
+    is("flow of 49 bytes", order_flow(job, 49, out, ORDER_FLOW_BYTES), 1);
+    is("flow into 15 bytes", order_flow(job, sizeof job, out, 15), 14);
+
+    is("rate", order_rate(job, sizeof job, cat, sizeof cat, wide, 1, out, ORDER_RATE_BYTES), 0);
+    is("required head", number_at(out), 921);
+    is("pump head", number_at(out + 4), 421);
+    is("dictating section", out[8], 1);
+    is("velocity", (uint32_t)out[9] << 8 | out[10], 1026);
+    is("loss", number_at(out + 11), 71);
+    is("rate with size 1", order_rate(job, sizeof job, cat, sizeof cat, narrow, 1, out, ORDER_RATE_BYTES), 13);
+    is("rate without sizes", order_rate(job, sizeof job, cat, sizeof cat, wide, 0, out, ORDER_RATE_BYTES), 12);
+
+    is("choose", order_choose(job, sizeof job, cat, sizeof cat, work, needed, out, ORDER_CHOOSE_BYTES), 0);
+    is("cost", number_at(out), 130000);
+    is("size", out[4], 2);
+    is("choose with less workspace",
+       order_choose(job, sizeof job, cat, sizeof cat, work, needed - 1, out, ORDER_CHOOSE_BYTES), 15);
+
+    is("copy", order_copy(job, sizeof job, out, ORDER_COPY_BYTES), 0);
+    is("the same bytes", memcmp(out, job, sizeof job) == 0, 1);
+    is("copy into 49 bytes", order_copy(job, sizeof job, out, 49), 14);
+    return wrong;
+}

@@ -1,0 +1,106 @@
+//! The JSON object of an answer: what every one has, and beside it the answer's own keys.
+
+use super::arguments::Arguments;
+use super::input::{behind_at, name};
+use super::json::Json;
+use super::outcome::{Misuse, Outcome};
+use super::refused::{self, Given};
+use office::Refusal;
+use office::mistake::{Mistake, Mistakes};
+
+/// Changes when a key changes its meaning or goes; a new key changes nothing.
+const SCHEMA: i64 = 1;
+
+pub type Fields = Vec<(&'static str, Json)>;
+
+/// The object on its line.
+fn object(arguments: &Arguments, refusal: Json, warnings: Json, rest: Fields) -> String {
+    let sizes = |place: usize| place == 2 && behind_at(&arguments.words[place]).is_none();
+    let files = (0..arguments.words.len()).filter(|place| !sizes(*place)).map(|place| {
+        let file = &arguments.words[place];
+        Json::text(name(behind_at(file).as_ref().filter(|_| place == 2).unwrap_or(file)))
+    });
+    let mut fields = vec![
+        ("schema", Json::Number(SCHEMA)),
+        ("command", Json::text(arguments.command.as_str())),
+        ("files", Json::List(files.collect())),
+        ("refusal", refusal),
+        ("warnings", warnings),
+    ];
+    fields.extend(rest);
+    Json::Object(fields).line()
+}
+
+/// An answer, in JSON with its keys or in words. Where `--strict` is given a warning leaves no answer.
+pub fn answer(
+    arguments: &Arguments,
+    given: &Given,
+    fields: impl FnOnce() -> Fields,
+    words: impl FnOnce() -> Vec<u8>,
+) -> Result<Outcome, Misuse> {
+    let warned = given.warned();
+    if arguments.strict && !warned.is_empty() {
+        let json = || object(arguments, Json::Null, given.warned_json(), Vec::new());
+        return Err(Misuse::Strict(warned, if arguments.json { json() } else { String::new() }));
+    }
+    Ok(match arguments.json {
+        true => Outcome::answer(object(arguments, Json::Null, given.warned_json(), fields())),
+        false => Outcome::answer(words()),
+    }
+    .with(warned))
+}
+
+/// A refusal as the answer, in words or as JSON.
+pub fn refusal(arguments: &Arguments, refusal: &Refusal, given: &Given) -> Outcome {
+    let outcome = Outcome::refusal(match arguments.json {
+        true => object(arguments, refused::json(refusal, given), given.warned_json(), Vec::new()),
+        false => refused::words(refusal, given),
+    });
+    outcome.with(given.warned())
+}
+
+/// Work that is done all the same where the library refuses: the refusal stands on standard error, or in the object.
+pub fn all_the_same(
+    arguments: &Arguments,
+    given: &Given,
+    refusal: &Refusal,
+    fields: Fields,
+    words: Vec<u8>,
+) -> Outcome {
+    let refused = format!("warning: the library will not take this\n{}", refused::words(refusal, given));
+    let outcome = match arguments.json {
+        true => Outcome::answer(object(arguments, refused::json(refusal, given), given.warned_json(), fields)),
+        false => Outcome::answer(words).with(refused),
+    };
+    outcome.with(given.warned()).refused_all_the_same()
+}
+
+/// What `--json` says where there is no answer: the mistakes of a text, or nothing.
+pub fn misuse(arguments: &Arguments, misuse: &Misuse) -> String {
+    match misuse {
+        Misuse::Mistakes(name, mistakes) if arguments.json => {
+            let rest =
+                vec![("mistakes", listed(name, mistakes)), ("more_mistakes", Json::Number(mistakes.more as i64))];
+            object(arguments, Json::Null, Json::List(Vec::new()), rest)
+        }
+        Misuse::Strict(_, json) => json.clone(),
+        _ => String::new(),
+    }
+}
+
+fn listed(name: &str, mistakes: &Mistakes) -> Json {
+    let one = |mistake: &Mistake| {
+        let (line, text) = match &mistake.line {
+            Some((number, text)) => (Json::Number(*number as i64), Json::text(text.as_str())),
+            None => (Json::Null, Json::Null),
+        };
+        Json::Object(vec![
+            ("file", Json::text(name)),
+            ("line", line),
+            ("text", text),
+            ("wrong", Json::text(mistake.wrong.as_str())),
+            ("expected", Json::text(mistake.expected.as_str())),
+        ])
+    };
+    Json::List(mistakes.list.iter().map(one).collect())
+}

@@ -1,0 +1,179 @@
+//! The bytes of a readable file as text, and its lines. What a comment holds is nobody's business; everywhere else each byte
+//! must be a letter that can be read in one way only.
+
+use crate::mistake::{Mistake, Mistakes};
+
+/// Far above any house or table, and below what would trouble a small computer.
+pub const MOST_BYTES: usize = 1 << 20;
+/// Bytes of a line; a line of separators alone must not cost many times its length.
+const LONGEST_LINE: usize = 10_000;
+
+/// Whether bytes are a record: its length is under 2²⁴, so its first byte is 0, and no text begins so but one in UTF-16.
+pub fn is_record(bytes: &[u8]) -> bool {
+    bytes.first() == Some(&0) && !is_wide(bytes)
+}
+
+/// Whether bytes look like UTF-16 without its mark: in plain text every second byte is then 0, and beside it stands a letter.
+/// A record that states its own length has two such bytes in front, which a text in UTF-16 can't have.
+fn is_wide(bytes: &[u8]) -> bool {
+    let letter = |byte: u8| byte >= 0x20 || b"\t\n\r".contains(&byte);
+    let plain = |zero: usize| {
+        let pairs = bytes.chunks_exact(2);
+        let (all, zeros) = (pairs.len(), pairs.clone().filter(|two| two[zero] == 0).count());
+        let letters = pairs.filter(|two| two[zero] == 0).all(|two| letter(two[1 - zero]));
+        all >= 2 && zeros * 10 >= all * 8 && letters
+    };
+    plain(0) || plain(1)
+}
+
+/// The text of a readable file, its lines ended by newlines, or what is no text in it, by line and byte.
+pub fn text(bytes: &[u8]) -> Result<String, Mistakes> {
+    let wide: Vec<u8>;
+    let marked = bytes.starts_with(&[0xff, 0xfe]) || bytes.starts_with(&[0xfe, 0xff]);
+    let mut bytes = if marked {
+        wide = utf_16(bytes)?.into_bytes();
+        &wide[..]
+    } else if is_wide(bytes) {
+        let wrong = format!(
+            "byte 1 of the line, {:02X}, and the next belong together: this is UTF-16 without its mark",
+            bytes[0]
+        );
+        return Err(Mistake::on(1, "", wrong, "the file saved as UTF-8").into());
+    } else {
+        bytes.strip_prefix(b"\xef\xbb\xbf").unwrap_or(bytes)
+    };
+    // Older programs end a text so.
+    while let [rest @ .., 0x1a] = bytes {
+        bytes = rest;
+    }
+    let end = if bytes.contains(&b'\n') { b'\n' } else { b'\r' };
+    let mut mistakes = Mistakes::default();
+    let mut text = String::with_capacity(bytes.len());
+    let lines: usize = 1 + bytes.iter().filter(|byte| **byte == end).count();
+    for (place, line) in bytes.split(|byte| *byte == end).enumerate() {
+        // Behind the last newline there is no line end that a carriage return could belong to.
+        let ended = end == b'\n' && place + 1 < lines;
+        let line = if ended { line.strip_suffix(b"\r").unwrap_or(line) } else { line };
+        if let Some(mistake) = unreadable(place + 1, line) {
+            mistakes.add(mistake);
+        }
+        text.push_str(&String::from_utf8_lossy(line));
+        text.push('\n');
+    }
+    mistakes.none(text)
+}
+
+/// Text in UTF-16 behind its mark, which says which byte of two comes first.
+fn utf_16(bytes: &[u8]) -> Result<String, Mistakes> {
+    let wrong = |why: &str| {
+        Mistakes::from(Mistake::lacking(format!("the file is UTF-16 and {why}"), "the file saved as UTF-8"))
+    };
+    if bytes.len() % 2 == 1 {
+        return Err(wrong("has half a character at its end"));
+    }
+    let high = usize::from(bytes[0] == 0xff);
+    let units = bytes.chunks_exact(2).skip(1).map(|two| u16::from_be_bytes([two[high], two[1 - high]]));
+    char::decode_utf16(units).collect::<Result<String, _>>().map_err(|_| wrong("has half a pair of units in it"))
+}
+
+const LEADS_OUT: &str = "the file saved as UTF-8; letters behind # may be anything; a record that is damaged in its first \
+    byte is read with --record";
+
+/// What is no text outside of a line's comment: the first such byte, counted from 1.
+fn unreadable(number: usize, line: &[u8]) -> Option<Mistake> {
+    let mistake = |at: usize, what: &str, expected: &str| {
+        let wrong = format!("byte {} of the line, {:02X}, is {what}", at + 1, line[at]);
+        Some(Mistake::on(number, &String::from_utf8_lossy(line), wrong, expected))
+    };
+    if line.len() > LONGEST_LINE {
+        let wrong = format!("the line has {} bytes", line.len());
+        // Of a long line only its start is for the message; the rest is not looked at.
+        let start = String::from_utf8_lossy(&line[..LONGEST_LINE]);
+        return Some(Mistake::on(number, &start, wrong, "at most 10000 bytes in a line"));
+    }
+    if let Some(at) = line.iter().position(|byte| *byte == b'\r') {
+        let expected = "lines that all end alike: to one program it ends a line, to another it doesn't";
+        return mistake(at, "a carriage return alone", expected);
+    }
+    let said = line.split(|byte| *byte == b'#').next().unwrap_or(line);
+    let whole = std::str::from_utf8(said).map_err(|why| why.valid_up_to());
+    let front = whole.err().unwrap_or(said.len());
+    let text = std::str::from_utf8(&said[..front]).unwrap_or("");
+    let control = |c: char| (c.is_control() && c != '\t' && c != '\u{c}') || matches!(c, '\u{2028}' | '\u{2029}');
+    match (text.char_indices().find(|(_, c)| control(*c)), whole) {
+        (Some((at, _)), _) => mistake(at, "no letter but a control character", LEADS_OUT),
+        (None, Err(at)) => mistake(at, "no UTF-8: an older code page (cp1251, cp866), or no text", LEADS_OUT),
+        (None, Ok(_)) => None,
+    }
+}
+
+/// A line that says something.
+pub struct Said<'a> {
+    /// From 1.
+    pub number: usize,
+    /// All of it, for messages.
+    pub text: &'a str,
+    /// Without its comment.
+    pub said: &'a str,
+}
+
+/// The lines that are not blank without their comments.
+pub fn lines(text: &str) -> impl Iterator<Item = Said<'_>> {
+    text.lines().enumerate().filter_map(|(place, text)| {
+        let said = text.split('#').next().unwrap_or("");
+        (!said.trim().is_empty()).then_some(Said { number: place + 1, text, said })
+    })
+}
+
+impl Said<'_> {
+    /// A sign for comments that may be part of a word.
+    pub fn fault(&self) -> Option<Mistake> {
+        let behind = self.text[self.said.len()..].chars().nth(1);
+        let word = self.said.chars().last().is_some_and(char::is_alphanumeric);
+        let within = word && behind.is_some_and(char::is_alphanumeric);
+        let expected = "a blank before a comment; no # in a name or number";
+        within.then(|| Mistake::on(self.number, self.text, "`#` stands within a word", expected))
+    }
+}
+
+#[cfg(test)]
+mod tests {
+    use super::*;
+
+    #[test]
+    fn line_ends_and_marks() {
+        for bytes in [&b"a\nb\n"[..], b"a\r\nb\r\n", b"a\rb\r", b"\xef\xbb\xbfa\nb\n", b"a\nb\n\x1a", b"a\nb\n\x1a\x1a"]
+        {
+            assert_eq!(text(bytes).expect("text").trim_end(), "a\nb", "{bytes:?}");
+        }
+        for (bytes, wanted) in [(&b"\xff\xfea\0#\0"[..], "a#"), (b"\xfe\xff\0a\0#", "a#")] {
+            assert_eq!(text(bytes).expect("text").trim_end(), wanted);
+        }
+        assert!(text(b"# \xea\xf3\x00\x1b\nhours 24").is_ok(), "bytes of a comment");
+    }
+
+    #[test]
+    fn what_is_no_text_is_named_by_line_and_byte() {
+        for (bytes, line, wrong) in [
+            (&b"a\nfree 3 \xf1\xec\n"[..], 2, "byte 8 of the line, F1, is no UTF-8"),
+            (b"a\nb\x00\n", 2, "byte 2 of the line, 00, is no letter"),
+            (b"a\x1ab\n", 1, "byte 2 of the line, 1A"),
+            (b"# a\rhours 24\nb\n", 1, "byte 4 of the line, 0D, is a carriage return alone"),
+            (b"a\0b\0\n\0", 1, "UTF-16 without its mark"),
+            (b"\0a\0b\0\n", 1, "UTF-16 without its mark"),
+        ] {
+            let mistakes = text(bytes).expect_err(wrong);
+            let first = &mistakes.list[0];
+            assert_eq!(first.line.as_ref().map(|(number, _)| *number), Some(line), "{mistakes}");
+            assert!(first.wrong.contains(wrong), "{mistakes}");
+        }
+        assert!(text(b"\xff\xfea\0\0\xd8").is_err() && text(b"\xff\xfea").is_err());
+    }
+
+    #[test]
+    fn a_record_is_told_by_its_first_byte() {
+        assert!(is_record(&[0, 0, 0, 50, 1]) && is_record(&[0]) && is_record(&[0; 40]) && is_record(&[0, 7, 1, 9]));
+        assert!(is_record(&[0, 1, 0, 2]) && is_record(b"\0\0\0(\0\0"));
+        assert!(!is_record(b"") && !is_record(b"hours") && !is_record(&[1, 0, 0, 50]) && !is_record(b"\0h\0o\0u\0r"));
+    }
+}

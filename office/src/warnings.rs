@@ -1,0 +1,72 @@
+//! What the library takes and what is still nearly always a slip of the pen. The library has no rule for it and judges
+//! alone; a warning stands beside its answer. There are few, so that they are read.
+
+use crate::at::{At, Field};
+use crate::places::Place;
+use crate::record::{Record, Section};
+
+/// Lengths are kept in whole dm, so a pipe may be this many cm longer than it says.
+const ROUNDED: i64 = 9;
+/// A house lower than this is taken as this high, in cm: a low house may well be long.
+const LOW: i64 = 1_000;
+/// Slower than this no water pipe is designed, in mm/s.
+const SLOW: u16 = 300;
+
+/// The warnings of a house, in the order of its fields and sections.
+pub fn warnings(record: &Record) -> Vec<Place> {
+    let mut found: Vec<Place> = heads(record).into_iter().chain(limit(record)).collect();
+    let high = height(record);
+    for (number, section) in record.numbered() {
+        found.extend(steep(record, number, section));
+        found.extend(long(number, section, high));
+    }
+    found
+}
+
+/// The set adds to the guaranteed head, so it can't deliver less than that.
+fn heads(record: &Record) -> Option<Place> {
+    let Record { guaranteed, delivered, .. } = *record;
+    let why = format!(
+        "{guaranteed} cm, more than the delivered head of {delivered} cm, which is guaranteed and pump head together"
+    );
+    (guaranteed > delivered).then(|| Place::new(At::Field(Field::Guaranteed), why))
+}
+
+fn limit(record: &Record) -> Option<Place> {
+    let limit = record.limit;
+    let why = format!("{limit} mm/s is under {SLOW} mm/s, slower than water pipes are designed for");
+    (limit < SLOW).then(|| Place::new(At::Field(Field::Limit), why))
+}
+
+/// From the lowest end to the highest, the pump too.
+fn height(record: &Record) -> i64 {
+    let ends = || record.sections.iter().map(|section| i64::from(section.elevation)).chain([0]);
+    (ends().max().unwrap_or(0) - ends().min().unwrap_or(0)).max(LOW)
+}
+
+/// A pipe whose ends lie further apart in height than it is long.
+fn steep(record: &Record, number: u8, section: &Section) -> Option<Place> {
+    // Where the tree itself is wrong the library refuses, and there is no end to compare with.
+    let from = match section.parent {
+        0 => 0,
+        parent if parent < number => i64::from(record.sections.get(usize::from(parent) - 1)?.elevation),
+        _ => return None,
+    };
+    let to = i64::from(section.elevation);
+    let (rise, length) = ((to - from).abs(), 10 * i64::from(section.length));
+    let above = if section.parent == 0 { "the pump".to_string() } else { format!("section {}", section.parent) };
+    let why = format!(
+        "its end lies at {to} cm and the end of {above} at {from} cm, {rise} cm apart, but the pipe is {length} cm long; \
+         are elevation, unit and sign right?"
+    );
+    (rise > length + ROUNDED).then(|| Place::new(At::Section(number), why))
+}
+
+/// A pipe longer than ten times the house is high.
+fn long(number: u8, section: &Section, high: i64) -> Option<Place> {
+    let length = 10 * i64::from(section.length);
+    let why = format!(
+        "it is {length} cm long, over ten times the {high} cm that the house is taken as high; is the point right?"
+    );
+    (length > 10 * high).then(|| Place::new(At::Section(number), why))
+}

@@ -1,0 +1,416 @@
+//! A second reader of readable files, written from `docs/FILES.md` alone: whole lines are matched against the forms that the
+//! page has, field by field, and nothing is shared with the package. It gives the fields by name, or nothing where the page
+//! refuses the text.
+
+use std::collections::BTreeMap;
+
+/// Fields by name: `hours`, `residents 7`, `section 3 length`, `size 2 row 1 flow`.
+pub type Fields = BTreeMap<String, i64>;
+
+const KINDS: &str = "none dwelling hostel-showers hostel-kitchens hotel-shared hotel-showers hotel-25 hotel-75 hotel-100 hospital \
+                     polyclinic offices schools";
+
+/// The lines of a file with their comments gone, or nothing where the bytes are no text.
+fn lines(bytes: &[u8]) -> Option<Vec<String>> {
+    let mut bytes = match bytes {
+        [0xff, 0xfe, rest @ ..] => wide(rest, |two| two[0] as u16 + 256 * two[1] as u16)?,
+        [0xfe, 0xff, rest @ ..] => wide(rest, |two| two[1] as u16 + 256 * two[0] as u16)?,
+        [0xef, 0xbb, 0xbf, rest @ ..] => rest.to_vec(),
+        plain => plain.to_vec(),
+    };
+    while bytes.last() == Some(&26) {
+        bytes.pop();
+    }
+    let newline = bytes.contains(&10);
+    let mut found = Vec::new();
+    let mut line = Vec::new();
+    for at in 0..=bytes.len() {
+        let byte = bytes.get(at).copied();
+        if byte.is_none() || byte == Some(if newline { 10 } else { 13 }) {
+            if newline && byte.is_some() && line.last() == Some(&13) {
+                line.pop();
+            }
+            found.push(plain_line(&std::mem::take(&mut line))?);
+        } else {
+            line.extend(byte);
+        }
+    }
+    Some(found)
+}
+
+fn wide(bytes: &[u8], unit: impl Fn(&[u8]) -> u16) -> Option<Vec<u8>> {
+    let units: Vec<u16> = bytes.chunks(2).map(|two| if two.len() == 2 { unit(two) } else { 0xd800 }).collect();
+    String::from_utf16(&units).ok().map(String::into_bytes)
+}
+
+fn plain_line(line: &[u8]) -> Option<String> {
+    if line.len() > 10_000 || line.contains(&13) {
+        return None;
+    }
+    let cut = line.iter().position(|byte| *byte == b'#');
+    let said = String::from_utf8(line[..cut.unwrap_or(line.len())].to_vec()).ok()?;
+    if let Some(cut) = cut {
+        let behind = String::from_utf8_lossy(&line[cut + 1..]).into_owned();
+        let word = |c: Option<char>| c.is_some_and(char::is_alphanumeric);
+        if word(said.chars().next_back()) && word(behind.chars().next()) {
+            return None;
+        }
+    }
+    let odd = |c: char| (c.is_control() && !"\t\u{c}".contains(c)) || "\u{2028}\u{2029}".contains(c);
+    if said.contains(odd) {
+        return None;
+    }
+    Some(said.to_lowercase())
+}
+
+/// A number as the page has it, with so many decimals kept. `signed` is an elevation.
+fn number(text: &str, decimals: usize, signed: bool) -> Option<i64> {
+    let (minus, text) = match text.chars().next()? {
+        '-' if signed => (true, &text[1..]),
+        '+' if signed => (false, &text[1..]),
+        _ => (false, text),
+    };
+    let parts: Vec<&str> = text.split('.').collect();
+    if parts.iter().any(|part| part.is_empty() || !part.chars().all(|c| c.is_ascii_digit())) || parts.len() > 2 {
+        return None;
+    }
+    let mut behind = String::new();
+    if parts.len() == 2 {
+        behind = parts[1].to_string();
+        if decimals == 0 || (behind.len() == 3 && decimals != 3) {
+            return None;
+        }
+        while behind.len() > decimals {
+            if behind.pop() != Some('0') {
+                return None;
+            }
+        }
+    }
+    while behind.len() < decimals {
+        behind.push('0');
+    }
+    let digits = format!("{}{behind}", parts[0]);
+    let digits = digits.trim_start_matches('0');
+    if digits.len() > 12 {
+        return None;
+    }
+    let value: i64 = if digits.is_empty() { 0 } else { digits.parse().ok()? };
+    Some(if minus { -value } else { value })
+}
+
+/// A house's fields.
+pub fn house(bytes: &[u8]) -> Option<Fields> {
+    let mut fields = Fields::new();
+    for line in lines(bytes)? {
+        let words = words(&line);
+        let words: Vec<&str> = words.iter().map(String::as_str).collect();
+        if words.is_empty() {
+            continue;
+        }
+        if words[0] == "section" {
+            of_section(&words, &mut fields)?;
+            continue;
+        }
+        let (name, value) = of_house(&words)?;
+        if fields.insert(name, value).is_some() {
+            return None;
+        }
+    }
+    for name in ["local losses", "hours", "meter loss", "guaranteed head", "delivered head", "velocity limit"] {
+        fields.get(name)?;
+    }
+    let sections = fields.keys().filter(|name| name.ends_with(" parent")).count();
+    (1..=sections).all(|number| fields.contains_key(&format!("section {number} parent"))).then_some(())?;
+    fields.insert("sections".to_string(), sections as i64);
+    fields.entry("stated length".to_string()).or_insert(40 + 10 * sections as i64);
+    fields.entry("version".to_string()).or_insert(1);
+    for kind in 1..=12 {
+        fields.entry(format!("residents {kind}")).or_insert(0);
+    }
+    Some(fields)
+}
+
+/// Words with the colons behind names and the semicolons at words' ends made blanks, character by character.
+fn words(line: &str) -> Vec<String> {
+    let mut found: Vec<String> = Vec::new();
+    let mut colon = false;
+    for word in line.replace('\u{2212}', "-").split_whitespace() {
+        let name = |text: &str, place: usize, found: &[String]| {
+            let number =
+                place == 1 && found[0] == "section" && !text.is_empty() && text.chars().all(|c| c.is_ascii_digit());
+            text.chars().next().is_some_and(char::is_alphabetic) || number
+        };
+        if word == ":" && !colon && !found.is_empty() && name(&found[found.len() - 1], found.len() - 1, &found) {
+            colon = true;
+            continue;
+        }
+        let mut word = word.to_string();
+        if word.len() > 1 && word.ends_with(';') {
+            word.pop();
+        }
+        let cut = word.find(':').filter(|cut| name(&word[..*cut], found.len(), &found));
+        let rest = cut.map(|cut| word.split_off(cut).split_off(1));
+        found.push(word);
+        colon = rest.as_deref() == Some("");
+        found.extend(rest.filter(|rest| !rest.is_empty()));
+    }
+    found
+}
+
+/// What the units of a quantity are and how many decimals each keeps.
+const LENGTHS: &[(&str, usize)] = &[("m", 1), ("м", 1), ("dm", 0), ("дм", 0)];
+const HEADS: &[(&str, usize)] = &[("cm", 0), ("см", 0), ("m", 2), ("м", 2)];
+const SPEEDS: &[(&str, usize)] = &[("mm/s", 0), ("мм/с", 0), ("m/s", 3), ("м/с", 3)];
+
+/// A number and its unit in one word or two; the words that follow.
+fn quantity<'a>(
+    words: &'a [&'a str],
+    units: &[(&str, usize)],
+    signed: bool,
+    least: i64,
+    most: i64,
+) -> Option<(i64, &'a [&'a str])> {
+    let first = *words.first()?;
+    let end = first.find(|c: char| !(c.is_ascii_digit() || "+-.,".contains(c))).unwrap_or(first.len());
+    let (text, unit, rest) = match end == first.len() {
+        true => (first, *words.get(1)?, &words[2..]),
+        false => (&first[..end], &first[end..], &words[1..]),
+    };
+    let decimals = units.iter().find(|(known, _)| *known == unit)?.1;
+    let value = number(text, decimals, signed)?;
+    (least..=most).contains(&value).then_some((value, rest))
+}
+
+fn count(word: &str, most: i64) -> Option<i64> {
+    number(word, 0, false).filter(|value| *value <= most)
+}
+
+fn kind(word: &str, most: i64) -> Option<i64> {
+    let named = KINDS.split_whitespace().position(|known| known == word);
+    named.map(|place| place as i64).or_else(|| plain(word).filter(|kind| *kind <= most))
+}
+
+/// Digits alone.
+fn plain(word: &str) -> Option<i64> {
+    (!word.is_empty() && word.chars().all(|c| c.is_ascii_digit())).then(|| word.parse::<u8>().ok())?.map(i64::from)
+}
+
+fn of_house(words: &[&str]) -> Option<(String, i64)> {
+    let done = |name: &str, found: Option<(i64, &[&str])>| {
+        found.filter(|(_, rest)| rest.is_empty()).map(|(value, _)| (name.to_string(), value))
+    };
+    match words {
+        ["local", "losses", tenths] => {
+            Some(("local losses".to_string(), number(tenths, 1, false).filter(|k| *k <= 255)?))
+        }
+        ["hours", hours] => Some(("hours".to_string(), count(hours, 255)?)),
+        ["version", version] => Some(("version".to_string(), count(version, 255)?)),
+        ["residents", of, people] => {
+            let kind = kind(of, 12).filter(|kind| *kind > 0)?;
+            Some((format!("residents {kind}"), count(people, 65_535)?))
+        }
+        ["meter", "loss", rest @ ..] => done("meter loss", quantity(rest, HEADS, false, 0, 65_535)),
+        ["guaranteed", "head", rest @ ..] => done("guaranteed head", quantity(rest, HEADS, false, 0, 65_535)),
+        ["delivered", "head", rest @ ..] => done("delivered head", quantity(rest, HEADS, false, 0, 65_535)),
+        ["velocity", "limit", rest @ ..] => done("velocity limit", quantity(rest, SPEEDS, false, 0, 65_535)),
+        ["stated", "length", rest @ ..] => {
+            done("stated length", quantity(rest, &[("bytes", 0)], false, 0, 4_294_967_295))
+        }
+        _ => None,
+    }
+}
+
+/// A section's field that has a unit.
+fn measured<'a>(field: &str, words: &'a [&'a str]) -> Option<(i64, &'a [&'a str])> {
+    match field {
+        "length" => quantity(words, LENGTHS, false, 0, 65_535),
+        "elevation" => quantity(words, HEADS, true, -32_768, 32_767),
+        "free" => quantity(words, HEADS, false, 0, 65_535),
+        _ => None,
+    }
+}
+
+fn of_section(words: &[&str], fields: &mut Fields) -> Option<()> {
+    let own = plain(words.get(1)?).filter(|own| *own > 0)?;
+    let mut rest = &words[2..];
+    let mut put =
+        |field: &str, value: i64| fields.insert(format!("section {own} {field}"), value).is_none().then_some(());
+    let (mut junction, mut taps) = (false, 0);
+    let mut needed = 0;
+    while let Some((field, behind)) = rest.split_first() {
+        let word = *behind.first()?;
+        rest = &behind[1..];
+        match *field {
+            "from" => put("parent", if word == "pump" { 0 } else { plain(word)? })?,
+            "kind" => {
+                let kind = kind(word, 255)?;
+                junction = kind == 0;
+                put("kind", kind)?;
+            }
+            "fixtures" => put("fixtures", count(word, 65_535)?)?,
+            _ => {
+                let (value, after) = measured(field, behind)?;
+                put(field, value)?;
+                rest = after;
+            }
+        }
+        match *field {
+            "fixtures" | "free" => taps += 1,
+            _ => needed += 1,
+        }
+    }
+    if needed != 4 || (taps != 2 && !junction) {
+        return None;
+    }
+    fields.entry(format!("section {own} fixtures")).or_insert(0);
+    fields.entry(format!("section {own} free")).or_insert(0);
+    Some(())
+}
+
+/// A table's fields: every separator is tried on the whole file, and one must fit.
+pub fn table(bytes: &[u8]) -> Option<Fields> {
+    let lines: Vec<String> = lines(bytes)?.into_iter().filter(|line| !line.trim().is_empty()).collect();
+    let first = lines.first()?.trim_matches([' ', '"']);
+    if let Some(named) = first.strip_prefix("sep=") {
+        let mut chars = named.chars();
+        let separator = chars.next().filter(|c| ";,\t".contains(*c) && chars.next().is_none())?;
+        return rows(&lines[1..], separator);
+    }
+    [';', ',', '\t'].into_iter().find_map(|separator| rows(&lines, separator))
+}
+
+/// The cells of a line, by a walk over its characters.
+fn cells(line: &str, separator: char) -> Vec<String> {
+    let mut found = vec![String::new()];
+    let mut quoted = false;
+    for c in line.chars() {
+        let last = found.last_mut().expect("one cell at least");
+        if c == '"' && (quoted || last.trim().is_empty()) {
+            quoted = !quoted;
+            last.push(c);
+        } else if c == separator && !quoted {
+            found.push(String::new());
+        } else {
+            last.push(c);
+        }
+    }
+    found.iter().map(|cell| bare(cell.trim())).collect()
+}
+
+fn bare(cell: &str) -> String {
+    let quoted = cell.len() > 1 && cell.starts_with('"') && cell.ends_with('"');
+    if quoted { cell[1..cell.len() - 1].trim().to_string() } else { cell.to_string() }
+}
+
+/// The column that a header's cell names: 0 to 5, or 6 for notes.
+fn column(cell: &str) -> Option<usize> {
+    let mut plain = String::new();
+    for c in cell.chars() {
+        plain.push(if "()[],".contains(c) { ' ' } else { c });
+    }
+    let words: Vec<&str> = plain.split_whitespace().collect();
+    match words.as_slice() {
+        ["size"] => Some(0),
+        ["bore", "mm" | "мм"] => Some(1),
+        ["price"] => Some(2),
+        ["flow", "ml/s" | "мл/с"] => Some(3),
+        ["velocity", "mm/s" | "мм/с"] => Some(4),
+        ["slope", "mm/m" | "мм/м"] => Some(5),
+        ["notes" | "note" | "remarks" | "remark" | "comments" | "comment"] => Some(6),
+        _ => None,
+    }
+}
+
+fn rows(lines: &[String], separator: char) -> Option<Fields> {
+    let mut fields = Fields::new();
+    let parted: Vec<Vec<String>> = lines.iter().map(|line| cells(line, separator)).collect();
+    let mut parted = parted.into_iter().filter(|line| line.iter().any(|cell| !cell.is_empty()));
+    let mut header = parted.next()?;
+    while let Some((name, most)) = odd(&header) {
+        let value = count(&header[1], most)?;
+        if fields.insert(name.to_string(), value).is_some() {
+            return None;
+        }
+        header = parted.next()?;
+    }
+    let columns: Option<Vec<usize>> =
+        header.iter().map(|cell| if cell.is_empty() { Some(7) } else { column(cell) }).collect();
+    let columns = columns?;
+    (0..6).all(|wanted| columns.iter().filter(|column| **column == wanted).count() == 1).then_some(())?;
+    let mut counts: BTreeMap<i64, i64> = BTreeMap::new();
+    let mut last = None;
+    for line in parted {
+        let mut six: [&str; 6] = [""; 6];
+        for (place, cell) in line.iter().enumerate().filter(|(_, cell)| !cell.is_empty()) {
+            match columns.get(place) {
+                Some(column @ 0..=5) => six[*column] = cell,
+                Some(6) => {}
+                _ => return None,
+            }
+        }
+        last = Some(row(&six, last, &mut counts, &mut fields)?);
+    }
+    whole_table(fields, &counts)
+}
+
+fn odd(line: &[String]) -> Option<(&'static str, i64)> {
+    let filled = line.iter().filter(|cell| !cell.is_empty()).count();
+    let first = line.first()?;
+    if filled != 2 || line.get(1).is_none_or(|cell| cell.is_empty()) {
+        return None;
+    }
+    [("stated length", 4_294_967_295), ("version", 255), ("rows", 255)].into_iter().find(|(name, _)| name == first)
+}
+
+/// One row; gives its size. `counts` has the rows of each size so far, -1 for one that shall have none.
+fn row(six: &[&str; 6], last: Option<i64>, counts: &mut BTreeMap<i64, i64>, fields: &mut Fields) -> Option<i64> {
+    let size = if six[0].is_empty() { last? } else { count(six[0], 255).filter(|size| *size > 0)? };
+    let begun = counts.contains_key(&size);
+    for (cell, name) in [(six[1], "bore"), (six[2], "price")] {
+        let key = format!("size {size} {name}");
+        match (cell.is_empty(), fields.get(&key).copied()) {
+            (true, Some(_)) => {}
+            (true, None) => return None,
+            (false, known) => {
+                let value = count(cell, 65_535)?;
+                if known.is_some_and(|known| known != value) {
+                    return None;
+                }
+                fields.insert(key, value);
+            }
+        }
+    }
+    let rows = counts.entry(size).or_insert(0);
+    if !begun && six[3..].iter().all(|cell| cell.is_empty()) {
+        *rows = -1;
+        return Some(size);
+    }
+    if *rows < 0 || *rows == 255 {
+        return None;
+    }
+    *rows += 1;
+    for (cell, name, most) in [(six[3], "flow", 4_294_967_295), (six[4], "velocity", 65_535), (six[5], "slope", 65_535)]
+    {
+        fields.insert(format!("size {size} row {rows} {name}"), count(cell, most)?);
+    }
+    Some(size)
+}
+
+fn whole_table(mut fields: Fields, counts: &BTreeMap<i64, i64>) -> Option<Fields> {
+    let sizes = counts.len() as i64;
+    let rows = counts.values().map(|rows| (*rows).max(0)).max().unwrap_or(0);
+    let even = counts.values().all(|own| (*own).max(0) == rows);
+    (even && counts.keys().copied().eq(1..=sizes)).then_some(())?;
+    match fields.get("rows").copied() {
+        Some(said) if sizes > 0 && said != rows => return None,
+        Some(_) => {}
+        None => {
+            fields.insert("rows".to_string(), rows);
+        }
+    }
+    let rows = fields["rows"];
+    fields.insert("sizes".to_string(), sizes);
+    fields.entry("version".to_string()).or_insert(1);
+    fields.entry("stated length".to_string()).or_insert(7 + sizes * (4 + 8 * rows));
+    Some(fields)
+}

@@ -1,0 +1,150 @@
+//! Houses that the library takes and that are nearly always slips: warned of, with their line, and refused where asked.
+
+#[path = "tools/json.rs"]
+mod json;
+#[path = "tools/run.rs"]
+mod run;
+
+use json::Value;
+use office::at::{At, Field};
+use office::record::Record;
+use office::warnings::warnings;
+use office::{calls, house};
+use run::{office, office_with, read, scratch, top};
+
+const HOUSE: &str = "examples/house.txt";
+const TABLE: &str = "examples/table.csv";
+
+/// The hotel with one text put for another, and where it is warned of.
+fn found(from: &str, to: &str) -> Vec<At> {
+    let text = read(HOUSE);
+    assert!(text.contains(from), "{from}");
+    let record = Record::read(&house::pack(&text.replacen(from, to, 1)).expect(to)).expect("a record");
+    warnings(&record).into_iter().map(|warning| warning.at).collect()
+}
+
+#[test]
+fn slips_are_warned_of() {
+    // Elevations of the wrong sign or unit also leave the sections behind them at an impossible height.
+    assert_eq!(found("elevation 1040 cm", "elevation -10.4 m"), [At::Section(5)]);
+    assert_eq!(found("elevation 1040 cm", "elevation 10 cm"), [At::Section(5)]);
+    assert_eq!(found("elevation  710 cm", "elevation  71 cm"), [At::Section(5)]);
+    assert_eq!(found("elevation   60 cm", "elevation 60 m"), [1, 2, 6].map(At::Section));
+    assert_eq!(found("guaranteed head 900 cm", "guaranteed head 9000 cm"), [At::Field(Field::Guaranteed)]);
+    assert_eq!(found("velocity limit  1500 mm/s", "velocity limit 150 mm/s"), [At::Field(Field::Limit)]);
+    assert_eq!(found("length 22.0 m", "length 220 m"), [At::Section(10)]);
+    assert_eq!(found("length  3.3 m", "length  3 dm"), [At::Section(4)]);
+}
+
+#[test]
+fn what_lies_at_the_edge_is_no_slip() {
+    assert_eq!(found("length  3.3 m elevation  710 cm", "length  3.2 m elevation  709 cm"), []);
+    assert_eq!(found("length  3.3 m elevation  710 cm", "length  3.2 m elevation  710 cm"), [At::Section(4)]);
+    assert_eq!(found("velocity limit  1500 mm/s", "velocity limit 300 mm/s"), []);
+    assert_eq!(found("velocity limit  1500 mm/s", "velocity limit 299 mm/s"), [At::Field(Field::Limit)]);
+    assert_eq!(found("guaranteed head 900 cm", "guaranteed head 1800 cm"), []);
+    assert_eq!(found("guaranteed head 900 cm", "guaranteed head 1801 cm"), [At::Field(Field::Guaranteed)]);
+    assert_eq!(found("length 22.0 m", "length 104 m"), []);
+    assert_eq!(found("length 22.0 m", "length 104.1 m"), [At::Section(10)]);
+}
+
+/// Each command answers with a warning, and with `--strict` gives nothing.
+fn every_command_warns(text: &str) {
+    let kept = scratch("strict.out");
+    let _ = std::fs::remove_file(&kept);
+    for command in [&["flow", "-"][..], &["rate", "-", TABLE, "6,6"], &["draw", "-", TABLE], &["pack", "-"]] {
+        let ran = office_with(command, text.as_bytes());
+        assert!(ran.status == 0 && ran.error.starts_with("warning: ") && !ran.output.is_empty(), "{command:?}");
+        let strict = office_with(&[command, &["--strict", "-o", &kept]].concat(), text.as_bytes());
+        assert_eq!((strict.status, strict.output.len()), (2, 0), "{command:?}");
+        assert!(strict.error.contains("line 9, section 2") && strict.error.contains("--strict"), "{}", strict.error);
+        assert!(!std::path::Path::new(&kept).exists(), "{command:?}");
+    }
+}
+
+/// An end at 15.2 m that is written as -5.2 m or 15 cm sizes another pump without a word.
+#[test]
+fn the_command_warns_with_the_line_and_answers_all_the_same() {
+    let riser = "local losses 0.3\nhours 24\nmeter loss 50 cm\nguaranteed head 500 cm\ndelivered head 2600 cm\n\
+        velocity limit 1500 mm/s\nresidents dwelling 8\n\
+        section 1 from pump length 12.5 m elevation 12.2 m kind dwelling fixtures 8 free 300 cm\n\
+        section 2 from 1 length 3.3 m elevation 15.2 m kind dwelling fixtures 8 free 300 cm\n";
+    let sound = office_with(&["choose", "-", TABLE], riser.as_bytes());
+    assert_eq!((sound.status, sound.error.as_str()), (0, ""));
+    for slip in ["-5.2 m", "15 cm"] {
+        let text = riser.replace("15.2 m", slip);
+        let warned = office_with(&["choose", "-", TABLE], text.as_bytes());
+        assert_eq!(warned.status, 0);
+        assert!(warned.text().contains("pump head") && warned.text() != sound.text());
+        assert!(
+            warned.error.starts_with("warning: standard input line 9, section 2: its end lies at "),
+            "{}",
+            warned.error
+        );
+        let said = json::parse(&office_with(&["choose", "-", TABLE, "--json"], text.as_bytes()).text());
+        let warning = &said.list("warnings")[0];
+        assert_eq!((warning.number("line"), said.get("refusal")), (9, &Value::Null));
+        assert_eq!(warning.get("file"), &Value::Text("standard input".to_string()));
+        assert!(said.number("pump_head_cm") > 0);
+        every_command_warns(&text);
+        let strict = office_with(&["choose", "-", TABLE, "--json", "--strict"], text.as_bytes());
+        let said = json::parse(&strict.text());
+        assert_eq!((strict.status, said.list("warnings").len()), (2, 1));
+    }
+    assert_eq!(office(&["choose", HOUSE, TABLE, "--strict"]).status, 0);
+}
+
+#[test]
+fn the_examples_are_sound() {
+    let mut houses = vec![HOUSE.to_string(), "examples/attic.txt".to_string()];
+    for file in std::fs::read_dir(top().join("examples/mistakes")).expect("the examples are there") {
+        houses.push(format!("examples/mistakes/{}", file.expect("a file").file_name().to_string_lossy()));
+    }
+    let mut seen = 0;
+    for file in houses.iter().filter(|file| file.ends_with(".txt") && !file.contains("elevation-too-low")) {
+        let Ok(packed) = house::pack(&read(file)) else { continue };
+        let record = Record::read(&packed).expect("a record");
+        assert_eq!(warnings(&record), [], "{file}");
+        seen += 1;
+    }
+    assert!(seen >= 6, "{seen}");
+}
+
+/// Houses as they are built: risers of storeys on cellar mains, pumps in the cellar, on the ground, in the attic.
+#[test]
+fn a_hundred_sound_houses_have_no_warning() {
+    for seed in 0..100_u64 {
+        let pick = |salt: u64, of: u64| (seed * 7_919 + salt * 104_729) % of;
+        let (storeys, risers) = (1 + pick(1, 17), 1 + pick(2, 3));
+        let storey = 270 + 10 * pick(3, 6);
+        let down = seed % 4 == 3 && storeys * storey < 900;
+        let mut text = format!(
+            "local losses 0.{}\nhours {}\nmeter loss {} cm\nguaranteed head {} cm\ndelivered head {} cm\n\
+             velocity limit {} mm/s\nresidents dwelling {}\n",
+            2 + pick(4, 2),
+            1 + pick(5, 24),
+            pick(6, 300),
+            pick(7, 1_500),
+            1_500 + pick(8, 4_500),
+            600 + 300 * pick(9, 6),
+            risers * storeys
+        );
+        let mut number = 0;
+        for riser in 0..risers {
+            let mut before = "pump".to_string();
+            for floor in 0..=storeys {
+                number += 1;
+                let height = (60 + floor * storey) as i64 * if down { -1 } else { 1 };
+                let length = if floor == 0 { 50 + 80 * riser + pick(number, 200) } else { (storey + 9) / 10 };
+                let taps = if floor == 0 { "kind none" } else { "kind dwelling fixtures 6 free 300 cm" };
+                text.push_str(&format!(
+                    "section {number} from {before} length {length} dm elevation {height} cm {taps}\n"
+                ));
+                before = number.to_string();
+            }
+        }
+        let packed = house::pack(&text).expect(&text);
+        assert!(calls::flow(&packed).is_ok(), "{text}");
+        assert_eq!(warnings(&Record::read(&packed).expect("a record")), [], "{text}");
+    }
+}
