@@ -79,9 +79,9 @@ pub fn read(text: &str) -> Result<Packed, Mistakes> {
     let Some(header) = lines.next() else {
         return Err(Mistake::lacking("the file has no header line", format!("`{}`", COLUMNS.join(","))).into());
     };
-    let columns = header::columns(&header)?;
+    let (columns, mut mistakes) = header::columns(&header);
+    let Some(columns) = columns else { return Err(mistakes) };
     let mut given = sizes::Given::default();
-    let mut mistakes = Mistakes::default();
     for line in lines {
         given.take(&line, &columns, &mut mistakes);
     }

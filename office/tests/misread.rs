@@ -253,6 +253,12 @@ fn all_mistakes_come_at_once_in_the_order_of_lines() {
     let table = SIZES.replace("900", "9,00").replace(',', ";").replace("9;00", "9,00").replace("1500", "15x");
     let mistakes = table::pack(&table).expect_err("three cells");
     assert_eq!(mistakes.list.len(), 3, "{mistakes}");
+    // A header whose columns can be told hides no row's mistake, one that lacks a column does.
+    let both = put(&put(SIZES, "bore mm", "bore"), "1,40,900,3000", "1,40,900,3.0");
+    let wrong: Vec<String> = table::pack(&both).expect_err("two").list.into_iter().map(|m| m.wrong).collect();
+    assert!(wrong.len() == 2 && wrong[0].contains("its unit, mm") && wrong[1].contains("`3.0`"), "{wrong:?}");
+    let alone = put(&put(SIZES, "bore mm,", ""), "1,40,900,3000", "1,40,900,3.0");
+    assert_eq!(table::pack(&alone).expect_err("one").list.len(), 1);
     let missing = house::pack("residents dwelling 1\n").expect_err("six lines");
     assert_eq!(missing.list.len(), 6, "{missing}");
 }

@@ -29,36 +29,38 @@ fn plain(cell: &str) -> String {
 
 /// Whether a line is a header with its six columns.
 pub fn complete(line: &Cells) -> bool {
-    columns(line).is_ok()
+    columns(line).1.is_empty()
 }
 
-/// The columns of a header line, or all that is wrong with it.
-pub fn columns(line: &Cells) -> Result<Columns, Mistakes> {
+/// The columns of a header line, and all that is wrong with it. Where it can be told which column each is meant for, the rows
+/// can be read for their own mistakes too.
+pub fn columns(line: &Cells) -> (Option<Columns>, Mistakes) {
     let names: Vec<String> = line.cells.iter().map(|cell| plain(cell)).collect();
     let expected = format!("`{}`; a column `notes` is skipped", COLUMNS.join(&line.separator.to_string()));
     let mut mistakes = Mistakes::default();
-    let mut found = Columns { places: [usize::MAX; COLUMNS.len()], notes: Vec::new() };
-    let mut named = [false; COLUMNS.len()];
+    let mut notes = Vec::new();
+    let mut places: [Vec<usize>; COLUMNS.len()] = Default::default();
     for (place, name) in names.iter().enumerate().filter(|(_, name)| !name.is_empty()) {
-        if let Some(column) = COLUMNS.iter().position(|known| known == name) {
-            if named[column] {
-                mistakes.add(line.mistake(format!("the column `{name}` is there twice"), expected.clone()));
-            }
-            (found.places[column], named[column]) = (place, true);
-        } else if NOTES.contains(&name.as_str()) {
-            found.notes.push(place);
+        let known = COLUMNS.iter().position(|known| known == name);
+        if NOTES.contains(&name.as_str()) {
+            notes.push(place);
+        } else if let Some(column) = known {
+            places[column].push(place);
         } else {
-            let (wrong, column) = unknown(name, &line.cells[place]);
-            if let Some(column) = column {
-                named[column] = true;
-            }
+            let (wrong, meant) = unknown(name, &line.cells[place]);
             mistakes.add(line.mistake(wrong, expected.clone()));
+            places[meant.unwrap_or(0)].extend(meant.map(|_| place));
         }
     }
-    for (column, _) in COLUMNS.iter().zip(named).filter(|(_, named)| !named) {
-        mistakes.add(line.mistake(format!("the header has no column `{column}`"), expected.clone()));
+    for (column, places) in COLUMNS.iter().zip(&places) {
+        match places.len() {
+            0 => mistakes.add(line.mistake(format!("the header has no column `{column}`"), expected.clone())),
+            1 => {}
+            _ => mistakes.add(line.mistake(format!("the column `{column}` is there twice"), expected.clone())),
+        }
     }
-    mistakes.none(found)
+    let each = places.iter().all(|places| places.len() == 1);
+    (each.then(|| Columns { places: places.map(|places| places[0]), notes }), mistakes)
 }
 
 /// A name that is no column's: what is wrong, and the column that it is likely meant for.
