@@ -1,4 +1,4 @@
-/* Every call of the library from C, on document 01's own case: flows, rating, choosing and copying, and a refusal of each.
+/* Every call of the library from C, on document 01's own case: flows, duty, rating, choosing and copying, and a refusal of each.
  *
  *   cc -std=c99 -I office/include examples/order.c target/staticlib/liborder.a -o order && ./order
  *
@@ -55,6 +55,10 @@ int main(void)
     is("section 1", number_at(out + 12), 2052);
     is("flow of 49 bytes", order_flow(job, 49, out, ORDER_FLOW_BYTES), 1);
     is("flow into 15 bytes", order_flow(job, sizeof job, out, 15), 14);
+
+    is("duty", order_duty(job, sizeof job, out, ORDER_DUTY_BYTES), 0);
+    is("the house", number_at(out), 2052);
+    is("duty into 3 bytes", order_duty(job, sizeof job, out, 3), 14);
 
     is("rate", order_rate(job, sizeof job, cat, sizeof cat, wide, 1, out, ORDER_RATE_BYTES), 0);
     is("required head", number_at(out), 921);

@@ -55,6 +55,7 @@ extern "C" {
 
 /* The greatest sizes that any accepted job needs (S = 63, H = 6,000). */
 #define ORDER_FLOW_BYTES 264u      /* 12 + 4 * 63 */
+#define ORDER_DUTY_BYTES 4u
 #define ORDER_RATE_BYTES 387u      /* 9 + 6 * 63 */
 #define ORDER_CHOOSE_BYTES 67u     /* 4 + 63 */
 #define ORDER_COPY_BYTES 670u      /* 40 + 10 * 63 */
@@ -65,6 +66,13 @@ extern "C" {
  * Result: hour in l/h (4 bytes), day in litres (4), mean hour in l/h (4), then each section's flow in ml/s (4 each).
  * Refusals: 1 to 9, 14. */
 uint32_t order_flow(const uint8_t *job, size_t job_length, uint8_t *out, size_t out_length);
+
+/* The design flow of the whole house, which its pump set has to deliver.
+ * job: a job record. out: at least 4 bytes.
+ * Result: the house's design flow in ml/s (4 bytes): that of the house's m, which is no section's where several hang on
+ * the pump.
+ * Refusals: 1 to 9, 14. */
+uint32_t order_duty(const uint8_t *job, size_t job_length, uint8_t *out, size_t out_length);
 
 /* Rating of a job with given sizes.
  * job: a job record. cat: a catalogue. sizes: S size numbers of 1 byte, from 1. out: at least 9 + 6 * S bytes.

@@ -67,6 +67,13 @@ pub fn flow(job: &[u8]) -> Result<Flow, Refusal> {
     })
 }
 
+/// The design flow of the whole house in ml/s, which its pump set has to deliver.
+pub fn duty(job: &[u8]) -> Result<u32, Refusal> {
+    let mut out = [0; 4];
+    refused(ffi::duty(job, &mut out))?;
+    Ok(u32::from_be_bytes(out))
+}
+
 /// Rating of a job record with a catalogue and one size number for each section.
 pub fn rate(job: &[u8], cat: &[u8], sizes: &[u8]) -> Result<Rating, Refusal> {
     let mut out = [0; 9 + 6 * MOST_SECTIONS];

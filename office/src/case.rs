@@ -12,7 +12,7 @@
 //! out 5 ff
 //! ```
 //!
-//! `call` is `flow`, `rate`, `choose` or `copy`. `job`, `cat` and `sizes` are bytes in hex, where spaces do not count and
+//! `call` is `flow`, `duty`, `rate`, `choose` or `copy`. `job`, `cat` and `sizes` are bytes in hex, where spaces do not count and
 //! several lines of one name are joined; a name without a line is empty. `work` and `out` are the buffers as they are before
 //! the call: a length, and bytes in hex that are repeated to fill it (none: zeros).
 
@@ -22,17 +22,19 @@ use std::fmt::Write;
 pub enum Call {
     Copy,
     Flow,
+    Duty,
     Rate,
     Choose,
 }
 
 impl Call {
-    pub const ALL: [Call; 4] = [Call::Copy, Call::Flow, Call::Rate, Call::Choose];
+    pub const ALL: [Call; 5] = [Call::Copy, Call::Flow, Call::Duty, Call::Rate, Call::Choose];
 
     pub fn name(self) -> &'static str {
         match self {
             Call::Copy => "copy",
             Call::Flow => "flow",
+            Call::Duty => "duty",
             Call::Rate => "rate",
             Call::Choose => "choose",
         }
@@ -104,7 +106,7 @@ impl Case {
             match name {
                 "call" => {
                     let named = Call::ALL.into_iter().find(|call| call.name() == rest.trim());
-                    call = Some(named.ok_or_else(|| wrong("the calls are flow, rate, choose and copy"))?);
+                    call = Some(named.ok_or_else(|| wrong("the calls are flow, duty, rate, choose and copy"))?);
                 }
                 "job" => job.extend(unhex(rest).map_err(|what| wrong(&what))?),
                 "cat" => cat.extend(unhex(rest).map_err(|what| wrong(&what))?),

@@ -131,6 +131,7 @@ fn call(case: &Case, out: &mut [u8], work: &mut [u8]) -> u32 {
     match case.call {
         Call::Copy => ffi::copy(&case.job, out),
         Call::Flow => ffi::flow(&case.job, out),
+        Call::Duty => ffi::duty(&case.job, out),
         Call::Rate => ffi::rate(&case.job, &case.cat, &case.sizes, out),
         Call::Choose => ffi::choose(&case.job, &case.cat, work, out),
     }

@@ -6,7 +6,7 @@
 mod layout;
 mod svg;
 
-use crate::calls::Rating;
+use crate::calls::{Flow, Rating};
 use crate::kinds;
 use crate::pipes::Pipe;
 use crate::record::Record;
@@ -22,11 +22,20 @@ const SHORT: &str = "#b3261e";
 const FAINT: &str = "#5f6b76";
 const INK: &str = "#1c2329";
 
-/// The drawing of a rated house. `cost` is in tenths of the price unit.
-pub fn draw(record: &Record, pipes: &[Pipe], rating: &Rating, cost: u64) -> String {
+/// What stands above a drawing beside the heads.
+pub struct Totals<'a> {
+    /// The house's design flow in ml/s.
+    pub duty: u32,
+    pub flow: &'a Flow,
+    /// In tenths of the price unit.
+    pub cost: u64,
+}
+
+/// The drawing of a rated house.
+pub fn draw(record: &Record, pipes: &[Pipe], rating: &Rating, totals: &Totals) -> String {
     let warning = if missing(record, rating) > 0 { ": TOO LITTLE HEAD" } else { "" };
     let (mut svg, places) = sheet(pipes, warning);
-    heading(&mut svg, record, rating, cost);
+    heading(&mut svg, record, rating, totals);
     pump(&mut svg, record, &format!("head {} cm", rating.pump));
     risers(&mut svg, pipes, &places);
     for (pipe, place) in pipes.iter().zip(&places) {
@@ -36,7 +45,7 @@ pub fn draw(record: &Record, pipes: &[Pipe], rating: &Rating, cost: u64) -> Stri
 }
 
 /// The drawing of a house in which no size serves some section, whose size is 0: flows and velocities, and no heads.
-pub fn sketch(record: &Record, pipes: &[Pipe]) -> String {
+pub fn sketch(record: &Record, pipes: &[Pipe], duty: u32) -> String {
     let (mut svg, places) = sheet(pipes, ": NO SIZE SERVES");
     let unserved: Vec<String> =
         pipes.iter().filter(|pipe| pipe.size == 0).map(|pipe| pipe.number.to_string()).collect();
@@ -45,7 +54,8 @@ pub fn sketch(record: &Record, pipes: &[Pipe]) -> String {
     svg.text(20, 28, 15, SHORT, "bold", &format!("NO SIZE SERVES section {named}{more}"));
     let limit = format!("velocity limit {} mm/s; the other pipes have the size of their least loss", record.limit);
     svg.text(20, 48, 12, FAINT, "normal", &limit);
-    svg.text(20, 65, 12, FAINT, "normal", "without a size for each section there are no heads");
+    let set = format!("pump set: {duty} ml/s; without a size for each section there are no heads");
+    svg.text(20, 65, 12, FAINT, "normal", &set);
     pump(&mut svg, record, "head unknown");
     risers(&mut svg, pipes, &places);
     for (pipe, place) in pipes.iter().zip(&places) {
@@ -72,21 +82,25 @@ fn missing(record: &Record, rating: &Rating) -> i64 {
     i64::from(rating.required) - i64::from(record.delivered)
 }
 
-/// Three lines above the drawing, and a fourth where the head is too little: an end marked SHORT may lie far from here.
-fn heading(svg: &mut Svg, record: &Record, rating: &Rating, cost: u64) {
+/// Four lines above the drawing, first what the pump set has to deliver, and a fifth where the head is too little: an end
+/// marked SHORT may lie far from here.
+fn heading(svg: &mut Svg, record: &Record, rating: &Rating, totals: &Totals) {
     let (required, pump, guaranteed) = (rating.required, rating.pump, record.guaranteed);
-    let heads = format!("required head {required} cm, pump head {pump} cm over the guaranteed {guaranteed} cm");
-    svg.text(20, 28, 15, INK, "bold", &heads);
-    let bought = format!("the pipes cost {}.{}", cost / 10, cost % 10);
+    let set = format!("pump set: {} ml/s at {pump} cm over the guaranteed {guaranteed} cm", totals.duty);
+    svg.text(20, 22, 15, INK, "bold", &set);
+    let Flow { hour, day, .. } = totals.flow;
+    let house = format!("greatest hour {hour} l, greatest day {day} l; required head {required} cm");
+    svg.text(20, 40, 12, FAINT, "normal", &house);
+    let bought = format!("the pipes cost {}.{}", totals.cost / 10, totals.cost % 10);
     let path = format!("dictating path, red and wide: pump to section {}; {bought}", rating.dictating);
-    svg.text(20, 48, 12, FAINT, "normal", &path);
+    svg.text(20, 55, 12, FAINT, "normal", &path);
     let left = format!("left: head left at an end when {} cm are delivered; needs: its free head", record.delivered);
-    svg.text(20, 65, 12, FAINT, "normal", &left);
+    svg.text(20, 70, 12, FAINT, "normal", &left);
     let missing = missing(record, rating);
     if missing > 0 {
         let delivered = record.delivered;
         let warning = format!("TOO LITTLE HEAD: {delivered} cm are delivered, {missing} cm are missing");
-        svg.text(20, 85, 13, SHORT, "bold", &warning);
+        svg.text(20, 87, 13, SHORT, "bold", &warning);
     }
 }
 

@@ -27,6 +27,7 @@ mod linked {
             out: *mut u8,
             out_length: usize,
         ) -> u32;
+        pub fn order_duty(job: *const u8, job_length: usize, out: *mut u8, out_length: usize) -> u32;
         pub fn order_copy(job: *const u8, job_length: usize, out: *mut u8, out_length: usize) -> u32;
     }
 }
@@ -69,6 +70,12 @@ pub fn choose(job: &[u8], cat: &[u8], work: &mut [u8], out: &mut [u8]) -> u32 {
             out.len(),
         )
     }
+}
+
+/// The house's design flow into `out`; 0, or the number of the refusal.
+pub fn duty(job: &[u8], out: &mut [u8]) -> u32 {
+    // SAFETY: see the top of the file; the library reads `job` and writes inside `out`.
+    unsafe { linked::order_duty(job.as_ptr(), job.len(), out.as_mut_ptr(), out.len()) }
 }
 
 /// The record read and written again into `out`; 0, or the number of the refusal.

@@ -21,7 +21,8 @@ use rng::Rng;
 /// The case of this index in the row of this seed.
 pub fn case(seed: u64, index: u64) -> Case {
     let rng = &Rng::new(seed, index);
-    let call = rng.pick(&[Call::Copy, Call::Flow, Call::Flow, Call::Rate, Call::Rate, Call::Choose, Call::Choose]);
+    let call =
+        rng.pick(&[Call::Copy, Call::Flow, Call::Flow, Call::Duty, Call::Rate, Call::Rate, Call::Choose, Call::Choose]);
     let mut case = sound(rng, call);
     let order = model::order_of(call);
     let mut spoilt = [0, 0];

@@ -49,7 +49,7 @@ pub fn places(refusal: &Refusal, asked: &Asked) -> Vec<Place> {
     match refusal {
         Refusal::JobLength => shape::length(asked.job),
         Refusal::JobVersion => shape::version(asked.job),
-        Refusal::HeadRange => shape::ranges(asked.job),
+        Refusal::HeaderRange => shape::ranges(asked.job),
         Refusal::SectionBytes => shape::count(asked.job),
         Refusal::SectionRules => sections::rules(asked.job),
         Refusal::ChildlessKind => sections::childless(asked.job),

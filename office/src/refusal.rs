@@ -10,7 +10,7 @@ pub enum Refusal {
     /// 2
     JobVersion,
     /// 3
-    HeadRange,
+    HeaderRange,
     /// 4
     SectionBytes,
     /// 5
@@ -48,7 +48,7 @@ use Refusal::*;
 const ROWS: [Refusal; 16] = [
     JobLength,
     JobVersion,
-    HeadRange,
+    HeaderRange,
     SectionBytes,
     SectionRules,
     ChildlessKind,
@@ -80,7 +80,7 @@ impl Refusal {
         match self {
             JobLength => 1,
             JobVersion => 2,
-            HeadRange => 3,
+            HeaderRange => 3,
             SectionBytes => 4,
             SectionRules => 5,
             ChildlessKind => 6,
@@ -105,7 +105,7 @@ impl Refusal {
                 "The job record is under 40 bytes long, or the length that it states is not the number of bytes lent."
             }
             JobVersion => "The version of the job record is not 1.",
-            HeadRange => {
+            HeaderRange => {
                 "A field of the house is out of range. The local-loss tenths k are 2 or 3, the section count is 1 to 63, \
                  the hours of use a day are 1 to 24, the meter loss is 0 to 1,000 cm, the guaranteed head and the \
                  delivered head are 0 to 6,000 cm, and the velocity limit is 1 to 3,000 mm/s."

@@ -90,16 +90,16 @@ situations! {
 pub struct Counters {
     pub cases: u64,
     /// By call, in the order of `Call::ALL`, and by the number given back.
-    answers: [[u64; 17]; 4],
+    answers: [[u64; 17]; Call::ALL.len()],
     /// By call, and by two refusals that both applied where the first was given back.
-    pairs: [[[u64; 17]; 17]; 4],
+    pairs: [[[u64; 17]; 17]; Call::ALL.len()],
     reached: Vec<u64>,
 }
 
 impl Default for Counters {
     fn default() -> Counters {
-        let answers = [[0; 17]; 4];
-        Counters { cases: 0, answers, pairs: [[[0; 17]; 17]; 4], reached: vec![0; TEXTS.len()] }
+        let (answers, pairs) = ([[0; 17]; Call::ALL.len()], [[[0; 17]; 17]; Call::ALL.len()]);
+        Counters { cases: 0, answers, pairs, reached: vec![0; TEXTS.len()] }
     }
 }
 

@@ -1,6 +1,6 @@
 //! The safe calls on document 01's own case.
 
-use office::{Choice, Flow, Rated, Rating, Refusal, choose, copy, flow, rate};
+use office::{Choice, Flow, Rated, Rating, Refusal, choose, copy, duty, flow, rate};
 
 const JOB: [u8; 50] = [
     0, 0, 0, 50, 1, 3, 1, 24, 0, 50, 1, 0xf4, 4, 0xb0, 5, 0xdc, // length to limit
@@ -23,6 +23,20 @@ fn with_head(head: u16) -> [u8; 50] {
 #[test]
 fn flows_of_the_own_case() {
     assert_eq!(flow(&JOB), Ok(Flow { hour: 4542, day: 17750, mean_hour: 740, flows: vec![2052] }));
+}
+
+/// In a house of one section the house's flow is that section's. Where two hang on the pump it is less than their sum and
+/// more than each.
+#[test]
+fn the_duty_of_the_own_case() {
+    assert_eq!(duty(&JOB), Ok(2052));
+    assert_eq!(duty(&JOB[..49]), Err(Refusal::JobLength));
+    let mut two = [&JOB[..], &JOB[40..]].concat();
+    (two[3], two[6]) = (60, 2);
+    let flows = flow(&two).expect("accepted").flows;
+    let house = duty(&two).expect("accepted");
+    assert!(house > flows[0] && house > flows[1] && house < flows[0] + flows[1], "{house} {flows:?}");
+    assert_eq!(house, 2052, "as many residents as the own case");
 }
 
 #[test]
@@ -57,5 +71,5 @@ fn any_bytes_are_taken() {
     }
     let mut stated = vec![0xff; 50];
     stated[..5].copy_from_slice(&[0, 0, 0, 50, 1]);
-    assert_eq!(choose(&stated, &CATALOGUE), Err(Refusal::HeadRange));
+    assert_eq!(choose(&stated, &CATALOGUE), Err(Refusal::HeaderRange));
 }

@@ -43,5 +43,5 @@ fn replaying_says_what_came_out() {
         out: Buffer { length: 4, pattern: vec![9] },
     };
     assert_eq!(replay(&short.text()).as_deref(), Ok("flow: library and model agree: number 1, result []"));
-    assert_eq!(replay("call walk"), Err("line 1: the calls are flow, rate, choose and copy".to_string()));
+    assert_eq!(replay("call walk"), Err("line 1: the calls are flow, duty, rate, choose and copy".to_string()));
 }

@@ -3,7 +3,7 @@
 #[path = "tools/xml.rs"]
 mod xml;
 
-use office::draw::draw;
+use office::draw::{Totals, draw};
 use office::pipes::{pipes, sketch};
 use office::record::{Record, Section};
 use office::{calls, draw, house, table};
@@ -20,7 +20,15 @@ fn drawn(job: &[u8]) -> (String, usize) {
     let flow = calls::flow(job).unwrap_or_else(|refusal| panic!("{refusal}"));
     let rating = calls::rate(job, &cat, &sizes).unwrap_or_else(|refusal| panic!("{refusal}"));
     let pipes = pipes(job, &cat, &sizes, &flow, &rating).expect("the answers are this house's");
-    (draw(&record, &pipes, &rating, u64::from(u32::MAX)), pipes.len())
+    (
+        draw(
+            &record,
+            &pipes,
+            &rating,
+            &Totals { duty: calls::duty(job).expect("accepted"), flow: &flow, cost: u64::from(u32::MAX) },
+        ),
+        pipes.len(),
+    )
 }
 
 /// Tables in which some section, or every one, has no size.
@@ -31,7 +39,7 @@ const NONE: &str = "size,bore mm,price,flow ml/s,velocity mm/s,slope mm/m\n1,20,
 fn sketch_of(job: &[u8], cat: &str) -> String {
     let flow = calls::flow(job).unwrap_or_else(|refusal| panic!("{refusal}"));
     let pipes = sketch(job, &table::pack(cat).expect("a table"), &flow).expect("of this house");
-    draw::sketch(&Record::read(job).expect("a record"), &pipes)
+    draw::sketch(&Record::read(job).expect("a record"), &pipes, calls::duty(job).expect("accepted"))
 }
 
 #[test]
@@ -90,6 +98,7 @@ fn too_little_head_is_said_in_the_title_and_above_the_drawing() {
     let hotel = &houses()[0];
     let (enough, _) = drawn(hotel);
     assert!(!enough.contains("TOO LITTLE HEAD"));
+    assert!(enough.contains(&format!(">pump set: {} ml/s at ", calls::duty(hotel).expect("accepted"))));
     let (low, sections) = drawn(&short(hotel));
     assert!(low.contains(&format!("<title>House network of {sections} sections: TOO LITTLE HEAD</title>")));
     let texts = elements(&low).into_iter().filter(|element| element.name == "text");

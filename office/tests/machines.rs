@@ -104,8 +104,12 @@ fn a_rating_says_whether_the_list_suits() {
     assert_eq!((said.get("suits"), said.get("refusal")), (&Value::Truth(false), &Value::Null));
     let chosen = json::parse(&office(&["choose", HOUSE, TABLE, "--json"]).text());
     let flow = json::parse(&office(&["flow", HOUSE, "--json"]).text());
-    for key in ["hour_l_per_h", "day_l", "mean_hour_l_per_h"] {
+    for key in ["duty_ml_per_s", "hour_l_per_h", "day_l", "mean_hour_l_per_h"] {
         assert_eq!(chosen.number(key), flow.number(key));
     }
     assert_eq!(chosen.get("suits"), &Value::Truth(true));
+    // The example's one pipe at the pump carries all of the house.
+    assert_eq!(chosen.number("duty_ml_per_s"), chosen.list("sections")[0].number("flow_ml_per_s"));
+    let words = office(&["choose", HOUSE, TABLE]).text();
+    assert!(words.starts_with("pump set: 2289 ml/s at 897 cm\ndesign flow "), "{words}");
 }

@@ -239,6 +239,7 @@ fn every_refusal_has_a_place() {
         let refusal = match case.call {
             Call::Copy => calls::copy(&case.job).err(),
             Call::Flow => calls::flow(&case.job).err(),
+            Call::Duty => calls::duty(&case.job).err(),
             Call::Rate => calls::rate(&case.job, &case.cat, &case.sizes).err(),
             Call::Choose => calls::choose(&case.job, &case.cat).err(),
         };

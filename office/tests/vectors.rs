@@ -66,6 +66,7 @@ fn edits_of_the_job() {
     ];
     for (expected, edit) in edits {
         assert_eq!(number(&edited(Call::Flow, edit)), *expected, "{edit:?}");
+        assert_eq!(number(&edited(Call::Duty, edit)), *expected, "duty: {edit:?}");
         let read = if [8, 9].contains(expected) { 0 } else { *expected };
         assert_eq!(number(&edited(Call::Copy, edit)), read, "copied: {edit:?}");
     }
@@ -114,6 +115,11 @@ fn lists_and_buffers() {
         case.sizes = list.to_vec();
         case.out.length = length;
         assert_eq!(number(&case), expected, "{list:?} {length}");
+    }
+    for (out, expected) in [(0, 14), (3, 14), (4, 0)] {
+        let mut case = own(Call::Duty);
+        case.out.length = out;
+        assert_eq!(number(&case), expected, "duty into {out} bytes");
     }
     for (out, work, expected) in [(4, 0, 14), (5, 17_607, 15), (5, 17_608, 0)] {
         let mut case = own(Call::Choose);

@@ -25,10 +25,10 @@ module _ {t : Bool} (n : ℕ) (rest : List (Bool × ℕ)) where
 
 -- 14: the buffer is too short, or it is not
 module _ (room long : ℕ) (rest : List (Bool × ℕ)) where
-  pub short-found : room < long → firstNo (tooShort room long ∷ rest) ≡ 14
+  pub short-found : room < long → firstNo ((tooShort room long, 14) ∷ rest) ≡ 14
   short-found h = first-found 14 rest (lt-ltb room long h)
 
-  pub short-next : long ≤ room → firstNo (tooShort room long ∷ rest) ≡ firstNo rest
+  pub short-next : long ≤ room → firstNo ((tooShort room long, 14) ∷ rest) ≡ firstNo rest
   short-next h = first-next 14 rest (le-ltb room long h)
 
 -- every check of the list has a number of its own

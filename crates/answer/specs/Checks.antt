@@ -12,8 +12,8 @@ firstNo [] = 0
 firstNo (check ∷ rest) = cond (check .0) (check .1) (firstNo rest)
 
 -- 14: the result buffer of so many bytes is too short for a result of that length
-abbrev pub tooShort : ℕ → ℕ → Bool × ℕ
-tooShort room long = (ltb room long, 14)
+abbrev pub tooShort : ℕ → ℕ → Bool
+tooShort room long = ltb room long
 
 -- the result buffer after a call that gives a number: the bytes at its front and the rest as it was where the number is 0, else all of it as it was
 abbrev pub bufferAfter : ℕ → List ℕ → List ℕ → List ℕ

@@ -19,7 +19,7 @@ module _ (b cat : List ℕ) (room work : ℕ) where
   choose-inputs n = input-stops b cat _ n
 
   module _ (none : inputNo b cat ≡ 0) where
-    past : chooseNo b cat room work ≡ firstNo (tooShort room (chooseLength (countOf (decode b))) ∷ (ltb work (workOf (decode b)), 15) ∷ [])
+    past : chooseNo b cat room work ≡ firstNo ((tooShort room (chooseLength (countOf (decode b))), 14) ∷ (ltb work (workOf (decode b)), 15) ∷ [])
     unfolding chooseNo chooseChecks
     past = input-passes b cat _ none
 

@@ -36,7 +36,7 @@ pub record Ample (b out work : List ℕ) : Type 0 where
 -- 1 to 11, 14, 15: what is checked before the search
 unfoldable pub chooseChecks : List ℕ → List ℕ → ℕ → ℕ → List (Bool × ℕ)
 chooseChecks b cat room work =
-    inputChecks b cat ++ (tooShort room (chooseLength (countOf (decode b))) ∷ (ltb work (workOf (decode b)), 15) ∷ [])
+    inputChecks b cat ++ ((tooShort room (chooseLength (countOf (decode b))), 14) ∷ (ltb work (workOf (decode b)), 15) ∷ [])
 
 -- the number of the first that finds something, 0 where none does
 unfoldable pub chooseNo : List ℕ → List ℕ → ℕ → ℕ → ℕ

@@ -25,7 +25,7 @@ flowBytes job = houseBytes (hourOf job) (dayOf job) (meanOf job) ++ concatTo (co
 
 -- the flow call with a result buffer of so many bytes: 1 to 9, and 14
 unfoldable pub flowNo : List ℕ → ℕ → ℕ
-flowNo b room = firstNo (jobChecks b ++ (tooShort room (flowLength (countOf (decode b))) ∷ []))
+flowNo b room = firstNo (jobChecks b ++ ((tooShort room (flowLength (countOf (decode b))), 14) ∷ []))
 
 -- the duty call, for the pump set: the house's design flow in ml/s (4)
 unfoldable pub dutyBytes : Job → List ℕ
@@ -33,4 +33,4 @@ dutyBytes job = bytesOf 4 (houseFlow job)
 
 -- with a result buffer of so many bytes: 1 to 9, and 14
 unfoldable pub dutyNo : List ℕ → ℕ → ℕ
-dutyNo b room = firstNo (jobChecks b ++ (tooShort room 4 ∷ []))
+dutyNo b room = firstNo (jobChecks b ++ ((tooShort room 4, 14) ∷ []))

@@ -59,11 +59,11 @@ read-numbered b = numbered-append (shapeChecks b) (fieldChecks (decode b)) (shap
 module _ (b : List ℕ) (room : ℕ) where
   pub copy-refused : (readNo b ≡ 0 → ⊥) → copyNo b room ≡ readNo b
   unfolding copyNo copyChecks readNo
-  copy-refused n = first-before (readChecks b) (tooShort room (length b) ∷ []) (read-numbered b) n
+  copy-refused n = first-before (readChecks b) ((tooShort room (length b), 14) ∷ []) (read-numbered b) n
 
-  pub copy-room : readNo b ≡ 0 → copyNo b room ≡ firstNo (tooShort room (length b) ∷ [])
+  pub copy-room : readNo b ≡ 0 → copyNo b room ≡ firstNo ((tooShort room (length b), 14) ∷ [])
   unfolding copyNo copyChecks readNo
-  copy-room e = first-after (readChecks b) (tooShort room (length b) ∷ []) (read-numbered b) e
+  copy-room e = first-after (readChecks b) ((tooShort room (length b), 14) ∷ []) (read-numbered b) e
 
 -- writing: 3, else 5 to 7, else 14
 module _ (job : Job) (room : ℕ) where
@@ -77,7 +77,7 @@ module _ (job : Job) (room : ℕ) where
     write-fields n = first-next 3 _ (rw head) ∙ first-before (fieldChecks job) _ (fields-numbered job) n
 
     module _ (fields : firstNo (fieldChecks job) ≡ 0) where
-      pub write-room : writeNo job room ≡ firstNo (tooShort room (lengthOf (countOf job)) ∷ [])
+      pub write-room : writeNo job room ≡ firstNo ((tooShort room (lengthOf (countOf job)), 14) ∷ [])
       unfolding writeNo writeChecks
       write-room = first-next 3 _ (rw head) ∙ first-after (fieldChecks job) _ (fields-numbered job) fields
 

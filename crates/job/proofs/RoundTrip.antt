@@ -48,7 +48,7 @@ module _ (b : List ℕ) (accepted : readNo b ≡ 0) where
       let s : Shaped b = read-shaped in rw fields-read (encode-decode b byte (few s) (s .stated) (s .version) (s .whole))
 
   -- the writer gives 14 or nothing, as the room is
-  pub rewritten : (room : ℕ) → writeNo (readJob b) room ≡ firstNo (tooShort room (length b) ∷ [])
+  pub rewritten : (room : ℕ) → writeNo (readJob b) room ≡ firstNo ((tooShort room (length b), 14) ∷ [])
   rewritten room = rw fields-read (write-room (decode b) room read-header (readable b accepted .fields) ∙ rw read-length)
 
   -- and copying gives what the writer gives

@@ -44,14 +44,14 @@ readJob b = fieldsAfter (readChecks b) (decode b)
 
 -- writing into so many bytes: 3, 5 to 7, and 14 where the result buffer is too short
 unfoldable pub writeChecks : Job → ℕ → List (Bool × ℕ)
-writeChecks job room = (not (headerOk (job .header)), 3) ∷ (fieldChecks job ++ (tooShort room (lengthOf (countOf job)) ∷ []))
+writeChecks job room = (not (headerOk (job .header)), 3) ∷ (fieldChecks job ++ ((tooShort room (lengthOf (countOf job)), 14) ∷ []))
 
 unfoldable pub writeNo : Job → ℕ → ℕ
 writeNo job room = firstNo (writeChecks job room)
 
 -- reading and writing again into so many bytes: 1 to 7, and 14
 unfoldable pub copyChecks : List ℕ → ℕ → List (Bool × ℕ)
-copyChecks b room = readChecks b ++ (tooShort room (length b) ∷ [])
+copyChecks b room = readChecks b ++ ((tooShort room (length b), 14) ∷ [])
 
 unfoldable pub copyNo : List ℕ → ℕ → ℕ
 copyNo b room = firstNo (copyChecks b room)

@@ -57,7 +57,7 @@ planOf N high =
       next = λ s t h. min (h - N .loss s t) (high s);
     }
 
--- No end has a use for more head than `high`: what it needs is no more, and neither is what the ends below can use plus what is lost on the way there.
+-- No end has a use for more head than `high`, as far as the pump's head a goes: what it needs is no more, and neither is what the ends below can use plus what is lost on the way there.
 pub record Usable (N : Net) (a : ℕ) (high : ℕ → ℕ) : Type 0 where
   pub most : (s : ℕ) → s ≤ N .sections → high s ≤ a
   pub own : (s : ℕ) → s ≤ N .sections → min a (N .need s) ≤ high s

@@ -14,7 +14,7 @@ use Rattle.pruning.specs.Keeps.{Keeps}
 abbrev pub asGood : List ℕ → List ℕ → ℕ → ℕ → Bool
 asGood losses costs k t = leb (getD losses k 0) (getD losses t 0) && leb (getD costs k 0) (getD costs t 0)
 
--- no size of section s loses less than `least`, which leaves its end what it needs; it is `top` where no size is left
+-- `least` is at most what each size of section s loses, and where it is below `top` it leaves the end what it needs
 pub record Trimmed (N : Net) (a s least : ℕ) : Type 0 where
   pub each : (t : ℕ) → 0 < t → t ≤ N .sizes → least ≤ N .loss s t
   pub fits : least < top → least + N .need s ≤ a

@@ -13,7 +13,7 @@ ghost use Rattle.nets.specs.Net.{None};
 ghost use Rattle.nets.specs.Tables.{netOf, Sound};
 ghost use Rattle.pruning.specs.Contracts.{Pruned};
 
-// The tables with fewer sizes and greater needs, and whether each section has a size left: else no list suits.
+// The tables with fewer sizes and greater needs; or, where a section has no size left, that no list suits.
 pub struct Smaller {
     pub some: bool,
     pub needs: [u32; 64],

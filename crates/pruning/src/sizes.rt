@@ -17,7 +17,7 @@ fn as_good(losses: &[u32; 832], costs: &[u32; 832], kept: usize, at: usize) -> b
     losses[kept] <= losses[at] && costs[kept] <= costs[at]
 }
 
-// Takes out the sizes of section s that are too long, and those that lose and cost no less than the last one kept. The least loss of those left.
+// Takes out the sizes of section s that lose too much, and those that lose and cost no less than the last one kept. No size that is left loses less than the result.
 pub fn trim(
     parents: &[u8; 64],
     needs: &[u32; 64],

@@ -20,7 +20,7 @@ module _ (b cat list : List ℕ) (room : ℕ) where
 
   module _ (none : inputNo b cat ≡ 0) where
     past : rateNo b cat list room ≡
-        firstNo ((not (listOk (decode b) cat list), 12) ∷ tooShort room (rateLength (countOf (decode b))) ∷ (overAny (decode b) cat list, 13) ∷ [])
+        firstNo ((not (listOk (decode b) cat list), 12) ∷ (tooShort room (rateLength (countOf (decode b))), 14) ∷ (overAny (decode b) cat list, 13) ∷ [])
     unfolding rateNo rateChecks
     past = input-passes b cat _ none
 

@@ -22,7 +22,7 @@ rateLength count = 9 + 6 * count
 unfoldable pub rateChecks : List ℕ → List ℕ → List ℕ → ℕ → List (Bool × ℕ)
 rateChecks b cat list room =
     inputChecks b cat ++
-    ((not (listOk (decode b) cat list), 12) ∷ tooShort room (rateLength (countOf (decode b))) ∷ (overAny (decode b) cat list, 13) ∷ [])
+    ((not (listOk (decode b) cat list), 12) ∷ (tooShort room (rateLength (countOf (decode b))), 14) ∷ (overAny (decode b) cat list, 13) ∷ [])
 
 unfoldable pub rateNo : List ℕ → List ℕ → List ℕ → ℕ → ℕ
 rateNo b cat list room = firstNo (rateChecks b cat list room)

@@ -67,7 +67,7 @@ pub record Fillable (N : Net) (a : ℕ) (high : ℕ → ℕ) (room : ℕ) : Type
   pub narrow : a ≤ 7000
   pub rows : 4 * ((N .sections + 1) * (a + 1)) ≤ room
 
--- From its end's need on each row that is begun holds what the plan says after all sections of higher numbers than s, and the plan says 0 of the others.
+-- From what its end needs to what it can use each row that is begun holds what the plan says after all sections of higher numbers than s, and the plan says 0 of the others; the rows of those sections are begun.
 pub record Filling (N : Net) (a : ℕ) (high : ℕ → ℕ) (ws : List ℕ) (begun : List Bool) (s : ℕ) : Type 0 where
   pub long : length begun ≡ 64
   pub at : (p h : ℕ) → p ≤ N .sections → getD begun p false ≡ true → N .need p ≤ h → h ≤ high p → cellAt ws (p * (a + 1) + h) ≡ cell (planOf N high) s p h

@@ -24,7 +24,7 @@ fn cost_at(ws: &[u8], losses: &[u32; 832], costs: &[u32; 832], s: Row, t: usize,
     wide32(costs[at]) + wide32(get(ws, k))
 }
 
-// The cheapest of the sizes 1 to n at the head h, the lowest of those that are equally cheap; 0 where none will do.
+// A cheapest of the sizes 1 to n at the head h, where one will do.
 pub fn cheapest(
     ws: &[u8],
     losses: &[u32; 832],

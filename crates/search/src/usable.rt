@@ -12,7 +12,7 @@ ghost use Rattle.nets.specs.Tables.{top, netOf};
 ghost use Rattle.plan.specs.Plan.{Usable};
 
 // The greatest loss of the sizes 1 to n that may be taken.
-fn longest(losses: &[u32; 832], at: usize, n: usize) -> usize
+fn greatest_loss(losses: &[u32; 832], at: usize, n: usize) -> usize
     requires { ⌜ at + n < 832 ⌝ }
     ensures top { λ r. ⌜ r ≤ top ⌝ }
     ensures most { λ r. ⌜ ((t : ℕ) → t < n + 1 → 0 < t → getD (now (losses .entry)) (at + t) 0 < top → getD (now (losses .entry))
@@ -48,7 +48,7 @@ pub fn high_of(
         let high = greater(highs[s], lesser(head, wide32(needs[s])));
         highs[s] = high;
         let p = wide8(parents[s]);
-        let most = longest(losses, s * 13, sizes);
+        let most = greatest_loss(losses, s * 13, sizes);
         let old = highs[p];
         highs[p] = greater(old, lesser(head, high + most));
         s -= 1;

@@ -46,11 +46,12 @@ where, and the status is 1. Bytes that are neither 40 + 10 x S nor 7 + sizes x (
         usage: "office flow JOB [-o FILE] [--json] [--strict] [--record|--text]",
         least: 1,
         most: 1,
-        brief: "the house's hour, day and mean hour, and each section's design flow",
+        brief: "the house's design flow, hour, day and mean hour, and each section's design flow",
         text: "\
-JOB is a readable house or a job record.
+JOB is a readable house or a job record. The house's design flow is what its pump set has to deliver.
 
---json: hour_l_per_h, day_l, mean_hour_l_per_h, sections (section, flow_ml_per_s).",
+--json: duty_ml_per_s (the house's design flow), hour_l_per_h, day_l, mean_hour_l_per_h, sections (section,
+flow_ml_per_s).",
     },
     Command {
         name: "rate",
@@ -65,7 +66,7 @@ section 1 first: 5,4,3,3 or @FILE with such numbers, or with the size bytes them
 The delivered head plays no part in rating; `to spare` and `left` compare with it: left is the head left at a section's end
 when the delivered head is delivered, less meter loss, losses and elevation. An end with less than its free head is SHORT.
 
---json: hour_l_per_h, day_l, mean_hour_l_per_h, cost_tenths (in tenths of the price unit), sizes, suits, required_head_cm,
+--json: duty_ml_per_s, hour_l_per_h, day_l, mean_hour_l_per_h, cost_tenths (in tenths of the price unit), sizes, suits, required_head_cm,
 pump_head_cm, guaranteed_head_cm, delivered_head_cm, dictating_section, sections (section, parent, size, bore_mm,
 flow_ml_per_s, velocity_mm_per_s, loss_cm, head_left_cm, free_head_cm).",
     },

@@ -15,42 +15,65 @@ use office::{Flow, Refusal, calls, draw as drawing, kinds};
 pub fn flow(arguments: &Arguments) -> Result<Outcome, Misuse> {
     let job = arguments.file(0).job()?;
     let given = Given { job: Some(&job), ..Given::default() };
-    match calls::flow(&job.bytes) {
-        Ok(flow) => report::answer(arguments, &given, || flow_fields(&flow), || flow_chart(&job, &flow).into_bytes()),
+    match Demand::of(&job.bytes) {
+        Ok(demand) => {
+            report::answer(arguments, &given, || flow_fields(&demand), || flow_chart(&job, &demand).into_bytes())
+        }
         Err(why) => Ok(report::refusal(arguments, &why, &given)),
     }
 }
 
+/// What a house asks for.
+pub struct Demand {
+    pub flow: Flow,
+    /// The design flow of the whole house in ml/s.
+    pub duty: u32,
+}
+
+impl Demand {
+    pub fn of(job: &[u8]) -> Result<Demand, Refusal> {
+        Ok(Demand { flow: calls::flow(job)?, duty: calls::duty(job)? })
+    }
+}
+
 /// What the house asks for as a whole.
-pub fn house_fields(flow: &Flow) -> Fields {
-    vec![("hour_l_per_h", flow.hour.into()), ("day_l", flow.day.into()), ("mean_hour_l_per_h", flow.mean_hour.into())]
+pub fn house_fields(demand: &Demand) -> Fields {
+    let flow = &demand.flow;
+    vec![
+        ("duty_ml_per_s", demand.duty.into()),
+        ("hour_l_per_h", flow.hour.into()),
+        ("day_l", flow.day.into()),
+        ("mean_hour_l_per_h", flow.mean_hour.into()),
+    ]
 }
 
 /// What the house asks for as a whole, for people.
-pub fn house_figures(flow: &Flow) -> Vec<Figure> {
+pub fn house_figures(demand: &Demand) -> Vec<Figure> {
+    let flow = &demand.flow;
     vec![
+        ("design flow", demand.duty.to_string(), "ml/s for the pump set to deliver".to_string()),
         ("greatest hour", flow.hour.to_string(), "l/h".to_string()),
         ("greatest day", flow.day.to_string(), "l".to_string()),
         ("mean hour", flow.mean_hour.to_string(), "l/h".to_string()),
     ]
 }
 
-fn flow_fields(flow: &Flow) -> Fields {
+fn flow_fields(demand: &Demand) -> Fields {
     let sections = (1_u8..)
-        .zip(&flow.flows)
+        .zip(&demand.flow.flows)
         .map(|(section, flow)| Json::Object(vec![("section", section.into()), ("flow_ml_per_s", (*flow).into())]));
-    let mut fields = house_fields(flow);
+    let mut fields = house_fields(demand);
     fields.push(("sections", Json::List(sections.collect())));
     fields
 }
 
-fn flow_chart(job: &Source, flow: &Flow) -> String {
-    let house = figures(&house_figures(flow));
+fn flow_chart(job: &Source, demand: &Demand) -> String {
+    let house = figures(&house_figures(demand));
     let record = Record::read(&job.bytes).unwrap_or_default();
     let columns = [number("section", ""), words("from"), words("kind"), number("fixtures", ""), number("flow", "ml/s")];
     let rows: Vec<Vec<String>> = record
         .numbered()
-        .zip(&flow.flows)
+        .zip(&demand.flow.flows)
         .map(|((section, own), flow)| {
             let fixtures = own.fixtures.to_string();
             vec![section.to_string(), from(own.parent), kinds::name(own.kind), fixtures, flow.to_string()]
@@ -104,10 +127,11 @@ pub fn draw(arguments: &Arguments) -> Result<Outcome, Misuse> {
 /// all, without heads.
 fn unsuitable(given: &Given) -> Option<String> {
     let (job, cat) = (given.job?, given.cat?);
-    let pipes = sketch(&job.bytes, &cat.bytes, &calls::flow(&job.bytes).ok()?)?;
+    let demand = Demand::of(&job.bytes).ok()?;
+    let pipes = sketch(&job.bytes, &cat.bytes, &demand.flow)?;
     let sizes: Vec<u8> = pipes.iter().map(|pipe| pipe.size).collect();
     match Rated::with_sizes(&Given { sizes: &sizes, ..*given }) {
         Ok(rated) => Some(rated.drawing()),
-        Err(_) => Some(drawing::sketch(&Record::read(&job.bytes).ok()?, &pipes)),
+        Err(_) => Some(drawing::sketch(&Record::read(&job.bytes).ok()?, &pipes, demand.duty)),
     }
 }

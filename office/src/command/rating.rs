@@ -3,12 +3,13 @@
 use super::charts::{chart, figures, number, words};
 use super::input::Source;
 use super::json::Json;
-use super::network::{from, house_fields, house_figures};
+use super::network::{Demand, from, house_fields, house_figures};
 use super::refused::Given;
 use super::report::Fields;
+use office::draw::{self, Totals};
 use office::pipes::{Pipe, pipes};
 use office::record::Record;
-use office::{Flow, Rating, Refusal, calls, draw, kinds};
+use office::{Rating, Refusal, calls, kinds};
 
 pub struct Rated {
     pub record: Record,
@@ -16,7 +17,7 @@ pub struct Rated {
     /// Price times length over all sections, in tenths of the price unit. The library's own where it chose the list.
     pub cost: u64,
     pub rating: Rating,
-    pub flow: Flow,
+    pub demand: Demand,
     pub pipes: Vec<Pipe>,
 }
 
@@ -37,11 +38,11 @@ impl Rated {
     }
 
     fn of(job: &[u8], cat: &[u8], sizes: Vec<u8>, cost: Option<u32>, rating: Rating) -> Result<Rated, Refusal> {
-        let flow = calls::flow(job)?;
+        let demand = Demand::of(job)?;
         // What the library has rated can be read; were it otherwise there would be no pipes to show.
-        let pipes = pipes(job, cat, &sizes, &flow, &rating).unwrap_or_default();
+        let pipes = pipes(job, cat, &sizes, &demand.flow, &rating).unwrap_or_default();
         let cost = cost.map_or_else(|| pipes.iter().map(Pipe::cost).sum(), u64::from);
-        Ok(Rated { record: Record::read(job).unwrap_or_default(), sizes, cost, rating, flow, pipes })
+        Ok(Rated { record: Record::read(job).unwrap_or_default(), sizes, cost, rating, demand, pipes })
     }
 
     /// How many cm of the delivered head are left over; fewer than none where it is too little.
@@ -50,11 +51,12 @@ impl Rated {
     }
 
     pub fn drawing(&self) -> String {
-        draw::draw(&self.record, &self.pipes, &self.rating, self.cost)
+        let Demand { flow, duty } = &self.demand;
+        draw::draw(&self.record, &self.pipes, &self.rating, &Totals { duty: *duty, flow, cost: self.cost })
     }
 
     pub fn fields(&self) -> Fields {
-        let mut fields = house_fields(&self.flow);
+        let mut fields = house_fields(&self.demand);
         fields.extend([
             ("cost_tenths", Json::Number(self.cost as i64)),
             ("sizes", Json::List(self.sizes.iter().map(|size| (*size).into()).collect())),
@@ -75,16 +77,17 @@ impl Rated {
         let spared = if spare < 0 { "cm: TOO LITTLE HEAD" } else { "cm" };
         let cm = |remark: &str| format!("cm{remark}");
         let guaranteed = format!(" over the guaranteed {} cm", self.record.guaranteed);
-        let mut rows = vec![
+        let mut rows = house_figures(&self.demand);
+        rows.extend([
             ("cost", format!("{}.{}", self.cost / 10, self.cost % 10), "price units".to_string()),
             ("required head", self.rating.required.to_string(), cm("")),
             ("pump head", self.rating.pump.to_string(), cm(&guaranteed)),
             ("delivered head", self.record.delivered.to_string(), cm("")),
             ("to spare", spare.to_string(), spared.to_string()),
             ("dictating section", self.rating.dictating.to_string(), String::new()),
-        ];
-        rows.extend(house_figures(&self.flow));
-        format!("{}sizes  {}\n\n{}", figures(&rows), list.join(","), sections(&self.pipes))
+        ]);
+        let set = format!("pump set: {} ml/s at {} cm", self.demand.duty, self.rating.pump);
+        format!("{set}\n{}sizes  {}\n\n{}", figures(&rows), list.join(","), sections(&self.pipes))
     }
 }
 

@@ -16,6 +16,13 @@ pub struct Served {
     weighted: i128,
 }
 
+impl Served {
+    /// ml/s
+    fn flow(&self) -> i128 {
+        up(self.weighted * alpha(self.m), 20_000 * self.m)
+    }
+}
+
 pub struct Demand {
     pub house: Served,
     /// Section i at place i - 1.
@@ -61,7 +68,12 @@ impl Demand {
 
     /// Each section's flow in ml/s, of an accepted job.
     pub fn flows(&self) -> Vec<i128> {
-        self.sections.iter().map(|s| up(s.weighted * alpha(s.m), 20_000 * s.m)).collect()
+        self.sections.iter().map(Served::flow).collect()
+    }
+
+    /// The house's design flow in ml/s, of an accepted job: that of its own m, with all of its fixtures.
+    pub fn house_flow(&self) -> i128 {
+        self.house.flow()
     }
 
     /// l/h, of an accepted job.

@@ -40,7 +40,7 @@ pub struct Judged {
 pub enum Expected {
     /// The call is refused and writes nothing.
     Nothing,
-    /// A copy, a flow result.
+    /// A copy, a flow result, a duty.
     Bytes(Vec<u8>),
     Rated(Rating),
     /// A suitable list of this cost, the least; the list here is one of them.
@@ -54,7 +54,7 @@ pub enum Expected {
 pub fn order_of(call: Call) -> &'static [u32] {
     match call {
         Call::Copy => &[1, 2, 3, 4, 5, 6, 7, 14],
-        Call::Flow => &[1, 2, 3, 4, 5, 6, 7, 8, 9, 14],
+        Call::Flow | Call::Duty => &[1, 2, 3, 4, 5, 6, 7, 8, 9, 14],
         Call::Rate => &[1, 2, 3, 4, 5, 6, 7, 8, 9, 10, 11, 12, 14, 13],
         Call::Choose => &[1, 2, 3, 4, 5, 6, 7, 8, 9, 10, 11, 14, 15, 16],
     }
@@ -65,6 +65,7 @@ pub fn result_bytes(call: Call, sections: usize) -> usize {
     match call {
         Call::Copy => 40 + 10 * sections,
         Call::Flow => 12 + 4 * sections,
+        Call::Duty => 4,
         Call::Rate => 9 + 6 * sections,
         Call::Choose => 4 + sections,
     }
@@ -110,6 +111,11 @@ fn result_of(case: &Case, order: &Order, demand: &Demand, faults: &mut Faults) -
     match case.call {
         Call::Copy => Expected::Bytes(case.job.clone()),
         Call::Flow => Expected::Bytes(flow_bytes(demand, order.flows)),
+        Call::Duty => {
+            let mut bytes = Vec::new();
+            put(&mut bytes, demand.house_flow(), 4);
+            Expected::Bytes(bytes)
+        }
         Call::Rate => match order.rate(&case.sizes) {
             Some(rating) => Expected::Rated(rating),
             None => {

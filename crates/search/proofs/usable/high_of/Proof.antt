@@ -43,9 +43,9 @@ loop-again c =
     let g = h .before .before .before .before .before in
     let b = g .before in (
       omega arith,
-      usable-more (net b) (b .pre .0) (b .pre .3) (b .args .head) (λ s t. refl) (g .loop .highs) (g .loop .s) (h .greater .result) (w .wide8 .result) (k .longest .result)
+      usable-more (net b) (b .pre .0) (b .pre .3) (b .args .head) (λ s t. refl) (g .loop .highs) (g .loop .s) (h .greater .result) (w .wide8 .result) (k .greatest-loss .result)
           (getD (set (g .loop .highs) (g .loop .s) (h .greater .result)) (w .wide8 .result) 0) (c .greater2 .result) (omega arith) (g .loop .inv .0) (g .loop .inv .1)
-          (h .greater .ensures ∙ rw (h .before .lesser .ensures, h .before .before .wide32 .ensures .0)) (w .wide8 .ensures .0) (k .longest .ensures .1) refl
+          (h .greater .ensures ∙ rw (h .before .lesser .ensures, h .before .before .wide32 .ensures .0)) (w .wide8 .ensures .0) (k .greatest-loss .ensures .1) refl
           (c .greater2 .ensures ∙ rw (c .before .lesser2 .ensures)),
     )
 

@@ -1,4 +1,4 @@
--- `search::usable::longest` meets its contract: after t turns none of the first t sizes loses more.
+-- `search::usable::greatest_loss` meets its contract: after t turns none of the first t sizes loses more.
 -- Assumes nothing.
 use mathlib.Core.Path.{_≡_}
 use Prim.Native.Nat.{ℕ, _+_, _-_, _≤_, _<_}
@@ -7,8 +7,8 @@ use lib.ListN.{getD}
 use borrow.Author.Count.{below-more}
 use borrow.Author.Needs.{needs}
 use Rattle.nets.specs.Tables.{top}
-use Rattle.search.proofs.usable.longest.Statement.{statement}
-use Rattle.search.proofs.usable.longest.Tie as tie
+use Rattle.search.proofs.usable.greatest_loss.Statement.{statement}
+use Rattle.search.proofs.usable.greatest_loss.Tie as tie
 
 abbrev Inv-loop : tie.InvT-loop
 Inv-loop losses at n most₀ t₀ most t =
@@ -40,8 +40,8 @@ loop-again-2 c =
 returns : tie.Need-returns Inv-loop μ-loop
 returns c = let e : c .before .loop .t ≡ c .before .before .args .n = omega arith in (c .before .loop .inv .1, rw e at (c .before .loop .inv .2))
 
-pub longest-spec : {M : Type 1} → statement M
-longest-spec =
+pub greatest-loss-spec : {M : Type 1} → statement M
+greatest-loss-spec =
     tie.close
     (tie.spec Inv-loop μ-loop (λ c. (omega arith, omega arith, λ u x y. absurd (omega arith))) (λ c. omega arith) (λ c. omega arith) (λ c. search needs) (λ c. omega arith) (λ c κs. search needs) (λ c. search needs)
     (λ c κs. search needs) (λ c. omega arith) loop-again (λ c. omega arith) loop-again-2 returns)
