@@ -75,7 +75,7 @@ fn copy(record: &[u8], out: &mut [u8]) {
 fn alpha(m: &[u8]) {
     if m.len() == 4 {
         let table = coefficient::table2();
-        print::number(coefficient::alpha(&table, wire::be32(m, 0)));
+        print::four(coefficient::alpha(&table, wire::be32(m, 0)));
     }
 }
 
@@ -140,8 +140,7 @@ fn choose_in(letter: u8, fill: u8, job: &[u8], catalogue: &[u8], work: &mut [u8]
 // 01 where the workspace is as it was, else 00.
 fn kept(work: &[u8], fill: u8) {
     print::byte(b' ');
-    let same = [holds_only(work, fill) as u8];
-    print::hex(&same);
+    print::one(holds_only(work, fill) as u8);
 }
 
 fn holds_only(bytes: &[u8], fill: u8) -> bool {

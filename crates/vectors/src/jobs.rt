@@ -11,7 +11,7 @@ ghost use lib.ListN.{length};
 pub fn read(record: &[u8], out: &mut [u8]) {
     let reading = job::read(record);
     let answer = reading.answer;
-    print::number(answer::number(answer));
+    print::four(answer::number(answer));
     match answer {
         Answer::Done => {
             print::byte(b' ');
@@ -63,34 +63,30 @@ fn fields(job: Job) {
 }
 
 fn head(h: Header) {
-    let first = [h.tenths, h.sections, h.hours];
-    print::hex(&first);
-    two(h.meter);
-    two(h.guaranteed);
-    two(h.delivered);
-    two(h.limit);
-}
-
-fn two(n: u16) {
-    let bytes = wire::bytes16(n);
-    print::hex(&bytes);
+    print::one(h.tenths);
+    print::one(h.sections);
+    print::one(h.hours);
+    print::two(h.meter);
+    print::two(h.guaranteed);
+    print::two(h.delivered);
+    print::two(h.limit);
 }
 
 fn residents(residents: [u16; 12]) {
     let mut c: usize = 0;
     while c < 12 {
-        two(residents[c]);
+        print::two(residents[c]);
         c += 1;
     }
 }
 
 fn section(s: Section) {
-    let first = [s.parent, s.kind];
-    print::hex(&first);
-    two(s.fixtures);
-    two(s.decimetres);
-    two(wire::bits16(s.elevation));
-    two(s.free);
+    print::one(s.parent);
+    print::one(s.kind);
+    print::two(s.fixtures);
+    print::two(s.decimetres);
+    print::two(wire::bits16(s.elevation));
+    print::two(s.free);
 }
 
 // Sections 1 to count.

@@ -1,4 +1,4 @@
-// The output.
+// The output: bytes in hex.
 use answer::Answer;
 use libc::STDOUT_FILENO;
 
@@ -8,30 +8,29 @@ pub fn byte(b: u8) {
     io::write_all(STDOUT_FILENO, &one);
 }
 
-fn pair(b: u8) {
-    let digits = *b"0123456789abcdef";
-    let two = [digits[(b / 16) as usize], digits[(b % 16) as usize]];
-    io::write_all(STDOUT_FILENO, &two);
+pub fn one(n: u8) {
+    io::print_hex(STDOUT_FILENO, n as u64, 2);
 }
 
-// Two hex digits for each byte.
+pub fn two(n: u16) {
+    io::print_hex(STDOUT_FILENO, n as u64, 4);
+}
+
+pub fn four(n: u32) {
+    io::print_hex(STDOUT_FILENO, n as u64, 8);
+}
+
 pub fn hex(bytes: &[u8]) {
     let mut i: usize = 0;
     while i < bytes.len() {
-        pair(bytes[i]);
+        one(bytes[i]);
         i += 1;
     }
 }
 
-// A number as four bytes.
-pub fn number(n: u32) {
-    let four = wire::bytes32(n);
-    hex(&four);
-}
-
 // What a call gives: its number, and the buffer that it was lent.
 pub fn given(answer: Answer, buffer: &[u8]) {
-    number(answer::number(answer));
+    four(answer::number(answer));
     byte(b' ');
     hex(buffer);
 }
