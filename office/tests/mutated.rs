@@ -109,7 +109,7 @@ fn a_second_reader_reads_the_same() {
         let shown = if is_table { table::show(&record).ok() } else { house::show(&record).ok() }.expect("shown");
         assert_eq!(packed(shown.as_bytes()), Some((record, is_table)), "{shown}");
     }
-    assert!(taken > 7_000 && refused > 7_000, "{taken} {refused}");
+    assert!(taken > 6_000 && refused > 6_000, "{taken} {refused}");
     // The other way round: what the page lets pass is not refused, but for words of sixty letters.
     assert!(differ * 1_000 <= refused, "{differ} of {refused} texts are refused that the second reader takes");
 }
@@ -286,5 +286,5 @@ fn every_command_holds_on_mutated_texts() {
         })
         .collect();
     let taken: usize = ends.into_iter().map(|end| end.join().expect("no shell fails")).sum();
-    assert!((1_000..=4_000).contains(&taken), "{taken} of 5000 texts were packed");
+    assert!((800..=4_000).contains(&taken), "{taken} of 5000 texts were packed");
 }

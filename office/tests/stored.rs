@@ -88,6 +88,7 @@ fn by_the_library(call: Call, vector: &Vector) -> String {
     let number = match call {
         Call::Copy => ffi::copy(&vector.first, &mut out),
         Call::Flow => ffi::flow(&vector.first, &mut out),
+        Call::Duty => ffi::duty(&vector.first, &mut out),
         Call::Rate => ffi::rate(&vector.first, &vector.second, &vector.third, &mut out),
         Call::Choose => ffi::choose(&vector.first, &vector.second, &mut work, &mut out),
     };

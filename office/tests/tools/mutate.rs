@@ -146,14 +146,7 @@ fn change(dice: &mut Dice, text: &mut String) {
             let end = border(at + 1 + dice.below(3), text).max(at);
             text.replace_range(at..end, dice.pick::<&str>(PIECES));
         }
-        7 | 8 => {
-            let digits: Vec<usize> =
-                text.bytes().enumerate().filter(|(_, b)| b.is_ascii_digit()).map(|(at, _)| at).collect();
-            if !digits.is_empty() {
-                let place = digits[dice.below(digits.len())];
-                text.replace_range(place..place + 1, &dice.below(10).to_string());
-            }
-        }
+        7 | 8 => number(dice, text),
         _ => {
             let mut lines: Vec<&str> = text.split('\n').collect();
             let (one, other) = (dice.below(lines.len()), dice.below(lines.len()));
@@ -169,11 +162,37 @@ fn change(dice: &mut Dice, text: &mut String) {
     }
 }
 
+/// What is put before and behind numbers.
+const BEFORE: &[&str] = &["+", "-", "0", ".", "1.", "1,", "1 "];
+const BEHIND: &[&str] =
+    &[".000", ".500", ".0", ".5", ".50", ".", ",5", ",000", " 000", "e3", ":", ";", "#", "%", " м", "m"];
+
+/// One change to a number: a digit of it, or what stands before or behind it.
+fn number(dice: &mut Dice, text: &mut String) {
+    let digit = |at: usize, text: &str| text.as_bytes().get(at).is_some_and(u8::is_ascii_digit);
+    let digits: Vec<usize> = (0..text.len()).filter(|at| digit(*at, text)).collect();
+    if digits.is_empty() {
+        return;
+    }
+    let place = digits[dice.below(digits.len())];
+    match dice.below(4) {
+        0 => text.replace_range(place..place + 1, &dice.below(10).to_string()),
+        1 => {
+            let start = (0..=place).rev().take_while(|at| digit(*at, text)).last().unwrap_or(place);
+            text.insert_str(start, dice.pick::<&str>(BEFORE));
+        }
+        _ => {
+            let end = (place..text.len()).take_while(|at| digit(*at, text)).last().unwrap_or(place) + 1;
+            text.insert_str(end, dice.pick::<&str>(BEHIND));
+        }
+    }
+}
+
 /// A text as bytes: mostly changed once or twice, at times not at all, and at times saved as UTF-16 or with other bytes in it.
 pub fn mutated(dice: &mut Dice, examples: &[String]) -> Vec<u8> {
     let sound = sound(dice, examples);
     let mut text = dressed(dice, &sound);
-    for _ in 0..*dice.pick(&[0, 1, 1, 1, 2, 2, 3]) {
+    for _ in 0..*dice.pick(&[0, 0, 1, 1, 1, 1, 2, 3]) {
         change(dice, &mut text);
     }
     let mut bytes = text.into_bytes();
