@@ -37,7 +37,7 @@ run: target/built
 	echo
 	echo "target/house.svg is the drawing"
 
-# Flow, rating and choosing against the independent model and a plain search in Rust, in one run.
+# Flow, rating and choosing against the independent model and searches in Rust, in one run.
 bench: target/built
 	@$(office) bench
 
