@@ -29,7 +29,7 @@ pub fn size_from(cat: &[u8], s: usize) -> usize
     7 + (s - 1) * (4 + 8 * wide8(rows_of(cat)))
 }
 
-// The bore of size s in mm.
+// The bore of size s in mm. Exported for L9, which compares bores.
 pub fn bore(cat: &[u8], s: usize) -> u16
     requires { ⌜ Sized (now cat) s ⌝ }
     ensures { λ r. ⌜ r ≡ boreOf (now (cat .entry)) s ⌝ }

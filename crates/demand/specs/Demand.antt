@@ -17,7 +17,7 @@ use Rattle.coefficient.specs.Alpha.{alphaOf}
 use Rattle.norms.specs.declared.Norm.{Norm}
 use Rattle.norms.specs.Norms.{normOf}
 
--- the service of a job: total
+-- the service of a job: total, until L4 gives it a field
 abbrev pub serviceOf : Job → ℕ
 serviceOf job = 0
 

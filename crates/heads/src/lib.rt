@@ -52,7 +52,8 @@ pub fn reach(s: Section, more: u32) -> i32
 // The greatest reach over all sections, and the lowest section that has it.
 fn dictating(job: Job, losses: [u32; 64]) -> Greatest
     requires { ⌜ Given job losses ⌝ }
-    ensures { λ r. ⌜ (r .reach ≡ greatestTo (countOf job) (reachOf job (λ i. getD losses i 0))) × (r .section ≡ dictatingOf job (λ i. getD losses i 0)) ⌝ }
+    ensures { λ r. ⌜ (r .reach ≡ greatestTo (countOf job) (reachOf job (λ i. getD losses i 0)))
+        × (r .section ≡ dictatingOf job (λ i. getD losses i 0)) ⌝ }
 {
     let count = job.header.sections as usize;
     let paths = paths(job, losses);
@@ -77,7 +78,8 @@ fn dictating(job: Job, losses: [u32; 64]) -> Greatest
 // Required head, pump head and dictating section.
 pub fn heads_of(job: Job, losses: [u32; 64]) -> Heads
     requires { ⌜ Given job losses ⌝ }
-    ensures { λ r. ⌜ (r .required ≡ requiredOf job (λ i. getD losses i 0)) × (r .pump ≡ pumpOf job (λ i. getD losses i 0)) × (r .dictating ≡ dictatingOf job (λ i. getD losses i 0)) ⌝ }
+    ensures { λ r. ⌜ (r .required ≡ requiredOf job (λ i. getD losses i 0)) × (r .pump ≡ pumpOf job (λ i. getD losses i 0))
+        × (r .dictating ≡ dictatingOf job (λ i. getD losses i 0)) ⌝ }
 {
     let best = dictating(job, losses);
     let required = (job.header.meter as i32) + best.reach;

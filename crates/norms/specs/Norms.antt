@@ -21,7 +21,7 @@ fixtureNorms = 30 ∷ 20 ∷ 20 ∷ 30 ∷ 20 ∷ 30 ∷ 30 ∷ 30 ∷ 20 ∷ 20
 unfoldable pub hourlyNorms : List ℕ
 hourlyNorms = 300 ∷ 100 ∷ 100 ∷ 300 ∷ 115 ∷ 250 ∷ 280 ∷ 300 ∷ 100 ∷ 80 ∷ 80 ∷ 100 ∷ []
 
--- the norms of a kind, total (cold plus hot) whatever the service
+-- the norms of a kind, total (cold plus hot) whatever the service; L4 brings other services
 unfoldable pub normOf : ℕ → ℕ → Norm
 normOf service kind =
     record {
