@@ -1,6 +1,7 @@
-//! The bytes of a readable file as text, and its lines. What a comment holds is nobody's business; everywhere else each byte
-//! must be a letter that can be read in one way only.
+//! The bytes of a readable file as text, and its lines. What a comment holds is nobody's business, unless some program shows a
+//! line of a house or a table in it; everywhere else each byte must be a letter that can be read in one way only.
 
+use crate::echo;
 use crate::mistake::{Mistake, Mistakes};
 
 /// Far above any house or table, and below what would trouble a small computer.
@@ -79,7 +80,38 @@ fn utf_16(bytes: &[u8]) -> Result<String, Mistakes> {
 const LEADS_OUT: &str = "the file saved as UTF-8; letters behind # may be anything; a record that is damaged in its first \
     byte is read with --record";
 
-/// What is no text outside of a line's comment: the first such byte, counted from 1.
+/// The words that begin a house's lines.
+pub const OF_A_HOUSE: [&str; 11] = [
+    "local",
+    "hours",
+    "meter",
+    "guaranteed",
+    "delivered",
+    "velocity limit",
+    "residents",
+    "section ",
+    "section\t",
+    "version",
+    "stated length",
+];
+
+/// The characters besides newline and carriage return at which some program begins a line.
+fn begins_a_line(c: char) -> bool {
+    matches!(c, '\u{b}' | '\u{c}' | '\u{1c}'..='\u{1e}' | '\u{85}' | '\u{2028}' | '\u{2029}')
+}
+
+/// What a comment holds that some program shows as a line of a house or as a row: its author would miss it without a word.
+fn hidden(comment: &str) -> Option<&str> {
+    let row = |line: &str| {
+        let begun = line.starts_with(|c: char| c.is_ascii_digit() || ",;\"".contains(c));
+        begun && line.split([',', ';', '\t']).count() > 2
+    };
+    let house = |line: &str| OF_A_HOUSE.iter().any(|word| line.to_lowercase().starts_with(word));
+    let mut shown = comment.split(begins_a_line).skip(1).map(|line| line.trim_start_matches([' ', '\t']));
+    shown.find(|line| row(line) || house(line))
+}
+
+/// What is no text outside of a line's comment, by its first byte, counted from 1; or a line that a comment hides.
 fn unreadable(number: usize, line: &[u8]) -> Option<Mistake> {
     let mistake = |at: usize, what: &str, expected: &str| {
         let wrong = format!("byte {} of the line, {:02X}, is {what}", at + 1, line[at]);
@@ -96,11 +128,20 @@ fn unreadable(number: usize, line: &[u8]) -> Option<Mistake> {
         return mistake(at, "a carriage return alone", expected);
     }
     let said = line.split(|byte| *byte == b'#').next().unwrap_or(line);
+    if let Some(hidden) = hidden(&String::from_utf8_lossy(&line[said.len()..])) {
+        let wrong = format!("behind # stands what some programs show as a line of its own, `{}`", echo::shown(hidden));
+        let expected = "a newline before it, or a blank if it is part of the comment";
+        return Some(Mistake::on(number, &String::from_utf8_lossy(line), wrong, expected));
+    }
     let whole = std::str::from_utf8(said).map_err(|why| why.valid_up_to());
     let front = whole.err().unwrap_or(said.len());
     let text = std::str::from_utf8(&said[..front]).unwrap_or("");
+    // Outside of a comment a form feed is a blank: what stands behind it is read, whether in this line or in the next.
     let control = |c: char| (c.is_control() && c != '\t' && c != '\u{c}') || matches!(c, '\u{2028}' | '\u{2029}');
     match (text.char_indices().find(|(_, c)| control(*c)), whole) {
+        (Some((at, c)), _) if begins_a_line(c) => {
+            mistake(at, "a character at which some programs begin a line", "a newline")
+        }
         (Some((at, _)), _) => mistake(at, "no letter but a control character", LEADS_OUT),
         (None, Err(at)) => mistake(at, "no UTF-8: an older code page (cp1251, cp866), or no text", LEADS_OUT),
         (None, Ok(_)) => None,
@@ -149,7 +190,9 @@ mod tests {
         for (bytes, wanted) in [(&b"\xff\xfea\0#\0"[..], "a#"), (b"\xfe\xff\0a\0#", "a#")] {
             assert_eq!(text(bytes).expect("text").trim_end(), wanted);
         }
-        assert!(text(b"# \xea\xf3\x00\x1b\nhours 24").is_ok(), "bytes of a comment");
+        let bytes: Vec<u8> = (0..=255).filter(|byte| !b"\n\r".contains(byte)).collect();
+        assert!(text(&[b"# ", &bytes[..], b"\nhours 24"].concat()).is_ok(), "bytes of a comment");
+        assert!(text("# wide\u{b}see page 3, 4\u{c}\u{2028}# hours 24\n".as_bytes()).is_ok(), "no line in a comment");
     }
 
     #[test]
@@ -159,6 +202,10 @@ mod tests {
             (b"a\nb\x00\n", 2, "byte 2 of the line, 00, is no letter"),
             (b"a\x1ab\n", 1, "byte 2 of the line, 1A"),
             (b"# a\rhours 24\nb\n", 1, "byte 4 of the line, 0D, is a carriage return alone"),
+            (b"a\n# b\xe2\x80\xa8hours 24\n", 2, "show as a line of its own, `hours 24`"),
+            (b"# \xea\xf3\x0bhours 24\n", 1, "show as a line of its own, `hours 24`"),
+            (b"a\xe2\x80\xa9b\n", 1, "byte 2 of the line, E2, is a character at which"),
+            (b"\x0ca # b\x0chours 24\n", 1, "show as a line of its own, `hours 24`"),
             (b"a\0b\0\n\0", 1, "UTF-16 without its mark"),
             (b"\0a\0b\0\n", 1, "UTF-16 without its mark"),
         ] {

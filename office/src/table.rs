@@ -25,22 +25,8 @@ pub struct Packed {
     pub lines: Lines,
 }
 
-/// The words that begin a house's lines: where one begins the first line, the file is no table.
-const OF_A_HOUSE: [&str; 11] = [
-    "local",
-    "hours",
-    "meter",
-    "guaranteed",
-    "delivered",
-    "velocity limit",
-    "residents",
-    "section ",
-    "section\t",
-    "version",
-    "stated length",
-];
-
-/// Whether a readable file is a table: the first line that is no odd catalogue's has cells.
+/// Whether a readable file is a table: the first line that is no odd catalogue's has cells, and does not begin
+/// as a house's.
 pub fn is_table(text: &str) -> bool {
     let mut first = true;
     for said in readable::lines(text) {
@@ -53,7 +39,8 @@ pub fn is_table(text: &str) -> bool {
             continue;
         }
         let line = said.said.trim().to_lowercase();
-        return !OF_A_HOUSE.iter().any(|word| line.starts_with(word)) && line.split([',', ';', '\t']).count() > 2;
+        return !readable::OF_A_HOUSE.iter().any(|word| line.starts_with(word))
+            && line.split([',', ';', '\t']).count() > 2;
     }
     false
 }
@@ -81,6 +68,9 @@ pub fn read(text: &str) -> Result<Packed, Mistakes> {
     };
     let (columns, mut mistakes) = header::columns(&header);
     let Some(columns) = columns else { return Err(mistakes) };
+    if columns.begin_with_notes() {
+        cells::hidden(text, &header).for_each(|row| mistakes.add(row));
+    }
     let mut given = sizes::Given::default();
     for line in lines {
         given.take(&line, &columns, &mut mistakes);

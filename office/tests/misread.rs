@@ -385,6 +385,69 @@ fn a_file_of_one_newline_is_not_size_10() {
         assert!(ran.status == 2 && ran.error.contains(why), "{text}: {}", ran.error);
     }
     assert_eq!(office(&["rate", HOUSE, TABLE, "6,6#6"]).status, 2);
-    let ran = office(&["rate", HOUSE, TABLE, "6,,6"]);
-    assert!(ran.status == 1 && ran.text().contains("given: 2;"), "{}", ran.text());
+}
+
+#[test]
+fn a_size_left_out_is_not_the_next_one() {
+    let twelve = "6,6,6,6,6,6,6,6,6,6,6,6";
+    for (sizes, comma) in [
+        (format!(",{twelve}"), 1),
+        (put(twelve, "6,6,", "6,,6,"), 2),
+        (put(twelve, "6,6,", "6, ,6,"), 2),
+        (put(twelve, "6,6,", "6,6,,"), 3),
+        (format!("{twelve},,"), 13),
+        (",".to_string(), 1),
+    ] {
+        let file = scratch("left-out.sizes");
+        std::fs::write(&file, &sizes).expect("written");
+        for word in [sizes, format!("@{file}")] {
+            let ran = office(&["rate", HOUSE, TABLE, &word]);
+            assert_eq!((ran.status, ran.output.len()), (2, 0), "{word}");
+            assert!(ran.error.contains(&format!("before comma {comma} of ")), "{}", ran.error);
+        }
+    }
+    for sizes in [format!("{twelve},"), put(twelve, "6,6,", "6 , 6 ,"), twelve.replace(',', " ")] {
+        assert_eq!(office(&["rate", HOUSE, TABLE, &sizes]).status, 0, "{sizes}");
+    }
+}
+
+#[test]
+fn what_some_programs_show_as_a_line_is_no_comment() {
+    let last = OWN.lines().last().expect("a section");
+    for sign in ["\u{b}", "\u{c}", "\u{1c}", "\u{1d}", "\u{1e}", "\u{85}", "\u{2028}", "\u{2029}"] {
+        let text = put(OWN, last, &format!("{last} # roof{sign}section 2 from 1 length 4 m elevation 0 cm kind none"));
+        let ran = office_with(&["flow", "-"], text.as_bytes());
+        assert_eq!((ran.status, ran.output.len()), (2, 0), "{sign:?}");
+        assert!(ran.error.contains("show as a line of its own, `section 2 from 1"), "{sign:?}: {}", ran.error);
+        let table = put(SIZES, "\n2,50", &format!(" # wide{sign} 2,50"));
+        assert!(table::pack(&office::readable::text(table.as_bytes()).unwrap_or_default()).is_err(), "{sign:?}");
+        let part = put(OWN, last, &format!("{last} # roof{sign}and attic"));
+        assert_eq!(office_with(&["flow", "-"], part.as_bytes()).status, 0, "{sign:?}");
+    }
+}
+
+#[test]
+fn a_note_with_a_number_sign_hides_no_row() {
+    let first = |header: &str, row: &str| {
+        let line = |(at, line): (usize, &str)| match at {
+            0 => format!("{header}{line}\n"),
+            2 => format!("{row}{line}\n"),
+            _ => format!("{}{line}\n", ",".repeat(header.matches(',').count())),
+        };
+        SIZES.lines().enumerate().map(line).collect::<String>()
+    };
+    for (header, row) in [("notes,", "#4 steel,"), ("notes,", " # steel,"), ("Remarks,", "\"#4\","), (",note,", ",#4,")]
+    {
+        let mistakes = table::pack(&first(header, row)).expect_err(row);
+        let mistake = &mistakes.list[0];
+        assert_eq!(mistake.line.as_ref().map(|(number, _)| *number), Some(3), "{row}: {mistakes}");
+        assert!(mistake.wrong.contains("it may be a row"), "{row}: {mistakes}");
+    }
+    let plain = table::pack(SIZES).expect("a table");
+    let steel = first("notes,", "steel 4,");
+    for text in
+        [steel.clone(), put(&steel, "steel 4,", "# all of steel\nsteel 4,"), put(SIZES, "2,50", "#3,1,1,1\n2,50")]
+    {
+        assert_eq!(table::pack(&text).expect("a table"), plain, "{text}");
+    }
 }

@@ -200,10 +200,18 @@ pub fn behind_at(word: &OsStr) -> Option<OsString> {
     word.to_string_lossy().strip_prefix('@').map(OsString::from)
 }
 
+/// The size numbers of a line. Nothing before a comma may be a section whose size was forgotten; behind the last comma there
+/// is no section.
 fn numbers(text: &str) -> Result<Vec<u8>, Misuse> {
-    let words = text.split(|c: char| c == ',' || c.is_whitespace()).filter(|part| !part.is_empty());
+    let entries: Vec<&str> = text.split(',').collect();
+    if let Some(at) = entries[..entries.len() - 1].iter().position(|entry| entry.trim().is_empty()) {
+        let wrong = format!("before comma {} of `{}` stands no size number", at + 1, word(text));
+        return Err(Misuse::Words(format!("{wrong}; SIZES is {SIZES}")));
+    }
     let plain = |part: &str| part.bytes().all(|b| b.is_ascii_digit());
-    words
+    entries
+        .into_iter()
+        .flat_map(str::split_whitespace)
         .map(|part| {
             let no = || Misuse::Words(format!("`{}` is no size number; SIZES is {SIZES}", word(part)));
             part.parse().ok().filter(|_| plain(part)).ok_or_else(no)

@@ -61,6 +61,20 @@ fn parts(line: &str, separator: char) -> Vec<&str> {
     found
 }
 
+/// The rows below a header that begin with a note and the note with `#`: a comment to the format, a row to its author.
+pub fn hidden<'a>(text: &'a str, header: &Cells) -> impl Iterator<Item = Mistake> + use<'a> {
+    let (from, separator) = (header.line, header.separator);
+    let row = move |line: &str| {
+        let nothing = |front: &str| front.chars().all(|c| c.is_whitespace() || c == '"' || c == separator);
+        line.split_once('#').is_some_and(|(front, behind)| nothing(front) && behind.contains(separator))
+    };
+    let mistake = |line: usize, text: &str| {
+        let wrong = "`#` begins a comment here, and the header's first column is for notes: it may be a row";
+        Mistake::on(line, text, wrong, "no # in front of a note; a comment without the separator of cells")
+    };
+    text.lines().zip(1..).skip(from).filter(move |(text, _)| row(text)).map(move |(text, line)| mistake(line, text))
+}
+
 /// No cell that is read is as long; one that is longer is cut for messages and is no number any more.
 const LONGEST_CELL: usize = 60;
 

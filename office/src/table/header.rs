@@ -16,6 +16,11 @@ impl Columns {
     pub fn covers(&self, place: usize) -> bool {
         self.places.contains(&place) || self.notes.contains(&place)
     }
+
+    /// Whether a note can be the first thing in a row.
+    pub fn begin_with_notes(&self) -> bool {
+        self.notes.iter().any(|note| self.places.iter().all(|place| note < place))
+    }
 }
 
 /// What a column may be called that is for people alone.

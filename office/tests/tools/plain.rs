@@ -55,12 +55,28 @@ fn plain_line(line: &[u8]) -> Option<String> {
         if word(said.chars().next_back()) && word(behind.chars().next()) {
             return None;
         }
+        if behind.split(|c| matches!(c as u32, 11 | 12 | 28..=30 | 0x85 | 0x2028 | 0x2029)).skip(1).any(is_a_line) {
+            return None;
+        }
     }
     let odd = |c: char| (c.is_control() && !"\t\u{c}".contains(c)) || "\u{2028}\u{2029}".contains(c);
     if said.contains(odd) {
         return None;
     }
     Some(said.to_lowercase())
+}
+
+/// Whether a part of a comment looks like a house's line or a table's row.
+fn is_a_line(part: &str) -> bool {
+    let mut part = part.to_lowercase();
+    while part.starts_with([' ', '\t']) {
+        part.remove(0);
+    }
+    let parted = part.chars().filter(|c| ",;\t".contains(*c)).count() >= 2;
+    let fields = "local hours meter guaranteed delivered residents version";
+    let words = fields.split(' ').chain(["velocity limit", "section ", "section\t", "stated length"]);
+    parted && "0123456789,;\"".contains(part.chars().next().unwrap_or('x'))
+        || words.into_iter().any(|w| part.starts_with(w))
 }
 
 /// A number as the page has it, with so many decimals kept. `signed` is an elevation.
