@@ -1,19 +1,12 @@
 // The exported calls, for the order office's Rust program: numbers and byte slices, each slice a pointer and then a length.
 // A result gives back 0, a refusal its number.
-ghost use mathlib.Core.Path.{_≡_};
-ghost use lib.ListN.{length};
-ghost use Rattle.record.specs.Record.{decode};
-ghost use Rattle.answer.specs.Checks.{bufferAfter};
-ghost use Rattle.job.specs.Calls.{copyNo};
-ghost use Rattle.flow.specs.Calls.{flowNo, flowBytes, dutyNo, dutyBytes};
-ghost use Rattle.rating.specs.Calls.{rateNo, rateBytes};
 ghost use Rattle.choosing.specs.Calls.{Chosen};
+ghost use Rattle.order.specs.Promises.{Copied, FlowGiven, DutyGiven, Rated};
 
 // Reads a record and writes it again: 1 to 7, 14, or the record's bytes.
 #[no_mangle]
 pub extern "C" fn order_copy(job: &[u8], out: &mut [u8]) -> u32
-    ensures number { λ r. ⌜ r ≡ copyNo (now (job .entry)) (length (now (out .entry))) ⌝ }
-    ensures buffer { λ r. ⌜ now (out .exit) ≡ bufferAfter r (now (job .entry)) (now (out .entry)) ⌝ }
+    ensures { λ r. ⌜ Copied (now (job .entry)) (now (out .entry)) (now (out .exit)) r ⌝ }
 {
     answer::number(job::copy(job, out))
 }
@@ -21,8 +14,7 @@ pub extern "C" fn order_copy(job: &[u8], out: &mut [u8]) -> u32
 // Hour, day, mean hour and S flows: 1 to 9, 14, or the flow result.
 #[no_mangle]
 pub extern "C" fn order_flow(job: &[u8], out: &mut [u8]) -> u32
-    ensures number { λ r. ⌜ r ≡ flowNo (now (job .entry)) (length (now (out .entry))) ⌝ }
-    ensures buffer { λ r. ⌜ now (out .exit) ≡ bufferAfter r (flowBytes (decode (now (job .entry)))) (now (out .entry)) ⌝ }
+    ensures { λ r. ⌜ FlowGiven (now (job .entry)) (now (out .entry)) (now (out .exit)) r ⌝ }
 {
     answer::number(flow::flow(job, out))
 }
@@ -30,8 +22,7 @@ pub extern "C" fn order_flow(job: &[u8], out: &mut [u8]) -> u32
 // The house's design flow, which the pump set delivers: 1 to 9, 14, or four bytes.
 #[no_mangle]
 pub extern "C" fn order_duty(job: &[u8], out: &mut [u8]) -> u32
-    ensures number { λ r. ⌜ r ≡ dutyNo (now (job .entry)) (length (now (out .entry))) ⌝ }
-    ensures buffer { λ r. ⌜ now (out .exit) ≡ bufferAfter r (dutyBytes (decode (now (job .entry)))) (now (out .entry)) ⌝ }
+    ensures { λ r. ⌜ DutyGiven (now (job .entry)) (now (out .entry)) (now (out .exit)) r ⌝ }
 {
     answer::number(flow::duty(job, out))
 }
@@ -39,9 +30,7 @@ pub extern "C" fn order_duty(job: &[u8], out: &mut [u8]) -> u32
 // Heads, velocities and losses of a list of sizes: 1 to 14, or the rating result.
 #[no_mangle]
 pub extern "C" fn order_rate(job: &[u8], cat: &[u8], sizes: &[u8], out: &mut [u8]) -> u32
-    ensures number { λ r. ⌜ r ≡ rateNo (now (job .entry)) (now (cat .entry)) (now (sizes .entry)) (length (now (out .entry))) ⌝ }
-    ensures buffer { λ r. ⌜ now (out .exit) ≡ bufferAfter r (rateBytes (decode (now (job .entry))) (now (cat .entry)) (now (sizes .entry)))
-        (now (out .entry)) ⌝ }
+    ensures { λ r. ⌜ Rated (now (job .entry)) (now (cat .entry)) (now (sizes .entry)) (now (out .entry)) (now (out .exit)) r ⌝ }
 {
     answer::number(rating::rate(job, cat, sizes, out))
 }

@@ -1,0 +1,32 @@
+-- What the exported calls promise, for every input. The choosing call's promise is `Chosen` of choosing.
+-- Assumes nothing.
+use mathlib.Core.Path.{_≡_}
+use mathlib.Core.List.{List}
+use Prim.Native.Nat.{ℕ}
+use lib.ListN.{length}
+use Rattle.answer.specs.Checks.{bufferAfter}
+use Rattle.record.specs.Record.{decode}
+use Rattle.job.specs.Calls.{copyNo}
+use Rattle.flow.specs.Calls.{flowNo, flowBytes, dutyNo, dutyBytes}
+use Rattle.rating.specs.Calls.{rateNo, rateBytes}
+
+-- the number, and the result buffer after it: the bytes at its front where the number is 0, else as it was
+pub record Gives (no : ℕ) (bytes out₀ out : List ℕ) (n : ℕ) : Type 0 where
+  pub number : n ≡ no
+  pub buffer : out ≡ bufferAfter n bytes out₀
+
+-- copying: 1 to 7, 14, or the record's bytes
+abbrev pub Copied : List ℕ → List ℕ → List ℕ → ℕ → Type 0
+Copied job out₀ out n = Gives (copyNo job (length out₀)) job out₀ out n
+
+-- flows: 1 to 9, 14, or the flow result
+abbrev pub FlowGiven : List ℕ → List ℕ → List ℕ → ℕ → Type 0
+FlowGiven job out₀ out n = Gives (flowNo job (length out₀)) (flowBytes (decode job)) out₀ out n
+
+-- duty: 1 to 9, 14, or the house's design flow
+abbrev pub DutyGiven : List ℕ → List ℕ → List ℕ → ℕ → Type 0
+DutyGiven job out₀ out n = Gives (dutyNo job (length out₀)) (dutyBytes (decode job)) out₀ out n
+
+-- rating: 1 to 14, or the rating result
+abbrev pub Rated : List ℕ → List ℕ → List ℕ → List ℕ → List ℕ → ℕ → Type 0
+Rated job cat sizes out₀ out n = Gives (rateNo job cat sizes (length out₀)) (rateBytes (decode job) cat sizes) out₀ out n
