@@ -22,16 +22,15 @@ use Rattle.rules.proofs.HeaderBounds.{header-in}
 use Rattle.demand.specs.Demand.{Valid}
 use Rattle.demand.proofs.Validity.{valid-rooted, valid-count}
 use Rattle.catalogue.specs.Layout.{sizesOf}
-use Rattle.heads.specs.Heads.{reachOf, greatestTo, requiredOf}
+use Rattle.heads.specs.Heads.{reachOf}
 use Rattle.heads.proofs.Loss.{parent-lower}
-use Rattle.heads.proofs.Signed.{le-trans}
-use Rattle.heads.proofs.Maximum.{Reached, greatest-bound, greatest-reached}
 use Rattle.sizing.specs.Losses.{listOk, overAt, overAny, lossesOf}
 use Rattle.sizing.proofs.Named.{list-all, list-long, list-names}
 use Rattle.nets.specs.Net.{Net, lossIn, pathIn, Suits, costIn}
 use Rattle.choosing.specs.Suitable.{SuitableAt, priceAt, costOf}
 use Rattle.choosing.specs.Contracts.{headFor, TreeOf}
-use Rattle.choosing.proofs.Shifted.{met-reach, reach-met, add-mono}
+use Rattle.choosing.proofs.Shifted.{met-reach, reach-met}
+use Rattle.choosing.proofs.EachEnd.{required-ends, ends-required}
 
 module _ (job : Job) (cat : List ℕ) (N : Net) (d : TreeOf job cat N) (valid : Valid job) (delivered : ℕ) where
   rooted : Rooted job
@@ -73,7 +72,6 @@ module _ (job : Job) (cat : List ℕ) (N : Net) (d : TreeOf job cat N) (valid : 
 
   -- document 01's words to the search's
   pub suits-net : (list : List ℕ) → SuitableAt job cat delivered list → Suits N (headFor job delivered) list
-  unfolding requiredOf
   suits-net list s =
       record {
         long = list-long job cat list (s .sizes) ∙ sym (d .sections);
@@ -81,10 +79,7 @@ module _ (job : Job) (cat : List ℕ) (N : Net) (d : TreeOf job cat N) (valid : 
         allowed = λ i h k. let w = list-names job cat list (s .sizes) i h (inside i k) in
             d .allowed i (sizeOf list i) h (inside i k) (w .low) (w .high) ∙ rw (under list (s .sizes) (s .serves) i h (inside i k));
         met = λ i h k. met-of list (s .sizes) (s .serves) i h (inside i k)
-            (le-trans (pos (job .header .meter) +ℤ reachOf job (lossesOf job cat list) i) (requiredOf job (lossesOf job cat list)) (pos delivered)
-            (add-mono (job .header .meter) (reachOf job (lossesOf job cat list) i) (greatestTo (countOf job) (reachOf job (lossesOf job cat list)))
-            (greatest-bound (reachOf job (lossesOf job cat list)) (countOf job) i h (inside i k)))
-            (s .reaches));
+            (required-ends job (lossesOf job cat list) delivered (s .reaches) i h (inside i k));
       }
     where
       inside : (i : ℕ) → i ≤ N .sections → i ≤ countOf job
@@ -114,13 +109,12 @@ module _ (job : Job) (cat : List ℕ) (N : Net) (d : TreeOf job cat N) (valid : 
         not-true (overAt job cat (sizeOf list i) i) (sym (d .allowed i (sizeOf list i) h k (w .low) (w .high)) ∙ s .allowed i h (outside i k)))
 
     pub net-suits : SuitableAt job cat delivered list
-    unfolding requiredOf
     net-suits =
-        let r : Reached (countOf job) (reachOf job (lossesOf job cat list)) = greatest-reached (reachOf job (lossesOf job cat list)) (countOf job) (valid-count valid .low) in
         record {
           sizes = named;
           serves = serving;
-          reaches = rw (r .reached) (of-met list named serving (r .place) (r .low) (r .high) (s .met (r .place) (r .low) (outside (r .place) (r .high))));
+          reaches = ends-required job (lossesOf job cat list) delivered (valid-count valid .low)
+              (λ i h k. of-met list named serving i h k (s .met i h (outside i k)));
         }
 
   -- the same cost
