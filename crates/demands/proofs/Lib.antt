@@ -1,2 +1,3 @@
+pub mod Demand1
 pub mod Demand3
 pub mod Worked

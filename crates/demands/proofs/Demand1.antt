@@ -1,0 +1,84 @@
+-- Demand 1: a call's number is 0 or among those of its list of checks, and a number other than 0 leaves what was lent as it was.
+-- Assumes nothing.
+use mathlib.Core.Path.{_≡_, refl, sym, _∙_}
+use mathlib.Core.Logic.{_⊎_, inl, inr, ⊎-elim}
+use mathlib.Core.Bool.{Bool, true, false}
+use mathlib.Core.List.{List, [], _∷_, _++_}
+use Prim.Native.Nat.{ℕ}
+use lib.ListN.{length}
+use borrow.Author.Tests.{ne-eqb}
+use Rattle.basis.proofs.Split.{eq-or-ne}
+use Rattle.answer.specs.Checks.{firstNo}
+use Rattle.rules.specs.Rules.{fieldChecks}
+use Rattle.job.specs.Calls.{shapeChecks, readChecks, copyChecks, copyNo}
+use Rattle.demand.specs.Demand.{demandChecks}
+use Rattle.catalogue.specs.Rules.{catChecks}
+use Rattle.acceptance.specs.Acceptance.{jobChecks, inputChecks}
+use Rattle.flow.specs.Calls.{flowNo, dutyNo}
+use Rattle.rating.specs.Calls.{rateChecks, rateNo}
+use Rattle.choosing.specs.Calls.{chooseChecks, chooseNo, Chosen}
+use Rattle.order.specs.Promises.{Gives}
+use Rattle.demands.specs.Demand1.{Call, Copy, Flow, Duty, Rate, Choose, numbersOf, Among, Called, copied, flow-given, duty-given, rated, chosen, Answered, Demand1}
+
+-- the numbers of a list of checks
+numbers : List (Bool × ℕ) → List ℕ
+numbers [] = []
+numbers (check ∷ rest) = check .1 ∷ numbers rest
+
+first-among : (l : List (Bool × ℕ)) → (firstNo l ≡ 0) ⊎ Among (firstNo l) (numbers l)
+unfolding firstNo numbers
+first-among [] = inl refl
+first-among ((true, n) ∷ l) = inr (inl refl)
+first-among ((false, n) ∷ l) = ⊎-elim inl (λ a. inr (inr a)) (first-among l)
+
+among-more : (n : ℕ) (l m : List ℕ) → Among n l → Among n (l ++ m)
+among-more n (x ∷ l) m a = ⊎-elim inl (λ b. inr (among-more n l m b)) a
+
+among-last : (n : ℕ) (l : List ℕ) → Among n (l ++ (n ∷ []))
+among-last n [] = inl refl
+among-last n (x ∷ l) = inr (among-last n l)
+
+-- a call without a workspace, whose number is that of its checks
+gives-answered : (call : Call) (checks : List (Bool × ℕ)) → numbers checks ≡ numbersOf call → {bytes out₀ out : List ℕ} {n : ℕ} →
+    Gives (firstNo checks) bytes out₀ out n → Answered call out₀ out [] [] n
+gives-answered call checks e {bytes} {out₀} {out} {n} g =
+    record {
+      number = rw (g .number, ← e) (first-among checks);
+      kept = λ other. g .buffer ∙ rw (ne-eqb n 0 other);
+      untouched = λ other not-16. refl;
+    }
+
+-- choosing: the checks before the search, then 16 or a result
+module _ {b cat out₀ work₀ out work : List ℕ} {n : ℕ} (c : Chosen b cat out₀ work₀ out work n) where
+  before : ℕ
+  before = chooseNo b cat (length out₀) (length work₀)
+
+  found : (n ≡ 0) ⊎ Among n (numbersOf Choose)
+  unfolding before numbers chooseNo chooseChecks inputChecks jobChecks readChecks shapeChecks fieldChecks demandChecks catChecks
+  found =
+      ⊎-elim
+      (λ e. ⊎-elim (λ u. rw (u .number) (inr (among-last 16 (numbers (chooseChecks b cat (length out₀) (length work₀)))))) (λ f. inl (f .number)) (c .chosen e))
+      (λ other. rw (c .refused other .number)
+      (⊎-elim inl (λ a. inr (among-more before (numbers (chooseChecks b cat (length out₀) (length work₀))) (16 ∷ []) a)) (first-among (chooseChecks b cat (length out₀) (length work₀)))))
+      (eq-or-ne before 0)
+
+  chosen-answered : Answered Choose out₀ out work₀ work n
+  unfolding before
+  chosen-answered =
+      record {
+        number = found;
+        kept = λ other. ⊎-elim (λ e. ⊎-elim (λ u. u .kept) (λ f. absurd (other (f .number))) (c .chosen e)) (λ no. c .refused no .kept) (eq-or-ne before 0);
+        untouched = λ other not-16.
+            ⊎-elim (λ e. ⊎-elim (λ u. absurd (not-16 (u .number))) (λ f. absurd (other (f .number))) (c .chosen e)) (λ no. c .refused no .untouched) (eq-or-ne before 0);
+      }
+
+answered : {call : Call} {out₀ out work₀ work : List ℕ} {n : ℕ} → Called call out₀ out work₀ work n → Answered call out₀ out work₀ work n
+unfolding numbers copyNo copyChecks flowNo dutyNo rateNo rateChecks inputChecks jobChecks readChecks shapeChecks fieldChecks demandChecks catChecks
+answered (copied job g) = gives-answered Copy _ refl g
+answered (flow-given job g) = gives-answered Flow _ refl g
+answered (duty-given job g) = gives-answered Duty _ refl g
+answered (rated job cat sizes g) = gives-answered Rate _ refl g
+answered (chosen job cat c) = chosen-answered c
+
+pub demand-1 : Demand1
+demand-1 = record { answered = answered }
