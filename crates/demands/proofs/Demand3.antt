@@ -6,15 +6,13 @@ use mathlib.Core.List.{List, _++_, append-assoc}
 use Prim.Native.Nat.{ℕ, _≤_, _<_}
 use native.Mathlib.Omega.{arith}
 use lib.ListN.{length}
-use Rattle.basis.specs.Part.{part}
 use Rattle.basis.specs.Sections.{sizeOf}
-use Rattle.basis.specs.Stored.{stored}
 use Rattle.basis.proofs.Part.{part-front, part-right}
 use Rattle.basis.proofs.Split.{eq-or-ne}
 use Rattle.basis.proofs.Stored.{stored-front}
 use Rattle.basis.proofs.Sum.{sum-le}
 use Rattle.wire.specs.Wire.{beAt, bytesOf}
-use Rattle.wire.proofs.Fields.{be-bytes, bytes-length}
+use Rattle.wire.proofs.Fields.{be-bytes}
 use Rattle.fields.specs.declared.Job.{Job}
 use Rattle.fields.specs.Fields.{countOf}
 use Rattle.record.specs.Record.{decode}

@@ -1,3 +1,6 @@
 pub mod Demand1
+mod Flows
+mod Ratings
+pub mod Demand2
 pub mod Demand3
 pub mod Worked

@@ -26,30 +26,13 @@ use Rattle.norms.specs.Norms.{dayNorms, hourNorms, fixtureNorms, hourlyNorms, n
 use Rattle.coefficient.specs.Table.{table}
 use Rattle.coefficient.specs.Alpha.{along, alphaOf}
 use Rattle.coefficient.proofs.Worked.{worked as alpha}
-use Rattle.demand.specs.Demand.{
-  shareOf,
-  mOf,
-  fixtureSumOf,
-  flowOf,
-  sectionFlow,
-  hourShareOf,
-  hourSumOf,
-  hourlySumOf,
-  hourOf,
-  dayOf,
-  meanOf,
-  fixturesOf,
-  overSum,
-  needsTableOne,
-  overProbability,
-  demandChecks,
-}
+use Rattle.demand.specs.Demand.{shareOf, mOf, fixtureSumOf, flowOf, hourShareOf, hourSumOf, hourlySumOf, hourOf, dayOf, meanOf, fixturesOf, overSum, needsTableOne, overProbability, demandChecks}
 use Rattle.acceptance.specs.Acceptance.{jobChecks, jobNo}
 use Rattle.catalogue.specs.Layout.{boreOf, priceOf, partOf, flowAt, velocityAt, slopeAt}
 use Rattle.catalogue.specs.Rules.{shapeOk, rowOk, risesAt, rowsOk, sizeOk, sizesOk, catChecks, catNo}
 use Rattle.catalogue.specs.Reading.{between, servesAt, readRows}
 use Rattle.heads.specs.Signed.{greater, clamped}
-use Rattle.heads.specs.Heads.{reachOf, greatestTo, requiredOf, pumpAt, pumpOf, lowestTo, dictatingOf}
+use Rattle.heads.specs.Heads.{reachOf, greatestTo, requiredOf, pumpAt, lowestTo, dictatingOf}
 use Rattle.sizing.specs.Losses.{listOk, readingOf, overBy, overAt, overAny, lossOf, lossAt, lossesOf}
 use Rattle.acceptance.specs.Acceptance.{inputChecks}
 use Rattle.rating.specs.Calls.{rateChecks, rateNo}

@@ -1,0 +1,52 @@
+-- Demand 2: "Flows, demands, velocities, losses, required head and pump head are those of the SNiP formulas with the units and roundings
+-- of document 01, and a job record written and read again has the same fields, as an accepted record read and written has the same bytes."
+-- The figures are read back from a result's bytes by its layout, as a caller reads them. The formulas are the definitions named here.
+-- Assumes nothing.
+use mathlib.Core.Path.{_≡_}
+use mathlib.Core.List.{List}
+use Prim.Native.Nat.{ℕ, _+_, _-_, _*_, _≤_, _<_}
+use lib.ListN.{length}
+use Rattle.basis.specs.Part.{part}
+use Rattle.basis.specs.Sections.{sizeOf}
+use Rattle.wire.specs.Wire.{byteAt, beAt, signedOf}
+use Rattle.fields.specs.declared.Job.{Job}
+use Rattle.fields.specs.Fields.{countOf}
+use Rattle.record.specs.Record.{decode, encode}
+use Rattle.job.specs.Calls.{readNo, readJob, writeNo}
+use Rattle.demand.specs.Demand.{hourOf, dayOf, meanOf, sectionFlow, houseFlow}
+use Rattle.heads.specs.Heads.{requiredOf, pumpOf, dictatingOf}
+use Rattle.sizing.specs.Losses.{readingOf, lossesOf}
+use Rattle.order.specs.Promises.{Copied, FlowGiven, DutyGiven, Rated}
+
+-- what is lent is bytes
+abbrev pub Bytes : List ℕ → Type 0
+Bytes b = (k : ℕ) → byteAt b k < 256
+
+-- the figures of a flow result: hour in l/h, day in l, mean hour in l/h, and each section's flow in ml/s
+pub record FlowFigures (job : Job) (out : List ℕ) : Type 0 where
+  pub hour : beAt 4 out 0 ≡ hourOf job
+  pub day : beAt 4 out 4 ≡ dayOf job
+  pub mean : beAt 4 out 8 ≡ meanOf job
+  pub flow : (i : ℕ) → 0 < i → i ≤ countOf job → beAt 4 out (12 + 4 * (i - 1)) ≡ sectionFlow job i
+
+-- the figures of a rating result: required head, signed, and pump head in cm, the dictating section, and each section's velocity in mm/s and loss in cm
+pub record RateFigures (job : Job) (cat sizes out : List ℕ) : Type 0 where
+  pub required : signedOf 32 (beAt 4 out 0) ≡ requiredOf job (lossesOf job cat sizes)
+  pub pump : beAt 4 out 4 ≡ pumpOf job (lossesOf job cat sizes)
+  pub dictating : byteAt out 8 ≡ dictatingOf job (lossesOf job cat sizes)
+  pub velocity : (i : ℕ) → 0 < i → i ≤ countOf job → beAt 2 out (9 + 6 * (i - 1)) ≡ readingOf job cat (sizeOf sizes i) i .velocity
+  pub loss : (i : ℕ) → 0 < i → i ≤ countOf job → beAt 4 out (11 + 6 * (i - 1)) ≡ lossesOf job cat sizes i
+
+pub record Demand2 : Type 0 where
+  -- where the flow call gives a result
+  pub flow : (job out₀ out : List ℕ) → Bytes job → FlowGiven job out₀ out 0 → FlowFigures (decode job) out
+  -- where the duty call does: the house's design flow in ml/s
+  pub duty : (job out₀ out : List ℕ) → DutyGiven job out₀ out 0 → beAt 4 out 0 ≡ houseFlow (decode job)
+  -- where the rating call does
+  pub rate : (job cat sizes out₀ out : List ℕ) → Bytes cat → Rated job cat sizes out₀ out 0 → RateFigures (decode job) cat sizes out
+  -- a job record written and read again has the same fields
+  -- an accepted record read and written has the same bytes, of the reader and the writer and of the call that does both
+  pub same-bytes : (b : List ℕ) → Bytes b → readNo b ≡ 0 → encode (readJob b) ≡ b
+  pub copied : (job out₀ out : List ℕ) → Copied job out₀ out 0 → part out 0 (length job) ≡ job
+  -- and with enough room the writer does not refuse it
+  pub not-refused : (b : List ℕ) (room : ℕ) → readNo b ≡ 0 → length b ≤ room → writeNo (readJob b) room ≡ 0
