@@ -6,6 +6,7 @@ use mathlib.Core.List.{List, [], _∷_, append-assoc}
 use Prim.Native.Nat.{ℕ, _+_, _≤_, _<_}
 use native.Mathlib.Omega.{arith}
 use lib.ListN.{length, getD}
+use borrow.Author.Tests.{eq-eqb}
 use Rattle.basis.proofs.Slots.{slots-in}
 use Rattle.answer.specs.Checks.{firstNo, tooShort}
 use Rattle.answer.proofs.First.{first-none, short-next}
@@ -22,7 +23,7 @@ use Rattle.rules.proofs.Same.{checks-same}
 use Rattle.record.specs.Record.{lengthOf, headerAt, headerBytes, decode, encode, kept, SectionFits, JobFits}
 use Rattle.record.proofs.Lengths.{encode-length}
 use Rattle.record.proofs.RoundTrip.{encode-decode, decode-encode}
-use Rattle.job.specs.Calls.{readNo, readJob, writeNo, copyNo}
+use Rattle.job.specs.Calls.{readNo, readJob, writeNo, copyNo, WrittenRead, SameFields}
 use Rattle.job.proofs.Shape.{Shaped, shaped, few, well-formed}
 use Rattle.job.proofs.Decided.{readable, read-fields, read-accepted, Writable, writable, write-room, copy-room}
 
@@ -59,84 +60,97 @@ module _ (b : List ℕ) (accepted : readNo b ≡ 0) where
   pub not-refused : (room : ℕ) → length b ≤ room → writeNo (readJob b) room ≡ 0
   not-refused room h = rewritten room ∙ short-next room (length b) [] h ∙ first-none
 
--- what no rule bounds, and the types hold: residents of twelve kinds, and fixtures, of 16 bits each
+-- what no rule bounds, and the types hold: residents of twelve kinds, and fixtures, of 16 bits each.
+-- `held` (`Held.antt`) has it of every job that code can hold, so `write_read` promises the same fields without asking for it.
 pub record Sixteen (job : Job) : Type 0 where
   pub kinds : length (job .residents) ≡ 12
   pub residents : (c : ℕ) → c < 12 → getD (job .residents) c 0 < 65536
   pub fixtures : (i : ℕ) → 0 < i → i ≤ countOf job → sectionOf job i .fixtures < 65536
 
--- a job that is written, and read again
-module _ (job : Job) (sixteen : Sixteen job) (room : ℕ) (done : writeNo job room ≡ 0) where
+-- a job that is written
+module _ (job : Job) (room : ℕ) (done : writeNo job room ≡ 0) where
   may : Writable job room
   may = writable job room done
 
   bounds : HeaderIn (job .header)
   bounds = header-in (job .header) (may .header)
 
-  section-fits : (i : ℕ) → 0 < i → i ≤ countOf job → SectionFits (sectionOf job i)
-  section-fits i a h =
-      let s : SectionIn i (sectionOf job i) = sections-in job (kept-of job (may .fields) .sections) i a h in
-      record {
-        fixtures = sixteen .fixtures i a h;
-        decimetres = omega arith;
-        elevation = omega (arith, elevation-small (sectionOf job i .elevation) (s .elevation));
-        free = omega arith;
-      }
-
-  fits : JobFits job
-  fits =
-      let h : HeaderIn (job .header) = bounds in
-      record {
-        header = record { meter = omega arith; guaranteed = omega arith; delivered = omega arith; limit = omega arith };
-        kinds = sixteen .kinds;
-        residents = sixteen .residents;
-        sections = section-fits;
-      }
-
   few-again : countOf job ≤ 63
   few-again = bounds .sections .high
 
-  -- a record keeps the first S sections
-  pub same-sections : (i : ℕ) → 0 < i → i ≤ countOf job → sectionOf (kept job) i ≡ sectionOf job i
+  -- a record keeps its fields
+  pub kept-same : SameFields job (kept job)
   unfolding kept
-  same-sections i a h =
-      slots-in 64 1 (countOf job + 1) blankSection (sectionOf job) i blankSection (omega arith) (omega arith)
-      (omega (arith, few-again))
-
-  again : decode (encode job) ≡ kept job
-  again = decode-encode job fits
-
-  head-again : headerAt (encode job) ≡ job .header
-  unfolding decode kept
-  head-again = ap (λ (j : Job). j .header) again
+  kept-same =
+      let slot : (i : ℕ) → 0 < i → i ≤ countOf job → sectionOf (kept job) i ≡ sectionOf job i =
+      λ i a h. slots-in 64 1 (countOf job + 1) blankSection (sectionOf job) i blankSection (omega arith) (omega arith)
+      (omega (arith, few-again)) in
+      record { header = refl; residents = refl; sections = slot }
 
   same-checks : fieldChecks job ≡ fieldChecks (kept job)
-  unfolding kept
-  same-checks = checks-same job (kept job) refl refl (λ i a h. sym (same-sections i a h))
+  same-checks =
+      let s : SameFields job (kept job) = kept-same in
+      checks-same job (kept job) (sym (s .header)) (sym (s .residents)) (λ i a h. sym (s .sections i a h))
 
-  fields-again : firstNo (fieldChecks (decode (encode job))) ≡ 0
-  fields-again = rw (again, ← same-checks) (may .fields)
+  -- and read again
+  module _ (sixteen : Sixteen job) where
+    section-fits : (i : ℕ) → 0 < i → i ≤ countOf job → SectionFits (sectionOf job i)
+    section-fits i a h =
+        let s : SectionIn i (sectionOf job i) = sections-in job (kept-of job (may .fields) .sections) i a h in
+        record {
+          fixtures = sixteen .fixtures i a h;
+          decimetres = omega arith;
+          elevation = omega (arith, elevation-small (sectionOf job i .elevation) (s .elevation));
+          free = omega arith;
+        }
 
-  stated-again : beAt 4 (encode job) 0 ≡ length (encode job)
-  unfolding encode headerBytes
-  stated-again =
-      let few : countOf job ≤ 63 = few-again in
-      rw (encode-length job, append-assoc (bytesOf 4 (lengthOf (countOf job))) _ _) (be-bytes 4 (lengthOf (countOf job)) _ (omega arith))
+    fits : JobFits job
+    fits =
+        let h : HeaderIn (job .header) = bounds in
+        record {
+          header = record { meter = omega arith; guaranteed = omega arith; delivered = omega arith; limit = omega arith };
+          kinds = sixteen .kinds;
+          residents = sixteen .residents;
+          sections = section-fits;
+        }
 
-  version-again : byteAt (encode job) 4 ≡ 1
-  unfolding encode headerBytes bytesOf
-  version-again = refl
+    again : decode (encode job) ≡ kept job
+    again = decode-encode job fits
 
-  shape-again : length (encode job) ≡ lengthOf (byteAt (encode job) 6)
-  unfolding encode headerBytes bytesOf
-  shape-again = encode-length job
+    head-again : headerAt (encode job) ≡ job .header
+    unfolding decode kept
+    head-again = ap (λ (j : Job). j .header) again
 
-  -- it is accepted, with the fields that a record keeps
-  pub accepted-again : readNo (encode job) ≡ 0
-  accepted-again =
-      let long : 40 ≤ length (encode job) = rw (encode-length job) (omega arith) in
-      let head : headerOk (headerAt (encode job)) ≡ true = rw head-again (may .header) in
-      read-fields (encode job) (well-formed (encode job) long stated-again version-again head shape-again) .0 ∙ fields-again
+    fields-again : firstNo (fieldChecks (decode (encode job))) ≡ 0
+    fields-again = rw (again, ← same-checks) (may .fields)
 
-  pub same-fields : readJob (encode job) ≡ kept job
-  same-fields = read-accepted (encode job) accepted-again ∙ again
+    stated-again : beAt 4 (encode job) 0 ≡ length (encode job)
+    unfolding encode headerBytes
+    stated-again =
+        let few : countOf job ≤ 63 = few-again in
+        rw (encode-length job, append-assoc (bytesOf 4 (lengthOf (countOf job))) _ _) (be-bytes 4 (lengthOf (countOf job)) _ (omega arith))
+
+    version-again : byteAt (encode job) 4 ≡ 1
+    unfolding encode headerBytes bytesOf
+    version-again = refl
+
+    shape-again : length (encode job) ≡ lengthOf (byteAt (encode job) 6)
+    unfolding encode headerBytes bytesOf
+    shape-again = encode-length job
+
+    -- it is accepted, with the fields that a record keeps
+    pub accepted-again : readNo (encode job) ≡ 0
+    accepted-again =
+        let long : 40 ≤ length (encode job) = rw (encode-length job) (omega arith) in
+        let head : headerOk (headerAt (encode job)) ≡ true = rw head-again (may .header) in
+        read-fields (encode job) (well-formed (encode job) long stated-again version-again head shape-again) .0 ∙ fields-again
+
+    pub same-fields : readJob (encode job) ≡ kept job
+    same-fields = read-accepted (encode job) accepted-again ∙ again
+
+-- what `write_read` promises: where it gives 0, the job that comes back has the same fields
+pub written-read-same : {job : Job} {out₀ out : List ℕ} {n : ℕ} {again : Job} →
+    WrittenRead job out₀ out n again → n ≡ 0 → SameFields job again
+written-read-same {job} {out₀} {out} {n} {again} w e =
+    let back : again ≡ kept job = w .fields ∙ rw (eq-eqb n 0 e) in
+    rw back (kept-same job (length out₀) (sym (w .number) ∙ e))

@@ -1,16 +1,17 @@
 -- Reading and writing a record: the checks in the order of document 01, "Refused orders", and what is given back.
 -- Assumes nothing.
-use Prim.Native.Nat.{ℕ}
+use Prim.Native.Nat.{ℕ, _≤_, _<_}
+use mathlib.Core.Path.{_≡_}
 use mathlib.Core.Bool.{Bool, not, _||_, cond}
 use mathlib.Core.List.{List, [], _∷_, _++_}
 use lib.ListN.{length}
 use lib.Dec.{ltb, eqb}
-use Rattle.answer.specs.Checks.{firstNo, tooShort}
+use Rattle.answer.specs.Checks.{firstNo, tooShort, bufferAfter}
 use Rattle.wire.specs.Wire.{byteAt, beAt}
 use Rattle.fields.specs.declared.Job.{Job}
-use Rattle.fields.specs.Fields.{blankJob, countOf}
+use Rattle.fields.specs.Fields.{blankJob, countOf, sectionOf}
 use Rattle.rules.specs.Rules.{headerOk, fieldChecks}
-use Rattle.record.specs.Record.{lengthOf, headerAt, decode}
+use Rattle.record.specs.Record.{lengthOf, headerAt, decode, encode, kept}
 
 -- 1: job under 40 bytes, or its length isn't the bytes lent
 unfoldable pub wrongLength : List ℕ → Bool
@@ -55,3 +56,16 @@ copyChecks b room = readChecks b ++ ((tooShort room (length b), 14) ∷ [])
 
 unfoldable pub copyNo : List ℕ → ℕ → ℕ
 copyNo b room = firstNo (copyChecks b room)
+
+-- writing a job and reading it again: the writer's number, the fields that a record keeps where it is 0 and all zero otherwise,
+-- and the buffer as the writer leaves it
+pub record WrittenRead (job : Job) (out₀ out : List ℕ) (n : ℕ) (again : Job) : Type 0 where
+  pub number : n ≡ writeNo job (length out₀)
+  pub fields : again ≡ cond (eqb n 0) (kept job) blankJob
+  pub buffer : out ≡ bufferAfter n (encode job) out₀
+
+-- two jobs with the same fields: the head, the residents and sections 1 to S
+pub record SameFields (job again : Job) : Type 0 where
+  pub header : again .header ≡ job .header
+  pub residents : again .residents ≡ job .residents
+  pub sections : (i : ℕ) → 0 < i → i ≤ countOf job → sectionOf again i ≡ sectionOf job i

@@ -11,7 +11,7 @@ ghost use Rattle.answer.specs.Answer.{numberOf};
 ghost use Rattle.answer.specs.Checks.{firstNo, bufferAfter};
 ghost use Rattle.fields.specs.Fields.{blankJob, countOf};
 ghost use Rattle.record.specs.Record.{encode};
-ghost use Rattle.job.specs.Calls.{shapeChecks, readNo, readJob, writeNo, copyNo};
+ghost use Rattle.job.specs.Calls.{shapeChecks, readNo, readJob, writeNo, copyNo, WrittenRead};
 
 // What reading gives: the answer, and the fields, all zero after a refusal.
 pub struct Reading {
@@ -115,4 +115,16 @@ pub fn copy(b: &[u8], out: &mut [u8]) -> Answer
         return answer;
     }
     write(reading.job, out)
+}
+
+// Writes a job and reads the record again.
+pub fn write_read(job: Job, out: &mut [u8]) -> Reading
+    ensures { λ r. ⌜ WrittenRead job (now (out .entry)) (now (out .exit)) (numberOf (r .answer)) (r .job) ⌝ }
+{
+    let answer = write(job, out);
+    if answer::number(answer) != 0 {
+        return refused(answer);
+    }
+    let end = record::length_of(job.header.sections);
+    read(&out[..end])
 }
