@@ -7,7 +7,7 @@ use lib.ListN.{length}
 use Rattle.basis.specs.Part.{part}
 use Rattle.basis.proofs.Part.{part-front}
 use Rattle.basis.proofs.Stored.{stored-front}
-use Rattle.job.proofs.RoundTrip.{same-bytes, not-refused}
+use Rattle.job.proofs.RoundTrip.{written-read-same, same-bytes, not-refused}
 use Rattle.order.specs.Promises.{Copied}
 use Rattle.demands.specs.Demand2.{Demand2}
 use Rattle.demands.proofs.Flows.{flow-figures, duty-figure}
@@ -22,6 +22,7 @@ demand-2 =
       flow = λ job out₀ out bytes g. flow-figures job out₀ out g bytes;
       duty = duty-figure;
       rate = λ job cat sizes out₀ out bytes g. rate-figures job cat sizes out₀ out bytes g;
+      same-fields = λ job again out₀ out w. written-read-same w refl;
       same-bytes = λ b bytes e. same-bytes b e bytes;
       copied = copied;
       not-refused = λ b room e h. not-refused b e room h;

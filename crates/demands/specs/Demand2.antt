@@ -12,7 +12,7 @@ use Rattle.wire.specs.Wire.{byteAt, beAt, signedOf}
 use Rattle.fields.specs.declared.Job.{Job}
 use Rattle.fields.specs.Fields.{countOf}
 use Rattle.record.specs.Record.{decode, encode}
-use Rattle.job.specs.Calls.{readNo, readJob, writeNo}
+use Rattle.job.specs.Calls.{readNo, readJob, writeNo, WrittenRead, SameFields}
 use Rattle.demand.specs.Demand.{hourOf, dayOf, meanOf, sectionFlow, houseFlow}
 use Rattle.heads.specs.Heads.{requiredOf, pumpOf, dictatingOf}
 use Rattle.sizing.specs.Losses.{readingOf, lossesOf}
@@ -45,6 +45,7 @@ pub record Demand2 : Type 0 where
   -- where the rating call does
   pub rate : (job cat sizes out₀ out : List ℕ) → Bytes cat → Rated job cat sizes out₀ out 0 → RateFigures (decode job) cat sizes out
   -- a job record written and read again has the same fields
+  pub same-fields : (job again : Job) (out₀ out : List ℕ) → WrittenRead job out₀ out 0 again → SameFields job again
   -- an accepted record read and written has the same bytes, of the reader and the writer and of the call that does both
   pub same-bytes : (b : List ℕ) → Bytes b → readNo b ≡ 0 → encode (readJob b) ≡ b
   pub copied : (job out₀ out : List ℕ) → Copied job out₀ out 0 → part out 0 (length job) ≡ job
