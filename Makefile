@@ -6,10 +6,29 @@ SHELL := /bin/bash
 
 office := office/target/release/office
 
+# Names each of the given tools that is not on the path, with what it is for, and ends the recipe where one is missing.
+define need
+missing=0
+for tool in $(1); do
+	if ! command -v "$$tool" > /dev/null; then
+		case "$$tool" in
+			rt) use="Rattle, which proves and builds the crates" ;;
+			cargo) use="Rust, which builds and tests the command" ;;
+			cc) use="a C compiler, with which cargo links" ;;
+			python3) use="Python 3, which runs the model of the tests" ;;
+		esac
+		echo "make: $$tool is missing: $$use" >&2
+		missing=1
+	fi
+done
+if [ "$$missing" = 1 ]; then exit 1; fi
+endef
+
 # The stored vectors are the model's; every crate is proved from nothing, the must-fail edits are tried and the programs run;
 # then the archive is made of what was proved, and the Rust side is built and tested with it. The last line is rt's verdict.
 test:
-	@verdict=$$(mktemp)
+	@$(call need,rt cargo cc python3)
+	verdict=$$(mktemp)
 	trap 'rm -f "$$verdict"' EXIT
 	sh model/check.sh
 	rt ci | tee "$$verdict"
@@ -43,7 +62,8 @@ bench: target/built
 
 # The proved sheet program, the proved archive and the command over it.
 target/built: $(shell find crates office/src office/Cargo.toml -type f)
-	@mkdir -p target
+	@$(call need,rt cargo cc)
+	mkdir -p target
 	echo "proving and building, which takes minutes the first time: target/built.log"
 	{ rt check sheet && rt staticlib order && cargo build --release --offline --manifest-path office/Cargo.toml; } > target/built.log 2>&1 || { tail -n 40 target/built.log; exit 1; }
 	touch target/built
@@ -56,6 +76,7 @@ example: target/built
 
 # Prints the sheet of document 01's own case.
 sheet:
-	@mkdir -p target
+	@$(call need,rt)
+	mkdir -p target
 	rt check sheet > target/sheet.log 2>&1 || { cat target/sheet.log; exit 1; }
 	target/bin/sheet < examples/own-case.sheet
