@@ -31,12 +31,12 @@ pub fn read(text: &str) -> Result<Packed, Mistakes> {
     let mut given = sections::Given::default();
     let mut places = Lines::default();
     let mut mistakes = Mistakes::default();
-    for said in readable::lines(text) {
-        if let Some(fault) = said.fault() {
+    for source in readable::lines(text) {
+        if let Some(fault) = source.fault() {
             mistakes.add(fault);
             continue;
         }
-        let mut line = Line::of(&said);
+        let mut line = Line::of(&source);
         if line.begins("section") {
             given.take(&mut line, &mut places, &mut mistakes);
         } else if let Err(mistake) = head.take(&mut line, &mut places) {

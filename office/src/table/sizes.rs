@@ -97,7 +97,7 @@ impl Given {
         let Some(part) = self.sizes.get(&size) else {
             let (bore, price) = (row.noted(1, mistakes) as u16, row.noted(2, mistakes) as u16);
             let kept = Size { bore, price, rows: Vec::new() };
-            self.sizes.insert(size, Part { size: kept, lines: Vec::new(), text: row.line.said() });
+            self.sizes.insert(size, Part { size: kept, lines: Vec::new(), text: row.line.text() });
             return;
         };
         for (column, kept) in [(1, part.size.bore), (2, part.size.price)] {
