@@ -8,12 +8,16 @@ mod help;
 mod input;
 mod json;
 mod keep;
+mod kinds;
 mod network;
+mod new;
 mod outcome;
 mod rating;
 mod refused;
 mod report;
+mod topics;
 mod trials;
+mod version;
 
 use crate::closed;
 use arguments::Arguments;
@@ -68,7 +72,7 @@ fn perform(arguments: &Arguments) -> Result<Outcome, Misuse> {
 
 fn answer(arguments: &Arguments) -> Result<Outcome, Misuse> {
     if arguments.help {
-        return help::of(&arguments.command);
+        return help::of_command(&arguments.command);
     }
     match arguments.command.as_str() {
         "pack" => files::pack(arguments),
@@ -77,10 +81,13 @@ fn answer(arguments: &Arguments) -> Result<Outcome, Misuse> {
         "rate" => network::rate(arguments),
         "choose" => network::choose(arguments),
         "draw" => network::draw(arguments),
+        "kinds" => kinds::kinds(arguments),
+        "new" => new::new(arguments),
         "soak" => trials::soak(arguments),
         "replay" => trials::replay(arguments),
         "bench" => trials::bench(arguments),
         "help" => help::of(&arguments.text(0).unwrap_or("help".into())),
+        "--version" => version::version(arguments),
         other => help::none(other),
     }
 }

@@ -9,6 +9,7 @@ mod sections;
 
 use crate::at::{At, Field, Lines};
 use crate::line::Line;
+use crate::measure::Quantity;
 use crate::mistake::Mistakes;
 use crate::readable;
 use crate::record::{NoRecord, Record};
@@ -55,6 +56,11 @@ pub fn read(text: &str) -> Result<Packed, Mistakes> {
         record.stated = record.len() as u32;
     }
     mistakes.none(Packed { bytes: record.bytes(), lines: places })
+}
+
+/// What a house's lines measure.
+pub fn quantities() -> Vec<Quantity> {
+    head::quantities().chain(sections::quantities()).collect()
 }
 
 /// The canonical text of a record of 40 + 10 × S bytes, whatever its fields hold. Bytes of another length have no sections

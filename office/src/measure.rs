@@ -17,6 +17,21 @@ pub struct Measure {
     pub example: i64,
 }
 
+/// A quantity as help lists it.
+pub struct Quantity {
+    pub name: &'static str,
+    /// The units it may be written in, if it has any.
+    pub units: String,
+    /// What the library takes.
+    pub taken: &'static str,
+}
+
+impl Quantity {
+    pub fn new(name: &'static str, measure: &Measure) -> Quantity {
+        Quantity { name, units: measure.named(), taken: measure.taken }
+    }
+}
+
 const CENTIMETRES: &[(&str, u32)] = &[("cm", 0), ("m", 2)];
 const NONE: &[(&str, u32)] = &[("", 0)];
 
@@ -58,6 +73,8 @@ pub const VELOCITY: Measure = Measure {
 pub const TENTHS: Measure =
     Measure { units: &[("", 1)], counts: "tenths", least: 0, most: 255, taken: "0.2 or 0.3", example: 3 };
 pub const HOURS: Measure = bare("", 255, "1 to 24", 24);
+/// A section's own number.
+pub const SECTION: Measure = bare("", 255, "1 to 63", 1);
 pub const VERSION: Measure = bare("", 255, "1", 1);
 /// Residents, fixtures: two bytes.
 pub const COUNT: Measure = bare("", 65_535, "1 to 65535", 24);
@@ -201,7 +218,7 @@ impl Measure {
 }
 
 /// A value in tenths, hundredths and so on, with its decimals.
-fn shown(value: i64, power: u32) -> String {
+pub fn shown(value: i64, power: u32) -> String {
     if power == 0 {
         return value.to_string();
     }

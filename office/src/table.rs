@@ -10,6 +10,7 @@ mod sizes;
 
 use crate::at::Lines;
 use crate::catalogue::{Catalogue, NoCatalogue};
+use crate::measure::Quantity;
 use crate::mistake::{Mistake, Mistakes};
 use crate::readable;
 use cells::Cells;
@@ -82,6 +83,11 @@ pub fn read(text: &str) -> Result<Packed, Mistakes> {
     let mut catalogue = Catalogue { stated: 0, version: odd.version.unwrap_or(1), rows, sizes };
     catalogue.stated = odd.stated.unwrap_or(catalogue.len() as u32);
     Ok(Packed { bytes: catalogue.bytes(), lines: places })
+}
+
+/// What a table's columns measure, and how many rows a size has.
+pub fn quantities() -> Vec<Quantity> {
+    sizes::quantities().collect()
 }
 
 /// The canonical text of a catalogue whose length is what its counts ask for, whatever its fields hold. Other bytes are given

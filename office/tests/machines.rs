@@ -30,12 +30,14 @@ fn the_keys_are_those_of_the_page() {
     let page = read("docs/COMMAND.md");
     let record = scratch("machines.job");
     assert_eq!(office(&["pack", HOUSE, "-o", &record]).status, 0);
-    let rows: [(&str, &[&str]); 5] = [
+    let rows: [(&str, &[&str]); 7] = [
         ("|`pack`|", &["pack", HOUSE]),
         ("|`show` of a job|", &["show", &record]),
         ("|`flow`|", &["flow", HOUSE]),
         ("|`rate`, `choose`|", &["rate", HOUSE, TABLE, WIDE]),
         ("|`rate`, `choose`|", &["choose", HOUSE, TABLE]),
+        ("|`kinds`|", &["kinds"]),
+        ("|`--version`|", &["--version"]),
     ];
     let common = page.lines().find(|line| line.starts_with("|every one|")).expect("the page has it");
     for (row, words) in rows {
