@@ -216,22 +216,6 @@ fn misuse_has_status_2_and_says_why() {
     assert!(binary.status == 2 && binary.error.contains("is no readable file"), "{}", binary.error);
 }
 
-#[test]
-fn help_is_there_for_each_command() {
-    let list = office(&[]);
-    assert_eq!(list.status, 0);
-    assert_eq!(list.text(), office(&["help"]).text());
-    assert_eq!(list.text(), office(&["--help"]).text());
-    for command in ["pack", "show", "flow", "rate", "choose", "draw", "soak", "replay", "bench"] {
-        assert!(list.text().contains(&format!("  office {command} ")), "{command}");
-        let help = office(&["help", command]);
-        assert_eq!(help.status, 0);
-        assert!(help.text().starts_with(&format!("office {command} ")) && help.text().contains("Status: 0"));
-        assert_eq!(help.text(), office(&[command, "--help"]).text());
-    }
-    assert_eq!(office(&["help", "frobnicate"]).status, 2);
-}
-
 /// In each table the right edge of a column of numbers is the same in every line, and nothing hangs over.
 #[test]
 fn tables_align() {
@@ -274,17 +258,6 @@ fn a_drawing_is_drawn_for_the_cheapest_and_for_a_given_list() {
     assert_eq!(office(&["draw", HOUSE, TABLE, "6,6,6,6,6,6,6,6,6,6,6,6", "-o", &kept]).status, 0);
     let wide = std::fs::read_to_string(&kept).expect("written");
     assert!(drawn.text().starts_with("<?xml") && wide.starts_with("<?xml") && wide != drawn.text());
-}
-
-/// The README shows what `make example` prints: document 01's own case, its flows and its cheapest sizes.
-#[test]
-fn the_readmes_worked_example() {
-    let (house, table) = ("examples/own-case.txt", "examples/own-case.csv");
-    let printed =
-        [office(&["flow", house]).text(), "\n".to_string(), office(&["choose", house, table]).text()].concat();
-    let shown: String =
-        printed.lines().map(|line| if line.is_empty() { "\n".into() } else { format!("    {line}\n") }).collect();
-    assert!(read("README.md").contains(&shown), "{shown}");
 }
 
 #[test]
