@@ -13,7 +13,10 @@
 //!   lines are headings. It is what `crates.txt` has.
 //! - Commands. A line `office ...` or `$ office ...` of a block (indented or fenced) is run, unless it has a placeholder in
 //!   capitals, and ends with status 0. What follows it up to the next command or the end of the block is what it prints; a
-//!   last line `...` stands for any more. A page's commands run one after another in a folder that has `examples/`.
+//!   last line `...` stands for any more. A page's commands run one after another in a folder that has `examples/`. Where
+//!   `refused` stands first in what is printed the status is 1, and so in prose: `` `office ...` gives refusal 13 ``. Any other
+//!   `` `office ...` `` in prose begins with a command that there is.
+//! - Files. The examples of the two formats in `docs/FILES.md` are taken, and its ranges are those of the command.
 //! - Targets. Each `make name` is a target of the Makefile. Where a line that names one ends in "prints", the block behind it
 //!   is what the target's own commands print.
 #![cfg(unix)]
@@ -21,6 +24,7 @@
 #[path = "tools/run.rs"]
 mod run;
 
+use office::{calls, house, table};
 use run::{read, scratch, top};
 use std::collections::{BTreeMap, BTreeSet};
 use std::path::Path;
@@ -122,8 +126,8 @@ fn is_placeholder(part: &str) -> bool {
     !letters.is_empty() && letters.bytes().all(|b| b.is_ascii_uppercase())
 }
 
-/// What is wrong with the pages by a rule, with the page's name.
-fn none(found: Vec<String>) {
+/// Fails with all that a rule has found wrong, each line with its page.
+fn assert_none(found: Vec<String>) {
     assert!(found.is_empty(), "\n{}", found.join("\n"));
 }
 
@@ -146,7 +150,7 @@ fn paths_are_there() {
             }
         }
     }
-    none(missing);
+    assert_none(missing);
     assert!(seen > 50, "only {seen} paths were found");
 }
 
@@ -190,7 +194,7 @@ fn names_are_declared_in_the_file_beside_them() {
             }
         }
     }
-    none(missing);
+    assert_none(missing);
     assert!(seen > 5, "only {seen} names were found");
 }
 
@@ -237,7 +241,7 @@ fn calls_are_in_their_crates() {
             }
         }
     }
-    none(missing);
+    assert_none(missing);
     assert!(seen > 20, "only {seen} calls were found");
 }
 
@@ -256,7 +260,7 @@ fn vectors_are_there() {
             }
         }
     }
-    none(missing);
+    assert_none(missing);
     assert!(seen > 20, "only {seen} vectors were found");
 }
 
@@ -284,16 +288,16 @@ fn the_picture_of_the_crates_is_their_list() {
         }
     }
     wrong.extend(shown.keys().map(|name| format!("crates.txt has no crate {name}")));
-    none(wrong);
+    assert_none(wrong);
 }
 
-/// Runs a script in a folder, with the built command at hand. What it prints, and whether it ended well.
-fn shell(script: &str, folder: &Path) -> (bool, String) {
+/// Runs a script in a folder, with the built command at hand: its status, and what it prints.
+fn shell(script: &str, folder: &Path) -> (Option<i32>, String) {
     let office = Path::new(env!("CARGO_BIN_EXE_office")).parent().expect("the command has a folder");
     let path = format!("{}:{}", office.display(), std::env::var("PATH").unwrap_or_default());
     let ran = Command::new("bash").args(["-euc", script]).current_dir(folder).env("PATH", path).output();
     let ran = ran.expect("bash is there: the Makefile needs it too");
-    (ran.status.success(), String::from_utf8_lossy(&ran.stdout).into_owned())
+    (ran.status.code(), String::from_utf8_lossy(&ran.stdout).into_owned())
 }
 
 /// A folder in which a page's commands run: what they write is not left in the repository.
@@ -345,17 +349,64 @@ fn commands_run_and_print_what_is_shown() {
             let commands = commands(&block);
             for (command, shown) in commands.iter().filter(|(line, _)| !line.split_whitespace().any(is_placeholder)) {
                 seen += 1;
-                let (ended_well, printed) = shell(command, &folder);
-                if !ended_well {
-                    wrong.push(format!("{}: `{command}` does not end with status 0\n{printed}", page.name));
+                let (status, printed) = shell(command, &folder);
+                let refused = shown.first().is_some_and(|line| line.starts_with("refused "));
+                if status != Some(i32::from(refused)) {
+                    wrong.push(format!("{}: `{command}` ends with status {status:?}\n{printed}", page.name));
                 } else if !shown.is_empty() && !is_shown(shown, &printed) {
                     wrong.push(format!("{}: `{command}` prints\n{printed}", page.name));
                 }
             }
         }
     }
-    none(wrong);
+    assert_none(wrong);
     assert!(seen > 0, "no command was found");
+}
+
+#[test]
+fn commands_in_prose_are_there() {
+    let help = run::office(&["help"]).text();
+    let mut wrong = Vec::new();
+    for page in pages() {
+        for words in page.quoted().filter_map(|quoted| quoted.strip_prefix("office ")) {
+            let name = words.split_whitespace().next().unwrap_or("");
+            if !is_placeholder(name) && !help.contains(&format!("\n  office {name} ")) {
+                wrong.push(format!("{}: there is no command `office {name}`", page.name));
+            }
+        }
+        for (at, gives) in page.text.match_indices("` gives refusal ") {
+            let words = page.text[..at].rsplit('`').next().unwrap_or("");
+            let number: String = page.text[at + gives.len()..].chars().take_while(char::is_ascii_digit).collect();
+            let (status, printed) = shell(words, &top());
+            if status != Some(1) || !printed.starts_with(&format!("refused {number}: ")) {
+                wrong.push(format!("{}: `{words}` ends with status {status:?}\n{printed}", page.name));
+            }
+        }
+    }
+    assert_none(wrong);
+}
+
+/// The first block below a heading.
+fn below(page: &Page, heading: &str) -> String {
+    let from = page.text.find(&format!("\n{heading}\n")).unwrap_or_else(|| panic!("{}: no {heading}", page.name));
+    let rest = Page { name: String::new(), text: page.text[from..].to_string() };
+    rest.blocks().first().expect("a block").lines.join("\n")
+}
+
+#[test]
+fn the_formats_are_those_of_the_command() {
+    let page = Page { name: "docs/FILES.md".to_string(), text: read("docs/FILES.md") };
+    let job = house::pack(&below(&page, "## A house")).expect("a house");
+    let cat = table::pack(&below(&page, "## A table of sizes")).expect("a table");
+    calls::choose(&job, &cat).expect("the library takes them");
+    let rows: Vec<&str> = page.text.lines().filter(|line| line.starts_with('|')).collect();
+    for quantity in house::quantities().iter().filter(|quantity| quantity.name != "section") {
+        let shown = rows.iter().any(|row| {
+            let (name, taken) = (quantity.name, format!("|{}|", quantity.taken));
+            row.split('|').nth(1).is_some_and(|cell| cell.contains(name)) && row.contains(&taken)
+        });
+        assert!(shown, "{} is {}", quantity.name, quantity.taken);
+    }
 }
 
 /// The words behind `make` in a line of a shell or in backquotes.
@@ -379,7 +430,7 @@ fn targets_are_in_the_makefile() {
             }
         }
     }
-    none(missing);
+    assert_none(missing);
     assert!(seen > 5, "only {seen} targets were found");
 }
 
@@ -400,12 +451,12 @@ fn targets_print_what_is_shown() {
         for block in page.blocks().iter().filter(|block| block.lead.ends_with(" prints")) {
             let Some(name) = quoted(&block.lead).filter_map(target).last() else { continue };
             seen += 1;
-            let (ended_well, printed) = shell(&recipe(name), &top());
-            if !ended_well || !is_shown(&block.lines, &printed) {
+            let (status, printed) = shell(&recipe(name), &top());
+            if status != Some(0) || !is_shown(&block.lines, &printed) {
                 wrong.push(format!("{}: `make {name}` prints\n{printed}", page.name));
             }
         }
     }
-    none(wrong);
+    assert_none(wrong);
     assert!(seen > 0, "no target was found");
 }
