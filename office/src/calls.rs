@@ -1,7 +1,7 @@
 //! The library's calls with typed results. Any bytes may be given; each gives its result or its refusal.
 //!
 //! The buffers that the library writes are made here and are always long enough, so 14 and 15 do not come from these
-//! functions. Who wants to lend buffers of their own uses `ffi`.
+//! functions. A program that lends buffers of its own uses `ffi`.
 
 use crate::ffi;
 use crate::refusal::Refusal;

@@ -8,12 +8,16 @@ mod help;
 mod input;
 mod json;
 mod keep;
+mod kinds;
 mod network;
+mod new;
 mod outcome;
 mod rating;
 mod refused;
 mod report;
+mod topics;
 mod trials;
+mod version;
 
 use crate::closed;
 use arguments::Arguments;
@@ -30,7 +34,7 @@ pub fn run(words: &[OsString]) -> ExitCode {
         }
         Err(why) => Outcome::misuse(&why, String::new()),
     };
-    let lost = said(&outcome.output).err();
+    let lost = write_output(&outcome.output).err();
     // A warning that can't be written has nowhere else to go; the status says it too.
     let _ = std::io::stderr().write_all(outcome.warning.as_bytes());
     let Some(why) = lost else { return ExitCode::from(outcome.status) };
@@ -41,7 +45,7 @@ pub fn run(words: &[OsString]) -> ExitCode {
 
 /// Writes to standard output. Where that fails the answer is lost, on a full disk as at a closed pipe, and a script must not
 /// take what is there for the whole of it.
-fn said(output: &[u8]) -> std::io::Result<()> {
+fn write_output(output: &[u8]) -> std::io::Result<()> {
     if output.is_empty() {
         return Ok(());
     }
@@ -55,7 +59,7 @@ fn said(output: &[u8]) -> std::io::Result<()> {
 fn perform(arguments: &Arguments) -> Result<Outcome, Misuse> {
     let outcome = answer(arguments)?;
     match arguments.kept() {
-        // A refusal is no answer to keep: it is said, and the file is left alone.
+        // A refusal is no answer to keep: it goes to standard output, and the file is left alone.
         Some(file) if outcome.answered => {
             let name = outcome::word(&file.to_string_lossy());
             let lost = |why| Misuse::Words(format!("{name} can't be written: {why}"));
@@ -68,7 +72,7 @@ fn perform(arguments: &Arguments) -> Result<Outcome, Misuse> {
 
 fn answer(arguments: &Arguments) -> Result<Outcome, Misuse> {
     if arguments.help {
-        return help::of(&arguments.command);
+        return help::of_command(&arguments.command);
     }
     match arguments.command.as_str() {
         "pack" => files::pack(arguments),
@@ -77,10 +81,13 @@ fn answer(arguments: &Arguments) -> Result<Outcome, Misuse> {
         "rate" => network::rate(arguments),
         "choose" => network::choose(arguments),
         "draw" => network::draw(arguments),
+        "kinds" => kinds::kinds(arguments),
+        "new" => new::new(arguments),
         "soak" => trials::soak(arguments),
         "replay" => trials::replay(arguments),
         "bench" => trials::bench(arguments),
         "help" => help::of(&arguments.text(0).unwrap_or("help".into())),
+        "--version" => version::version(arguments),
         other => help::none(other),
     }
 }

@@ -170,8 +170,8 @@ fn section(svg: &mut Svg, pipe: &Pipe, place: &Place, notes: &[Note]) {
         svg.text(at + 24, y - 9, 11, INK, "normal", &format!("{} mm (size {})  {length}", pipe.bore, pipe.size));
         svg.text(at, y + 18, 11, INK, "normal", &format!("{} ml/s  {} mm/s", pipe.flow, pipe.velocity));
     }
-    for (line, (colour, weight, said)) in (1..).zip(notes) {
-        svg.text(at, y + 18 + 14 * line, 11, colour, weight, said);
+    for (line, (colour, weight, words)) in (1..).zip(notes) {
+        svg.text(at, y + 18 + 14 * line, 11, colour, weight, words);
     }
     svg.close();
 }

@@ -103,8 +103,8 @@ mod tests {
     #[test]
     fn letters_of_another_alphabet_are_named() {
         assert_eq!(remark("hours"), None);
-        let said = remark("`5\u{441}m` is no unit").expect("a remark");
-        assert_eq!(said, "U+0441, a Cyrillic letter that looks like c, is in it");
+        let found = remark("`5\u{441}m` is no unit").expect("a remark");
+        assert_eq!(found, "U+0441, a Cyrillic letter that looks like c, is in it");
         assert!(remark("`\u{3bf}ffices`").expect("a remark").contains("U+03BF, a Greek letter that looks like o"));
         assert!(remark("`часы` begins").expect("a remark").contains("Cyrillic letters"));
         assert!(remark("`24\u{200b}`").expect("a remark").contains("U+200B in it can't be seen"));

@@ -9,6 +9,7 @@ mod sections;
 
 use crate::at::{At, Field, Lines};
 use crate::line::Line;
+use crate::measure::Quantity;
 use crate::mistake::Mistakes;
 use crate::readable;
 use crate::record::{NoRecord, Record};
@@ -31,12 +32,12 @@ pub fn read(text: &str) -> Result<Packed, Mistakes> {
     let mut given = sections::Given::default();
     let mut places = Lines::default();
     let mut mistakes = Mistakes::default();
-    for said in readable::lines(text) {
-        if let Some(fault) = said.fault() {
+    for source in readable::lines(text) {
+        if let Some(fault) = source.fault() {
             mistakes.add(fault);
             continue;
         }
-        let mut line = Line::of(&said);
+        let mut line = Line::of(&source);
         if line.begins("section") {
             given.take(&mut line, &mut places, &mut mistakes);
         } else if let Err(mistake) = head.take(&mut line, &mut places) {
@@ -55,6 +56,11 @@ pub fn read(text: &str) -> Result<Packed, Mistakes> {
         record.stated = record.len() as u32;
     }
     mistakes.none(Packed { bytes: record.bytes(), lines: places })
+}
+
+/// What a house's lines measure.
+pub fn quantities() -> Vec<Quantity> {
+    head::quantities().chain(sections::quantities()).collect()
 }
 
 /// The canonical text of a record of 40 + 10 × S bytes, whatever its fields hold. Bytes of another length have no sections

@@ -34,7 +34,7 @@ pub mod echo;
 pub mod house;
 pub mod kinds;
 mod line;
-mod measure;
+pub mod measure;
 pub mod mistake;
 pub mod pipes;
 pub mod places;

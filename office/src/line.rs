@@ -2,9 +2,9 @@
 
 use crate::measure::Measure;
 use crate::mistake::Mistake;
-use crate::readable::Said;
+use crate::readable::TextLine;
 
-/// A line that says something: its comment is cut off, its words are in lower case.
+/// A line that is not blank: its comment is cut off, its words are in lower case.
 pub struct Line<'a> {
     pub number: usize,
     pub text: &'a str,
@@ -18,9 +18,9 @@ const LONGEST_WORD: usize = 60;
 impl<'a> Line<'a> {
     /// The words of a line. A colon behind a name parts it from its value; a semicolon behind a word ends it. Neither can
     /// mean anything else there, and elsewhere both stay part of the word, which is then none of the format's.
-    pub fn of(said: &Said<'a>) -> Line<'a> {
+    pub fn of(line: &TextLine<'a>) -> Line<'a> {
         // Documents have a longer minus than keyboards.
-        let plain = said.said.replace('\u{2212}', "-").to_lowercase();
+        let plain = line.content.replace('\u{2212}', "-").to_lowercase();
         let mut words: Vec<String> = Vec::new();
         let mut parted = false;
         for word in plain.split_whitespace() {
@@ -34,7 +34,7 @@ impl<'a> Line<'a> {
             words.extend(rest.filter(|rest| !rest.is_empty()).map(cut));
             parted = rest == Some("");
         }
-        Line { number: said.number, text: said.text, words, at: 0 }
+        Line { number: line.number, text: line.text, words, at: 0 }
     }
 
     /// The next word, if there is one.
@@ -124,7 +124,9 @@ impl<'a> Line<'a> {
         if next.is_empty() || keywords.contains(&next.as_str()) {
             let wrong = format!("the unit of `{what} {number}` is missing");
             // Which unit was meant only the writer knows: any one put behind this number may be the wrong one.
-            return Err(self.mistake(wrong, format!("write a unit, for example {}", measure.ways(measure.example))));
+            return Err(
+                self.mistake(wrong, format!("write a unit, for example {}", measure.in_each_unit(measure.example)))
+            );
         }
         Err(self.mistake(format!("`{next}` is no unit of `{what}`"), measure.named()))
     }

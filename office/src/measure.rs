@@ -17,6 +17,21 @@ pub struct Measure {
     pub example: i64,
 }
 
+/// A quantity as help lists it.
+pub struct Quantity {
+    pub name: &'static str,
+    /// The units it may be written in, if it has any.
+    pub units: String,
+    /// What the library takes.
+    pub taken: &'static str,
+}
+
+impl Quantity {
+    pub fn new(name: &'static str, measure: &Measure) -> Quantity {
+        Quantity { name, units: measure.named(), taken: measure.taken }
+    }
+}
+
 const CENTIMETRES: &[(&str, u32)] = &[("cm", 0), ("m", 2)];
 const NONE: &[(&str, u32)] = &[("", 0)];
 
@@ -58,6 +73,8 @@ pub const VELOCITY: Measure = Measure {
 pub const TENTHS: Measure =
     Measure { units: &[("", 1)], counts: "tenths", least: 0, most: 255, taken: "0.2 or 0.3", example: 3 };
 pub const HOURS: Measure = bare("", 255, "1 to 24", 24);
+/// A section's own number.
+pub const SECTION: Measure = bare("", 255, "1 to 63", 1);
 pub const VERSION: Measure = bare("", 255, "1", 1);
 /// Residents, fixtures: two bytes.
 pub const COUNT: Measure = bare("", 65_535, "1 to 65535", 24);
@@ -102,7 +119,7 @@ pub fn latin(unit: &str) -> &str {
 #[derive(Clone, Copy, Debug, PartialEq, Eq)]
 pub enum Fault {
     NoNumber,
-    /// A comma may part thousands or decimals; who guesses gets one of them wrong by a factor of 1,000.
+    /// A comma may part thousands or decimals; a guess would be wrong by a factor of 1,000 for one of them.
     Comma,
     /// A sign where nothing below 0 can be meant.
     Sign,
@@ -133,13 +150,13 @@ impl Measure {
     }
 
     /// The quantity in each of its units, for a message: 1200 cm or 12 m.
-    pub fn ways(&self, value: i64) -> String {
-        let way = |(unit, power): &(&str, u32)| {
+    pub fn in_each_unit(&self, value: i64) -> String {
+        let written = |(unit, power): &(&str, u32)| {
             let number = shown(value, *power);
             let short = if *power == 0 { &number } else { number.trim_end_matches('0').trim_end_matches('.') };
             format!("{short} {unit}")
         };
-        self.units.iter().map(way).collect::<Vec<_>>().join(" or ")
+        self.units.iter().map(written).collect::<Vec<_>>().join(" or ")
     }
 
     /// A line or a cell that would be taken, for a message.
@@ -201,7 +218,7 @@ impl Measure {
 }
 
 /// A value in tenths, hundredths and so on, with its decimals.
-fn shown(value: i64, power: u32) -> String {
+pub fn shown(value: i64, power: u32) -> String {
     if power == 0 {
         return value.to_string();
     }
@@ -278,11 +295,11 @@ mod tests {
 
     #[test]
     fn a_quantity_in_each_of_its_units() {
-        assert_eq!(DELIVERED.ways(1_200), "1200 cm or 12 m");
-        assert_eq!(METER.ways(50), "50 cm or 0.5 m");
-        assert_eq!(LENGTH.ways(125), "12.5 m or 125 dm");
-        assert_eq!(VELOCITY.ways(1_500), "1500 mm/s or 1.5 m/s");
-        assert_eq!(BYTES.ways(50), "50 bytes");
+        assert_eq!(DELIVERED.in_each_unit(1_200), "1200 cm or 12 m");
+        assert_eq!(METER.in_each_unit(50), "50 cm or 0.5 m");
+        assert_eq!(LENGTH.in_each_unit(125), "12.5 m or 125 dm");
+        assert_eq!(VELOCITY.in_each_unit(1_500), "1500 mm/s or 1.5 m/s");
+        assert_eq!(BYTES.in_each_unit(50), "50 bytes");
     }
 
     #[test]

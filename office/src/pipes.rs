@@ -40,7 +40,7 @@ impl Pipe {
 pub fn pipes(job: &[u8], cat: &[u8], sizes: &[u8], flow: &Flow, rating: &Rating) -> Option<Vec<Pipe>> {
     let record = Record::read(job).ok()?;
     let catalogue = Catalogue::read(cat).ok()?;
-    let way = way(&record, rating.dictating);
+    let path = path_to(&record, rating.dictating);
     let mut paths: Vec<i64> = Vec::new();
     let mut pipes = Vec::new();
     for (place, (number, section)) in record.numbered().enumerate() {
@@ -62,7 +62,7 @@ pub fn pipes(job: &[u8], cat: &[u8], sizes: &[u8], flow: &Flow, rating: &Rating)
             velocity: rated.velocity,
             loss: rated.loss,
             left: i64::from(record.delivered) - i64::from(record.meter) - paths[place] - i64::from(section.elevation),
-            dictating: way.contains(&number),
+            dictating: path.contains(&number),
         });
     }
     Some(pipes)
@@ -93,16 +93,16 @@ pub fn sketch(job: &[u8], cat: &[u8], flow: &Flow) -> Option<Vec<Pipe>> {
     Some(pipes.collect())
 }
 
-/// The sections from an end back to the pump.
-fn way(record: &Record, end: u8) -> Vec<u8> {
-    let mut way = Vec::new();
+/// The sections between an end and the pump, the end's own first.
+fn path_to(record: &Record, end: u8) -> Vec<u8> {
+    let mut path = Vec::new();
     let mut at = end;
     while let Some(section) = usize::from(at).checked_sub(1).and_then(|place| record.sections.get(place)) {
-        way.push(at);
+        path.push(at);
         if section.parent >= at {
             break;
         }
         at = section.parent;
     }
-    way
+    path
 }

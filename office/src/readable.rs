@@ -127,15 +127,15 @@ fn unreadable(number: usize, line: &[u8]) -> Option<Mistake> {
         let expected = "lines that all end alike: to one program it ends a line, to another it doesn't";
         return mistake(at, "a carriage return alone", expected);
     }
-    let said = line.split(|byte| *byte == b'#').next().unwrap_or(line);
-    if let Some(hidden) = hidden(&String::from_utf8_lossy(&line[said.len()..])) {
+    let content = line.split(|byte| *byte == b'#').next().unwrap_or(line);
+    if let Some(hidden) = hidden(&String::from_utf8_lossy(&line[content.len()..])) {
         let wrong = format!("behind # stands what some programs show as a line of its own, `{}`", echo::shown(hidden));
         let expected = "a newline before it, or a blank if it is part of the comment";
         return Some(Mistake::on(number, &String::from_utf8_lossy(line), wrong, expected));
     }
-    let whole = std::str::from_utf8(said).map_err(|why| why.valid_up_to());
-    let front = whole.err().unwrap_or(said.len());
-    let text = std::str::from_utf8(&said[..front]).unwrap_or("");
+    let whole = std::str::from_utf8(content).map_err(|why| why.valid_up_to());
+    let front = whole.err().unwrap_or(content.len());
+    let text = std::str::from_utf8(&content[..front]).unwrap_or("");
     // Outside of a comment a form feed is a blank: what stands behind it is read, whether in this line or in the next.
     let control = |c: char| (c.is_control() && c != '\t' && c != '\u{c}') || matches!(c, '\u{2028}' | '\u{2029}');
     match (text.char_indices().find(|(_, c)| control(*c)), whole) {
@@ -148,29 +148,29 @@ fn unreadable(number: usize, line: &[u8]) -> Option<Mistake> {
     }
 }
 
-/// A line that says something.
-pub struct Said<'a> {
+/// A line that is not blank without its comment.
+pub struct TextLine<'a> {
     /// From 1.
     pub number: usize,
     /// All of it, for messages.
     pub text: &'a str,
     /// Without its comment.
-    pub said: &'a str,
+    pub content: &'a str,
 }
 
 /// The lines that are not blank without their comments.
-pub fn lines(text: &str) -> impl Iterator<Item = Said<'_>> {
+pub fn lines(text: &str) -> impl Iterator<Item = TextLine<'_>> {
     text.lines().enumerate().filter_map(|(place, text)| {
-        let said = text.split('#').next().unwrap_or("");
-        (!said.trim().is_empty()).then_some(Said { number: place + 1, text, said })
+        let content = text.split('#').next().unwrap_or("");
+        (!content.trim().is_empty()).then_some(TextLine { number: place + 1, text, content })
     })
 }
 
-impl Said<'_> {
+impl TextLine<'_> {
     /// A sign for comments that may be part of a word.
     pub fn fault(&self) -> Option<Mistake> {
-        let behind = self.text[self.said.len()..].chars().nth(1);
-        let word = self.said.chars().last().is_some_and(char::is_alphanumeric);
+        let behind = self.text[self.content.len()..].chars().nth(1);
+        let word = self.content.chars().last().is_some_and(char::is_alphanumeric);
         let within = word && behind.is_some_and(char::is_alphanumeric);
         let expected = "a blank before a comment; no # in a name or number";
         within.then(|| Mistake::on(self.number, self.text, "`#` stands within a word", expected))

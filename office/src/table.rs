@@ -10,6 +10,7 @@ mod sizes;
 
 use crate::at::Lines;
 use crate::catalogue::{Catalogue, NoCatalogue};
+use crate::measure::Quantity;
 use crate::mistake::{Mistake, Mistakes};
 use crate::readable;
 use cells::Cells;
@@ -29,18 +30,18 @@ pub struct Packed {
 /// as a house's.
 pub fn is_table(text: &str) -> bool {
     let mut first = true;
-    for said in readable::lines(text) {
-        if first && cells::named_separator(&said).is_some() {
+    for line in readable::lines(text) {
+        if first && cells::named_separator(&line).is_some() {
             return true;
         }
         first = false;
-        let parted = |separator: char| Cells::of(&said, separator);
+        let parted = |separator: char| Cells::of(&line, separator);
         if [',', ';', '\t'].iter().any(|separator| odd::knows(&parted(*separator))) {
             continue;
         }
-        let line = said.said.trim().to_lowercase();
-        return !readable::OF_A_HOUSE.iter().any(|word| line.starts_with(word))
-            && line.split([',', ';', '\t']).count() > 2;
+        let words = line.content.trim().to_lowercase();
+        return !readable::OF_A_HOUSE.iter().any(|word| words.starts_with(word))
+            && words.split([',', ';', '\t']).count() > 2;
     }
     false
 }
@@ -53,12 +54,12 @@ pub fn pack(text: &str) -> Result<Vec<u8>, Mistakes> {
 /// The catalogue of a readable table, and where each row stands in the text; or all that is wrong with it.
 pub fn read(text: &str) -> Result<Packed, Mistakes> {
     let mut mistakes = Mistakes::default();
-    readable::lines(text).filter_map(|said| said.fault()).for_each(|fault| mistakes.add(fault));
+    readable::lines(text).filter_map(|line| line.fault()).for_each(|fault| mistakes.add(fault));
     mistakes.none(())?;
     let (separator, from) = cells::separator(text)?;
     // A line of nothing but separators is empty: spreadsheets fill short lines up with empty cells.
-    let lines = readable::lines(text).skip(from).map(|said| Cells::of(&said, separator));
-    let mut lines = lines.filter(Cells::says).peekable();
+    let lines = readable::lines(text).skip(from).map(|line| Cells::of(&line, separator));
+    let mut lines = lines.filter(Cells::is_filled).peekable();
     let mut odd = Odd::default();
     while let Some(line) = lines.next_if(odd::knows) {
         odd.take(&line)?;
@@ -82,6 +83,11 @@ pub fn read(text: &str) -> Result<Packed, Mistakes> {
     let mut catalogue = Catalogue { stated: 0, version: odd.version.unwrap_or(1), rows, sizes };
     catalogue.stated = odd.stated.unwrap_or(catalogue.len() as u32);
     Ok(Packed { bytes: catalogue.bytes(), lines: places })
+}
+
+/// What a table's columns measure, and how many rows a size has.
+pub fn quantities() -> Vec<Quantity> {
+    sizes::quantities().collect()
 }
 
 /// The canonical text of a catalogue whose length is what its counts ask for, whatever its fields hold. Other bytes are given

@@ -39,8 +39,8 @@ fn pack_and_show() {
     let shown = answered(&["show", &kept]).text();
     assert!(shown.contains("elevation -950 cm"), "{shown}");
     assert_eq!(office_with(&["pack", "-"], shown.as_bytes()).output, job);
-    let said = json::parse(&answered(&["show", &kept, "--json"]).text());
-    assert_eq!(said.list("sections")[5].number("elevation_cm"), -950);
+    let printed = json::parse(&answered(&["show", &kept, "--json"]).text());
+    assert_eq!(printed.list("sections")[5].number("elevation_cm"), -950);
 }
 
 #[test]
@@ -54,11 +54,11 @@ fn flow_rate_and_choose() {
     let list: Vec<String> = choice.sizes.iter().map(u8::to_string).collect();
     let rate = ["rate", ATTIC, TABLE, &list.join(","), "--json"];
     for words in [&["choose", ATTIC, TABLE, "--json"][..], &rate] {
-        let said = json::parse(&answered(words).text());
-        assert_eq!(said.number("required_head_cm"), i64::from(rating.required));
-        assert_eq!(said.number("pump_head_cm"), i64::from(rating.pump));
-        assert_eq!(said.number("cost_tenths"), i64::from(choice.cost), "the command's sum is the library's");
-        let last = &said.list("sections")[5];
+        let printed = json::parse(&answered(words).text());
+        assert_eq!(printed.number("required_head_cm"), i64::from(rating.required));
+        assert_eq!(printed.number("pump_head_cm"), i64::from(rating.pump));
+        assert_eq!(printed.number("cost_tenths"), i64::from(choice.cost), "the command's sum is the library's");
+        let last = &printed.list("sections")[5];
         let lost: i64 = [0, 3, 5].iter().map(|place| i64::from(rating.sections[*place].loss)).sum();
         assert_eq!(last.number("head_left_cm"), 400 - 60 - lost + 950, "the head grows downward");
     }
@@ -66,9 +66,9 @@ fn flow_rate_and_choose() {
     let low =
         read(ATTIC).replace("free 200 cm", "free 0 cm").replace("free 150 cm", "free 0 cm").replace("60 cm", "0 cm");
     let low = low.replace("meter loss      0 cm", "meter loss 0 cm").replace("elevation -120 cm", "elevation -420 cm");
-    let said = json::parse(&office_with(&["rate", "-", TABLE, "6,6,6,6,6,6", "--json"], low.as_bytes()).text());
-    assert!(said.number("required_head_cm") < 0, "{said:?}");
-    assert_eq!((said.number("pump_head_cm"), said.get("suits")), (0, &Value::Truth(true)));
+    let printed = json::parse(&office_with(&["rate", "-", TABLE, "6,6,6,6,6,6", "--json"], low.as_bytes()).text());
+    assert!(printed.number("required_head_cm") < 0, "{printed:?}");
+    assert_eq!((printed.number("pump_head_cm"), printed.get("suits")), (0, &Value::Truth(true)));
 }
 
 #[test]

@@ -20,33 +20,33 @@ fn example() -> (Vec<u8>, Vec<u8>) {
 fn the_examples_answers_are_the_librarys() {
     let (job, cat) = example();
     let flow = calls::flow(&job).expect("accepted");
-    let said = json::parse(&office(&["flow", HOUSE, "--json"]).text());
-    assert_eq!(said.get("refusal"), &Value::Null);
-    assert_eq!(said.number("hour_l_per_h"), i64::from(flow.hour));
-    assert_eq!(said.number("day_l"), i64::from(flow.day));
-    assert_eq!(said.number("mean_hour_l_per_h"), i64::from(flow.mean_hour));
-    let flows: Vec<i64> = said.list("sections").iter().map(|section| section.number("flow_ml_per_s")).collect();
+    let printed = json::parse(&office(&["flow", HOUSE, "--json"]).text());
+    assert_eq!(printed.get("refusal"), &Value::Null);
+    assert_eq!(printed.number("hour_l_per_h"), i64::from(flow.hour));
+    assert_eq!(printed.number("day_l"), i64::from(flow.day));
+    assert_eq!(printed.number("mean_hour_l_per_h"), i64::from(flow.mean_hour));
+    let flows: Vec<i64> = printed.list("sections").iter().map(|section| section.number("flow_ml_per_s")).collect();
     assert_eq!(flows, flow.flows.iter().map(|flow| i64::from(*flow)).collect::<Vec<_>>());
 
     let choice = calls::choose(&job, &cat).expect("some list suits");
     assert!(choice.sizes.iter().any(|size| size != &choice.sizes[0]), "the example mixes sizes");
-    let said = json::parse(&office(&["choose", HOUSE, TABLE, "--json"]).text());
-    assert_eq!(said.number("cost_tenths"), i64::from(choice.cost));
+    let printed = json::parse(&office(&["choose", HOUSE, TABLE, "--json"]).text());
+    assert_eq!(printed.number("cost_tenths"), i64::from(choice.cost));
     let sizes: Vec<Value> = choice.sizes.iter().map(|size| Value::Number(i64::from(*size))).collect();
-    assert_eq!(said.list("sizes"), sizes);
-    rated_as_the_library(&said, &job, &cat, &choice.sizes);
+    assert_eq!(printed.list("sizes"), sizes);
+    rated_as_the_library(&printed, &job, &cat, &choice.sizes);
 
     let list: Vec<String> = choice.sizes.iter().map(u8::to_string).collect();
-    let said = json::parse(&office(&["rate", HOUSE, TABLE, &list.join(","), "--json"]).text());
-    rated_as_the_library(&said, &job, &cat, &choice.sizes);
+    let printed = json::parse(&office(&["rate", HOUSE, TABLE, &list.join(","), "--json"]).text());
+    rated_as_the_library(&printed, &job, &cat, &choice.sizes);
 }
 
-fn rated_as_the_library(said: &Value, job: &[u8], cat: &[u8], sizes: &[u8]) {
+fn rated_as_the_library(printed: &Value, job: &[u8], cat: &[u8], sizes: &[u8]) {
     let rating = calls::rate(job, cat, sizes).expect("rated");
-    assert_eq!(said.number("required_head_cm"), i64::from(rating.required));
-    assert_eq!(said.number("pump_head_cm"), i64::from(rating.pump));
-    assert_eq!(said.number("dictating_section"), i64::from(rating.dictating));
-    let sections = said.list("sections");
+    assert_eq!(printed.number("required_head_cm"), i64::from(rating.required));
+    assert_eq!(printed.number("pump_head_cm"), i64::from(rating.pump));
+    assert_eq!(printed.number("dictating_section"), i64::from(rating.dictating));
+    let sections = printed.list("sections");
     assert_eq!(sections.len(), rating.sections.len());
     for (section, rated) in sections.iter().zip(&rating.sections) {
         assert_eq!(section.number("velocity_mm_per_s"), i64::from(rated.velocity));
@@ -71,10 +71,10 @@ fn packing_and_showing_are_inverse_through_files() {
         let shown = office(&["show", &kept]);
         assert_eq!(shown.status, 0);
         assert_eq!(office_with(&["pack", "-"], &shown.output).output, bytes);
-        let said = json::parse(&office(&["pack", file, "--json"]).text());
-        assert_eq!(said.number("bytes"), bytes.len() as i64);
+        let printed = json::parse(&office(&["pack", file, "--json"]).text());
+        assert_eq!(printed.number("bytes"), bytes.len() as i64);
         let hex: String = bytes.iter().map(|byte| format!("{byte:02x}")).collect();
-        assert_eq!(said.get("record"), &Value::Text(hex));
+        assert_eq!(printed.get("record"), &Value::Text(hex));
         let fields = json::parse(&office(&["show", &kept, "--json"]).text());
         assert_eq!(fields.number("stated_length"), bytes.len() as i64);
     }
@@ -133,8 +133,8 @@ fn a_refused_record_is_packed_and_shown_with_a_warning() {
     assert_eq!(shown.status, 1);
     assert_eq!(shown.text(), house::show(&packed.output).expect("a record"));
     assert!(shown.error.contains("standard input, section 2: it hangs from section 3"), "{}", shown.error);
-    let said = json::parse(&office_with(&["show", "-", "--json"], &packed.output).text());
-    assert_eq!(said.get("refusal").number("number"), 5);
+    let printed = json::parse(&office_with(&["show", "-", "--json"], &packed.output).text());
+    assert_eq!(printed.get("refusal").number("number"), 5);
 }
 
 #[test]
@@ -147,10 +147,10 @@ fn every_refusal_is_said_alike_in_words_and_json() {
     let place =
         format!("  standard input, stated length: the record states {} bytes and has {}", job.len(), short.len());
     assert_eq!(words.text(), format!("{refusal}\n{place}\n"));
-    let said = office_with(&["choose", "-", TABLE, "--json"], short);
-    assert_eq!((said.status, said.error.as_str()), (1, ""));
-    let said = json::parse(&said.text());
-    let refused = said.get("refusal");
+    let printed = office_with(&["choose", "-", TABLE, "--json"], short);
+    assert_eq!((printed.status, printed.error.as_str()), (1, ""));
+    let printed = json::parse(&printed.text());
+    let refused = printed.get("refusal");
     assert_eq!(refused.number("number"), 1);
     assert_eq!(refused.get("text"), &Value::Text(refusal.text().to_string()));
     assert_eq!(refused.list("places")[0].get("line"), &Value::Null);
@@ -172,9 +172,9 @@ fn the_documented_messages_are_the_real_ones() {
             true => office(&["choose", HOUSE, &file]),
             false => office(&["flow", &file]),
         };
-        let said = if ran.status == 1 { ran.text() } else { ran.error };
-        assert!(ran.status > 0 && said.contains(" line "), "{file}: {said}");
-        let indented: String = said.lines().map(|line| format!("    {line}\n")).collect();
+        let printed = if ran.status == 1 { ran.text() } else { ran.error };
+        assert!(ran.status > 0 && printed.contains(" line "), "{file}: {printed}");
+        let indented: String = printed.lines().map(|line| format!("    {line}\n")).collect();
         assert!(documented.contains(&format!("`{file}`: ")), "docs/FILES.md does not name {file}");
         assert!(documented.contains(&indented), "docs/FILES.md has another message for {file}:\n{indented}");
     }
@@ -214,22 +214,6 @@ fn misuse_has_status_2_and_says_why() {
     );
     let binary = office_with(&["pack", "-"], &[0; 40]);
     assert!(binary.status == 2 && binary.error.contains("is no readable file"), "{}", binary.error);
-}
-
-#[test]
-fn help_is_there_for_each_command() {
-    let list = office(&[]);
-    assert_eq!(list.status, 0);
-    assert_eq!(list.text(), office(&["help"]).text());
-    assert_eq!(list.text(), office(&["--help"]).text());
-    for command in ["pack", "show", "flow", "rate", "choose", "draw", "soak", "replay", "bench"] {
-        assert!(list.text().contains(&format!("  office {command} ")), "{command}");
-        let help = office(&["help", command]);
-        assert_eq!(help.status, 0);
-        assert!(help.text().starts_with(&format!("office {command} ")) && help.text().contains("Status: 0"));
-        assert_eq!(help.text(), office(&[command, "--help"]).text());
-    }
-    assert_eq!(office(&["help", "frobnicate"]).status, 2);
 }
 
 /// In each table the right edge of a column of numbers is the same in every line, and nothing hangs over.
@@ -274,16 +258,6 @@ fn a_drawing_is_drawn_for_the_cheapest_and_for_a_given_list() {
     assert_eq!(office(&["draw", HOUSE, TABLE, "6,6,6,6,6,6,6,6,6,6,6,6", "-o", &kept]).status, 0);
     let wide = std::fs::read_to_string(&kept).expect("written");
     assert!(drawn.text().starts_with("<?xml") && wide.starts_with("<?xml") && wide != drawn.text());
-}
-
-/// The README shows what `make example` prints: document 01's own case, its flows and its cheapest sizes.
-#[test]
-fn the_readmes_worked_example() {
-    let (house, table) = ("examples/own-case.txt", "examples/own-case.csv");
-    let said = [office(&["flow", house]).text(), "\n".to_string(), office(&["choose", house, table]).text()].concat();
-    let shown: String =
-        said.lines().map(|line| if line.is_empty() { "\n".into() } else { format!("    {line}\n") }).collect();
-    assert!(read("README.md").contains(&shown), "{shown}");
 }
 
 #[test]

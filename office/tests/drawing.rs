@@ -102,10 +102,10 @@ fn too_little_head_is_said_in_the_title_and_above_the_drawing() {
     let (low, sections) = drawn(&short(hotel));
     assert!(low.contains(&format!("<title>House network of {sections} sections: TOO LITTLE HEAD</title>")));
     let texts = elements(&low).into_iter().filter(|element| element.name == "text");
-    let said: Vec<String> = texts.map(|text| text.text).filter(|text| text.contains("TOO LITTLE HEAD")).collect();
+    let printed: Vec<String> = texts.map(|text| text.text).filter(|text| text.contains("TOO LITTLE HEAD")).collect();
     let cat = table::pack(CAT).expect("a table");
     let required = calls::rate(hotel, &cat, &vec![2; sections]).expect("rated").required;
-    assert_eq!(said, [format!("TOO LITTLE HEAD: 0 cm are delivered, {required} cm are missing")]);
+    assert_eq!(printed, [format!("TOO LITTLE HEAD: 0 cm are delivered, {required} cm are missing")]);
 }
 
 #[test]

@@ -264,8 +264,8 @@ fn any_text_is_taken() {
             text.replace_range(at..end, pieces[dice.below(pieces.len() as u64)]);
         }
         let line_in_file = |mistakes: Mistakes| {
-            for (number, said) in mistakes.list.into_iter().filter_map(|mistake| mistake.line) {
-                assert_eq!(text.lines().nth(number - 1).map(str::trim), Some(said.as_str()), "{text}");
+            for (number, shown) in mistakes.list.into_iter().filter_map(|mistake| mistake.line) {
+                assert_eq!(text.lines().nth(number - 1).map(str::trim), Some(shown.as_str()), "{text}");
             }
         };
         match house::pack(&text) {

@@ -28,9 +28,9 @@ fn the_example_in_c_is_compiled_and_run_against_all_calls() {
             .expect("a C compiler is there: it links the archive too");
         assert!(compiled.status.success(), "{}", String::from_utf8_lossy(&compiled.stderr));
         let ran = Command::new(&program).output().expect("it starts");
-        let said = String::from_utf8_lossy(&ran.stdout).into_owned();
-        assert_eq!(ran.status.code(), Some(0), "{said}");
-        assert!(said.contains("cost 130000\nsize 2\n"), "{said}");
+        let printed = String::from_utf8_lossy(&ran.stdout).into_owned();
+        assert_eq!(ran.status.code(), Some(0), "{printed}");
+        assert!(printed.contains("cost 130000\nsize 2\n"), "{printed}");
     }
     let source = read("examples/order.c");
     let header = read("office/include/order.h");

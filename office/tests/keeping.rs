@@ -111,9 +111,9 @@ fn a_dash_is_standard_output() {
 fn a_closed_output_is_a_lost_answer() {
     for line in [&format!("\"$office\" flow {HOUSE} >&-"), "\"$office\" help >&-", "\"$office\" flow /dev/null >&-"] {
         let ran = shell(line);
-        let said = String::from_utf8_lossy(&ran.stderr).into_owned();
-        assert_eq!(ran.status.code(), Some(2), "{line}: {said}");
-        assert!(said.contains("can't be written to standard output: it is closed"), "{said}");
+        let printed = String::from_utf8_lossy(&ran.stderr).into_owned();
+        assert_eq!(ran.status.code(), Some(2), "{line}: {printed}");
+        assert!(printed.contains("can't be written to standard output: it is closed"), "{printed}");
     }
     let kept = scratch("closed.txt");
     assert_eq!(shell(&format!("\"$office\" flow {HOUSE} -o '{kept}' >&-")).status.code(), Some(0), "none is needed");
@@ -156,6 +156,6 @@ fn inputs_without_an_end_end_at_once() {
         }
         assert_eq!(ran.status.code(), Some(2), "{line}: {error}");
         assert!(error.contains(why) && error.len() < 20_000, "{line}: {error}");
-        assert!(error.lines().all(|said| said.chars().count() < 500), "{line}");
+        assert!(error.lines().all(|printed| printed.chars().count() < 500), "{line}");
     }
 }

@@ -30,27 +30,29 @@ fn the_keys_are_those_of_the_page() {
     let page = read("docs/COMMAND.md");
     let record = scratch("machines.job");
     assert_eq!(office(&["pack", HOUSE, "-o", &record]).status, 0);
-    let rows: [(&str, &[&str]); 5] = [
+    let rows: [(&str, &[&str]); 7] = [
         ("|`pack`|", &["pack", HOUSE]),
         ("|`show` of a job|", &["show", &record]),
         ("|`flow`|", &["flow", HOUSE]),
         ("|`rate`, `choose`|", &["rate", HOUSE, TABLE, WIDE]),
         ("|`rate`, `choose`|", &["choose", HOUSE, TABLE]),
+        ("|`kinds`|", &["kinds"]),
+        ("|`--version`|", &["--version"]),
     ];
     let common = page.lines().find(|line| line.starts_with("|every one|")).expect("the page has it");
     for (row, words) in rows {
         let own = page.lines().find(|line| line.starts_with(row)).expect(row);
-        let said = json::parse(&office(&[words, &["--json"]].concat()).text());
-        for key in keys(&said) {
+        let printed = json::parse(&office(&[words, &["--json"]].concat()).text());
+        for key in keys(&printed) {
             let named = format!("`{key}`");
             assert!(own.contains(&named) || common.contains(&named), "{words:?}: the page lacks {key}");
         }
         for named in common.split('`').skip(1).step_by(2) {
-            said.get(named);
+            printed.get(named);
         }
-        assert_eq!((said.number("schema"), said.get("refusal")), (1, &Value::Null));
-        assert_eq!(said.get("command"), &Value::Text(words[0].to_string()));
-        assert_eq!(said.list("warnings"), []);
+        assert_eq!((printed.number("schema"), printed.get("refusal")), (1, &Value::Null));
+        assert_eq!(printed.get("command"), &Value::Text(words[0].to_string()));
+        assert_eq!(printed.list("warnings"), []);
     }
 }
 
@@ -68,11 +70,11 @@ fn files_are_named_in_every_answer() {
         (&["flow", "examples/mistakes/circle.txt"], vec!["examples/mistakes/circle.txt"]),
         (&["flow", "examples/mistakes/missing-unit.txt"], vec!["examples/mistakes/missing-unit.txt"]),
     ] {
-        let said = json::parse(&office(&[words, &["--json"]].concat()).text());
-        assert_eq!(texts(&said, "files"), files, "{words:?}");
+        let printed = json::parse(&office(&[words, &["--json"]].concat()).text());
+        assert_eq!(texts(&printed, "files"), files, "{words:?}");
     }
-    let said = json::parse(&office_with(&["flow", "-", "--json"], read(HOUSE).as_bytes()).text());
-    assert_eq!(texts(&said, "files"), ["standard input"]);
+    let printed = json::parse(&office_with(&["flow", "-", "--json"], read(HOUSE).as_bytes()).text());
+    assert_eq!(texts(&printed, "files"), ["standard input"]);
 }
 
 #[test]
@@ -81,27 +83,27 @@ fn mistakes_of_a_text_come_as_json_too() {
     let ran = office_with(&["choose", "-", TABLE, "--json"], text.as_bytes());
     assert_eq!(ran.status, 2);
     assert!(ran.error.contains("has a comma"), "the words stand on standard error too");
-    let said = json::parse(&ran.text());
-    let mistakes = said.list("mistakes");
-    assert_eq!((mistakes.len(), said.number("more_mistakes"), said.number("schema")), (2, 0, 1));
+    let printed = json::parse(&ran.text());
+    let mistakes = printed.list("mistakes");
+    assert_eq!((mistakes.len(), printed.number("more_mistakes"), printed.number("schema")), (2, 0, 1));
     assert_eq!((mistakes[0].number("line"), mistakes[1].get("line")), (5, &Value::Null));
     assert_eq!(mistakes[0].get("text"), &Value::Text("hours 24,0".to_string()));
     assert_eq!(mistakes[1].get("wrong"), &Value::Text("the file has no line `meter loss`".to_string()));
     assert_eq!(mistakes[0].get("file"), &Value::Text("standard input".to_string()));
-    assert!(!keys(&said).contains(&"sizes".to_string()));
+    assert!(!keys(&printed).contains(&"sizes".to_string()));
     let table = office_with(&["choose", HOUSE, "-", "--json"], read(TABLE).replace("310", "310.00").as_bytes());
     assert_eq!((table.status, json::parse(&table.text()).list("mistakes").len()), (2, 8));
 }
 
 #[test]
 fn a_rating_says_whether_the_list_suits() {
-    let said = json::parse(&office(&["rate", HOUSE, TABLE, WIDE, "--json"]).text());
-    assert_eq!((said.get("suits"), said.number("delivered_head_cm")), (&Value::Truth(true), 1_800));
+    let printed = json::parse(&office(&["rate", HOUSE, TABLE, WIDE, "--json"]).text());
+    assert_eq!((printed.get("suits"), printed.number("delivered_head_cm")), (&Value::Truth(true), 1_800));
     // Price times length in dm: 1,150 for each of the house's 966 dm.
-    assert_eq!(said.number("cost_tenths"), 1_150 * 966);
+    assert_eq!(printed.number("cost_tenths"), 1_150 * 966);
     let low = read(HOUSE).replace("delivered head  1800 cm", "delivered head 1000 cm");
-    let said = json::parse(&office_with(&["rate", "-", TABLE, WIDE, "--json"], low.as_bytes()).text());
-    assert_eq!((said.get("suits"), said.get("refusal")), (&Value::Truth(false), &Value::Null));
+    let printed = json::parse(&office_with(&["rate", "-", TABLE, WIDE, "--json"], low.as_bytes()).text());
+    assert_eq!((printed.get("suits"), printed.get("refusal")), (&Value::Truth(false), &Value::Null));
     let chosen = json::parse(&office(&["choose", HOUSE, TABLE, "--json"]).text());
     let flow = json::parse(&office(&["flow", HOUSE, "--json"]).text());
     for key in ["duty_ml_per_s", "hour_l_per_h", "day_l", "mean_hour_l_per_h"] {

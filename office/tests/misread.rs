@@ -26,7 +26,7 @@ fn only(mistakes: Mistakes) -> Mistake {
     mistakes.list.into_iter().next().expect("one")
 }
 
-/// What is put for what, and what is said of it.
+/// What is put for what, and what the message has.
 type Slip = (&'static str, &'static str, &'static str);
 
 #[test]

@@ -220,9 +220,9 @@ fn every_command(shell: &mut Shell, text: &[u8], turn: usize) -> bool {
     }
     let is_table = readable::text(text).is_ok_and(|text| table::is_table(&text));
     if turn % 5 == 0 {
-        let said = shell.run(&format!("{} --json", calls("t", is_table)[turn / 5 % 3]));
-        if !said.output.is_empty() {
-            assert_eq!(json::parse(&String::from_utf8(said.output).expect("text")).number("schema"), 1);
+        let printed = shell.run(&format!("{} --json", calls("t", is_table)[turn / 5 % 3]));
+        if !printed.output.is_empty() {
+            assert_eq!(json::parse(&String::from_utf8(printed.output).expect("text")).number("schema"), 1);
         }
     }
     match &record {
@@ -238,7 +238,7 @@ fn every_command(shell: &mut Shell, text: &[u8], turn: usize) -> bool {
 
 /// The text in `t` and its record in `record` answer alike, and packing what is shown gives the same bytes.
 fn answers_alike(shell: &mut Shell, record: &[u8], is_table: bool, status: i32) {
-    // A record that states a length of 2^24 or more does not begin with 0, which is to be said.
+    // A record that states a length of 2^24 or more does not begin with 0, and the message must name that.
     let name = if readable::is_record(record) { "record" } else { "--record record" };
     for (text, binary) in calls("t", is_table).iter().zip(calls(name, is_table)) {
         let (one, other) = (shell.run(text), shell.run(&binary));

@@ -45,12 +45,12 @@ fn the_searches_find_the_least_cost() {
     assert!(found > 1_000 && none > 1_000, "{found} found, {none} without a suitable list");
 }
 
-/// What an end needs above the lowest head, and what the way from another end above it loses, by the given loss of a section.
+/// What an end needs above the lowest head, and what the pipes from another end above it lose, by the given loss of a section.
 fn asked(order: &Order, from: usize, end: usize, loss: &dyn Fn(usize) -> i128) -> i128 {
     let house = order.house;
     let own = &house.sections[end - 1];
-    let way = house.paths[end - 1].iter().take_while(|at| **at != from);
-    own.elevation + 1_000 + own.free + way.map(|at| loss(*at)).sum::<i128>()
+    let path = house.paths[end - 1].iter().take_while(|at| **at != from);
+    own.elevation + 1_000 + own.free + path.map(|at| loss(*at)).sum::<i128>()
 }
 
 #[test]

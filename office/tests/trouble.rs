@@ -22,9 +22,9 @@ fn a_lost_answer_is_no_success() {
         let full = std::fs::File::options().write(true).open("/dev/full").expect("it can be opened");
         let ran = Command::new(env!("CARGO_BIN_EXE_office")).args(words).current_dir(top()).stdout(full).output();
         let ran = ran.expect("the command starts");
-        let said = String::from_utf8_lossy(&ran.stderr).into_owned();
-        assert_eq!(ran.status.code(), Some(2), "{words:?}: {said}");
-        assert!(said.contains("office: the answer can't be written to standard output: "), "{words:?}: {said}");
+        let printed = String::from_utf8_lossy(&ran.stderr).into_owned();
+        assert_eq!(ran.status.code(), Some(2), "{words:?}: {printed}");
+        assert!(printed.contains("office: the answer can't be written to standard output: "), "{words:?}: {printed}");
     }
 }
 
@@ -44,9 +44,9 @@ fn a_closed_pipe_is_a_lost_answer() {
     std::io::Write::write_all(&mut input, read(HOUSE).as_bytes()).expect("it reads");
     drop(input);
     let ran = child.wait_with_output().expect("the command ends");
-    let said = String::from_utf8_lossy(&ran.stderr).into_owned();
-    assert_eq!(ran.status.code(), Some(2), "{said}");
-    assert!(said.starts_with("office: the answer can't be written to standard output: "), "{said}");
+    let printed = String::from_utf8_lossy(&ran.stderr).into_owned();
+    assert_eq!(ran.status.code(), Some(2), "{printed}");
+    assert!(printed.starts_with("office: the answer can't be written to standard output: "), "{printed}");
 }
 
 /// A folder may hold names in an older code page than UTF-8.

@@ -19,8 +19,8 @@ fn own(call: Call) -> Case {
 
 /// What library and model give, where they agree.
 fn number(case: &Case) -> u32 {
-    let said = replay(&case.text()).unwrap_or_else(|what| panic!("{what}\n{}", case.text()));
-    let number = said.split("number ").nth(1).and_then(|rest| rest.split(',').next()).expect("a number");
+    let printed = replay(&case.text()).unwrap_or_else(|what| panic!("{what}\n{}", case.text()));
+    let number = printed.split("number ").nth(1).and_then(|rest| rest.split(',').next()).expect("a number");
     number.parse().expect("a number")
 }
 
@@ -148,10 +148,10 @@ fn widening_one_by_one_ends_dearer() {
                001902bc 0000006400780005 00000bb806a4006e";
     let file = format!("call choose\njob {job}\ncat {cat}\nwork 60000 a5\nout 7 00");
     let case = Case::parse(&file).expect("a case");
-    let said = replay(&file).unwrap_or_else(|what| panic!("{what}"));
+    let printed = replay(&file).unwrap_or_else(|what| panic!("{what}"));
     assert_eq!(number(&case), 0);
     // 224,400 and the only list of that cost; widening the dictating path gives 2, 1, 1 at 234,960.
-    assert!(said.ends_with("result [0, 3, 108, 144, 1, 2, 2]"), "{said}");
+    assert!(printed.ends_with("result [0, 3, 108, 144, 1, 2, 2]"), "{printed}");
     let flows = office::flow(&case.job).expect("an accepted job").flows;
     assert_eq!(flows, [874, 631, 606]);
 }
@@ -161,6 +161,6 @@ fn the_case_in_the_readme_can_be_replayed() {
     let readme = include_str!("../README.md");
     let from = readme.find("    call choose").expect("a case in the README");
     let file = readme[from..].split("\n\n").next().expect("its lines");
-    let said = replay(file).unwrap_or_else(|what| panic!("{what}"));
-    assert_eq!(said, "choose: library and model agree: number 0, result [0, 1, 251, 208, 2]");
+    let printed = replay(file).unwrap_or_else(|what| panic!("{what}"));
+    assert_eq!(printed, "choose: library and model agree: number 0, result [0, 1, 251, 208, 2]");
 }

@@ -81,15 +81,15 @@ fn the_command_warns_with_the_line_and_answers_all_the_same() {
             "{}",
             warned.error
         );
-        let said = json::parse(&office_with(&["choose", "-", TABLE, "--json"], text.as_bytes()).text());
-        let warning = &said.list("warnings")[0];
-        assert_eq!((warning.number("line"), said.get("refusal")), (9, &Value::Null));
+        let printed = json::parse(&office_with(&["choose", "-", TABLE, "--json"], text.as_bytes()).text());
+        let warning = &printed.list("warnings")[0];
+        assert_eq!((warning.number("line"), printed.get("refusal")), (9, &Value::Null));
         assert_eq!(warning.get("file"), &Value::Text("standard input".to_string()));
-        assert!(said.number("pump_head_cm") > 0);
+        assert!(printed.number("pump_head_cm") > 0);
         every_command_warns(&text);
         let strict = office_with(&["choose", "-", TABLE, "--json", "--strict"], text.as_bytes());
-        let said = json::parse(&strict.text());
-        assert_eq!((strict.status, said.list("warnings").len()), (2, 1));
+        let printed = json::parse(&strict.text());
+        assert_eq!((strict.status, printed.list("warnings").len()), (2, 1));
     }
     assert_eq!(office(&["choose", HOUSE, TABLE, "--strict"]).status, 0);
 }

@@ -41,6 +41,11 @@ pub fn parse(words: &[OsString]) -> Result<Arguments, Misuse> {
             "--seed" => {
                 found.seed = Some(number(&value(rest.next(), "--seed", "a number")?.to_string_lossy(), "--seed")?)
             }
+            // It takes the command's place, or that of the command on which there is to be help.
+            "--version" if plain.iter().all(|(word, _)| word == "help") => {
+                plain.push((word.clone(), Reading::ByContent))
+            }
+            "--version" => return Err(Misuse::Words("`--version` stands alone, as `office --version`".to_string())),
             option if option.starts_with('-') && option != "-" => {
                 let option = self::word(option);
                 return Err(Misuse::Words(format!("there is no option `{option}`; `office help` lists them")));
@@ -138,8 +143,7 @@ impl Arguments {
         if self.words.iter().filter(|word| *word == "-" || *word == "@-").count() > 1 {
             return misuse("standard input can be read only once".to_string());
         }
-        // The word of `soak` is a number.
-        if let Some(file) = self.kept().filter(|out| self.command != "soak" && keep::is_read(out, &self.words)) {
+        if let Some(file) = self.kept().filter(|out| known.reads && keep::is_read(out, &self.words)) {
             let name = word(&file.to_string_lossy());
             return misuse(format!("`-o {name}` would overwrite the file that is read; name another"));
         }

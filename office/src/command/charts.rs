@@ -15,11 +15,12 @@ pub const fn words(name: &'static str) -> Column {
     Column { name, unit: "", words: true }
 }
 
-/// Names, units and rows under one another, two blanks between columns.
+/// Names, units and rows under one another, two blanks between columns; no line of units where no column has one.
 pub fn chart(columns: &[Column], rows: &[Vec<String>]) -> String {
     let names: Vec<String> = columns.iter().map(|column| column.name.to_string()).collect();
     let units: Vec<String> = columns.iter().map(|column| column.unit.to_string()).collect();
-    let lines: Vec<&Vec<String>> = [&names, &units].into_iter().chain(rows).collect();
+    let units = Some(&units).filter(|units| units.iter().any(|unit| !unit.is_empty()));
+    let lines: Vec<&Vec<String>> = [&names].into_iter().chain(units).chain(rows).collect();
     let widths: Vec<usize> = (0..columns.len())
         .map(|place| lines.iter().map(|line| line[place].chars().count()).max().unwrap_or(0))
         .collect();

@@ -15,8 +15,8 @@ use std::io::IsTerminal;
 pub fn pack(arguments: &Arguments) -> Result<Outcome, Misuse> {
     let file = arguments.file(0);
     let Content::Text(text) = file.some_content()? else {
-        let way = "its first byte is 00; `office show` shows a record, `--text` reads a text that begins so";
-        return Err(Misuse::Words(format!("{} is no readable file: {way}", file.name())));
+        let why = "its first byte is 00; `office show` shows a record, `--text` reads a text that begins so";
+        return Err(Misuse::Words(format!("{} is no readable file: {why}", file.name())));
     };
     let is_table = table::is_table(&text);
     let source = if is_table { file.table(&text)? } else { file.house(&text)? };

@@ -1,6 +1,8 @@
 //! The help texts, and what each command takes.
 
 use super::outcome::{Misuse, Outcome, word};
+use super::topics::{self, TOPICS};
+use office::Refusal;
 
 pub struct Command {
     pub name: &'static str,
@@ -8,19 +10,22 @@ pub struct Command {
     pub usage: &'static str,
     pub least: usize,
     pub most: usize,
+    /// Whether its words name files.
+    pub reads: bool,
     pub brief: &'static str,
     pub text: &'static str,
 }
 
-pub const COMMANDS: [Command; 10] = [
+pub const COMMANDS: &[Command] = &[
     Command {
         name: "pack",
         usage: "office pack FILE [-o RECORD] [--json] [--strict] [--text]",
         least: 1,
         most: 1,
+        reads: true,
         brief: "a readable house or table of sizes as a binary record",
         text: "\
-FILE is a readable house or a readable table of sizes (docs/FILES.md); which of the two is told by its first line.
+FILE is a readable house or a readable table of sizes (`office help files`); which of the two is told by its first line.
 The record goes to RECORD or to standard output. Mistakes are named with their lines, and then no record is written.
 
 What can be written as bytes is written. If the library refuses the record, a warning on standard error says why and where,
@@ -33,6 +38,7 @@ and the status is 1.
         usage: "office show RECORD [-o FILE] [--json] [--strict] [--record]",
         least: 1,
         most: 1,
+        reads: true,
         brief: "a binary record as a readable house or table",
         text: "\
 RECORD is a job record or a catalogue; which of the two is told by its length, also where the library refuses it.
@@ -46,6 +52,7 @@ where, and the status is 1. Bytes that are neither 40 + 10 x S nor 7 + sizes x (
         usage: "office flow JOB [-o FILE] [--json] [--strict] [--record|--text]",
         least: 1,
         most: 1,
+        reads: true,
         brief: "the house's design flow, hour, day and mean hour, and each section's design flow",
         text: "\
 JOB is a readable house or a job record. The house's design flow is what its pump set has to deliver.
@@ -58,6 +65,7 @@ flow_ml_per_s).",
         usage: "office rate JOB CAT SIZES [-o FILE] [--json] [--strict] [--record|--text]",
         least: 3,
         most: 3,
+        reads: true,
         brief: "heads, velocities and losses with a list of sizes",
         text: "\
 JOB is a readable house or a job record, CAT a readable table or a catalogue. SIZES has a size number for each section,
@@ -75,6 +83,7 @@ flow_ml_per_s, velocity_mm_per_s, loss_cm, head_left_cm, free_head_cm).",
         usage: "office choose JOB CAT [-o FILE] [--json] [--strict] [--record|--text]",
         least: 2,
         most: 2,
+        reads: true,
         brief: "a cheapest suitable list of sizes, rated",
         text: "\
 JOB is a readable house or a job record, CAT a readable table or a catalogue. The line `sizes` can be given to `rate` and
@@ -87,6 +96,7 @@ JOB is a readable house or a job record, CAT a readable table or a catalogue. Th
         usage: "office draw JOB CAT [SIZES] [-o FILE] [--strict] [--record|--text]",
         least: 2,
         most: 3,
+        reads: true,
         brief: "the network as an SVG drawing",
         text: "\
 JOB, CAT and SIZES as for `rate`; without SIZES a cheapest list is drawn. The pump is at the left. Each pipe has its number,
@@ -95,10 +105,33 @@ dictating path is red and wide. Where no list suits (refusal 16, status 1) the h
 stands on standard error.",
     },
     Command {
+        name: "kinds",
+        usage: "office kinds [-o FILE] [--json]",
+        least: 0,
+        most: 0,
+        reads: false,
+        brief: "the kinds of consumer: their names in a house, and their norms",
+        text: "\
+--json: kinds (kind, name, what, day_l, hour_tenths_l, fixture_hundredths_l_per_s, fixture_l_per_h), in document 01's units:
+tenths of a litre in the hour, hundredths of a litre in the second.",
+    },
+    Command {
+        name: "new",
+        usage: "office new house|table [-o FILE]",
+        least: 1,
+        most: 1,
+        reads: false,
+        brief: "a house or a table of sizes to start from",
+        text: "\
+A small file with comments, which the library takes: put your own numbers in it. A FILE that is there already is not
+replaced (status 2).",
+    },
+    Command {
         name: "soak",
         usage: "office soak N [--seed S] [-o FILE]",
         least: 1,
         most: 1,
+        reads: false,
         brief: "the library against the independent model on N made-up orders",
         text: "\
 The same seed S (1 if none is given) gives the same orders. The answer counts the numbers given back and the situations
@@ -109,6 +142,7 @@ reached. Where the two differ, the order is given in the form that `replay` take
         usage: "office replay FILE [-o FILE]",
         least: 1,
         most: 1,
+        reads: true,
         brief: "the library against the independent model on a kept order",
         text: "\
 FILE is an order as `soak` gives it: the call, its bytes in hex, and the buffers lent. Status 1 if the two differ.",
@@ -118,6 +152,7 @@ FILE is an order as `soak` gives it: the call, its bytes in hex, and the buffers
         usage: "office bench [-o FILE]",
         least: 0,
         most: 0,
+        reads: false,
         brief: "how long the library's calls take here",
         text: "\
 Times of the calls in microseconds, and as ratios over the independent model and over a plain search in safe Rust, on the
@@ -125,11 +160,24 @@ same orders and in one run. It takes a while.",
     },
     Command {
         name: "help",
-        usage: "office help [COMMAND]",
+        usage: "office help [COMMAND|TOPIC]",
         least: 0,
         most: 1,
-        brief: "this list, or one command in full",
-        text: "`office COMMAND --help` gives the same.",
+        reads: false,
+        brief: "this list, one command in full, or a topic",
+        text: "`office COMMAND --help` gives the same as `office help COMMAND`.",
+    },
+    Command {
+        name: "--version",
+        usage: "office --version [-o FILE] [--json]",
+        least: 0,
+        most: 0,
+        reads: false,
+        brief: "the versions of the command and the library, and the specification",
+        text: "\
+One line each: the word command, library or specification, and its version.
+
+--json: command_version, library_version, specification.",
     },
 ];
 
@@ -138,20 +186,44 @@ Files: a readable file or a binary record, told apart by the first byte, which i
 file force its reading; - is standard input; -o FILE writes the answer to a file, -o - to standard output.
 Status: 0 an answer; 1 the library refuses, in words with its number and place, on standard output, and a file of -o is left
 alone (`pack` and `show` do their work all the same and say it on standard error); 2 misuse, an unreadable file, mistakes in
-a readable file or an answer that can't be written, on standard error. There is no other.
+a readable file or an answer that can't be written, on standard error. There is no other. `office help N` explains refusal N.
 Warnings of what is nearly always a slip stand on standard error and change no status; with --strict there is then no answer,
 and the status is 2.
 --json: every object has schema (1), command, files, refusal (null, or number, text, places) and warnings; mistakes of a text
 come as mistakes and more_mistakes.
 ";
 
-/// The commands' names for a message.
+/// Names for a message.
+fn joined(names: impl Iterator<Item = &'static str>) -> String {
+    names.collect::<Vec<_>>().join(", ")
+}
+
 fn names() -> String {
-    COMMANDS.iter().map(|command| command.name).collect::<Vec<_>>().join(", ")
+    joined(COMMANDS.iter().map(|command| command.name))
+}
+
+/// A refusal by its number, as the list has it.
+const BY_NUMBER: (&str, &str) = ("N", "refusal N: what it means, what usually leads to it, what to try");
+
+/// What the word behind `help` names: a command, a topic, or a refusal's number.
+pub fn of(name: &str) -> Result<Outcome, Misuse> {
+    if COMMANDS.iter().any(|command| command.name == name) {
+        return of_command(name);
+    }
+    let topic = TOPICS.iter().find(|topic| topic.name == name).map(|topic| (topic.text)());
+    topic.or_else(|| topics::refusal(name)).map(Outcome::answer).ok_or_else(|| {
+        let last = Refusal::all().map(|refusal| refusal.number()).max().unwrap_or(0);
+        let topics = joined(TOPICS.iter().map(|topic| topic.name));
+        let (name, commands) = (word(name), names());
+        Misuse::Words(format!(
+            "there is no help on `{name}`; the commands are {commands}; the topics are {topics}, and a refusal's number, 1 to \
+             {last}"
+        ))
+    })
 }
 
 /// The help of a command, or the list of all.
-pub fn of(name: &str) -> Result<Outcome, Misuse> {
+pub fn of_command(name: &str) -> Result<Outcome, Misuse> {
     if name == "help" {
         return Ok(Outcome::answer(list()));
     }
@@ -171,8 +243,14 @@ pub fn none(name: &str) -> Result<Outcome, Misuse> {
 }
 
 fn list() -> String {
-    let width = COMMANDS.iter().map(|command| command.usage.len()).max().unwrap_or(0);
-    let lines: String =
-        COMMANDS.iter().map(|command| format!("  {:<width$}  {}\n", command.usage, command.brief)).collect();
-    format!("office: pipe sizes for branched house networks\n\n{lines}\n{COMMON}")
+    let commands: Vec<_> = COMMANDS.iter().map(|command| (command.usage.to_string(), command.brief)).collect();
+    let topics = TOPICS.iter().map(|topic| (topic.name, topic.brief)).chain([BY_NUMBER]);
+    let topics: Vec<_> = topics.map(|(name, brief)| (format!("office help {name}"), brief)).collect();
+    let width = commands.iter().chain(&topics).map(|(usage, _)| usage.len()).max().unwrap_or(0);
+    let lines = |rows: &[(String, &str)]| {
+        rows.iter().map(|(usage, brief)| format!("  {usage:<width$}  {brief}\n")).collect::<String>()
+    };
+    let (commands, topics) = (lines(&commands), lines(&topics));
+    let own = COMMANDS.iter().find(|command| command.name == "help").map_or("", |help| help.text);
+    format!("office: pipe sizes for branched house networks\n\n{commands}\n{topics}\n{own}\n\n{COMMON}")
 }

@@ -159,7 +159,7 @@ impl File<'_> {
             if let Some(fault) = line.fault() {
                 return Err(Misuse::Mistakes(name, fault.into()));
             }
-            found.extend(numbers(line.said)?);
+            found.extend(numbers(line.content)?);
         }
         match found.is_empty() {
             false => Ok(found),

@@ -63,7 +63,7 @@ fn string(f: &mut fmt::Formatter, text: &str) -> fmt::Result {
             '"' => f.write_str("\\\"")?,
             '\\' => f.write_str("\\\\")?,
             '\n' => f.write_str("\\n")?,
-            // Who prints the line must not print what moves a cursor or turns text round.
+            // On a terminal the line must not move the cursor or turn text round.
             c if hidden(c) => {
                 for unit in c.encode_utf16(&mut [0; 2]) {
                     write!(f, "\\u{unit:04x}")?;

@@ -8,16 +8,16 @@ use std::path::{Path, PathBuf};
 /// Writes the answer beside the file and moves it into place, so that a full disk or a kill leaves the old file whole.
 /// What is no file of the disk, as a terminal, is written as it is.
 pub fn keep(file: &OsStr, bytes: &[u8]) -> std::io::Result<()> {
-    let way = Path::new(file);
-    let old = match std::fs::metadata(way) {
-        Ok(found) if !found.is_file() && !found.is_dir() => return std::fs::write(way, bytes),
+    let path = Path::new(file);
+    let old = match std::fs::metadata(path) {
+        Ok(found) if !found.is_file() && !found.is_dir() => return std::fs::write(path, bytes),
         Ok(found) if found.is_dir() => return Err(Error::new(ErrorKind::IsADirectory, "it is a folder")),
         Ok(found) => Some(found),
-        Err(_) if way.is_symlink() => return Err(Error::new(ErrorKind::NotFound, "it is a link that leads nowhere")),
+        Err(_) if path.is_symlink() => return Err(Error::new(ErrorKind::NotFound, "it is a link that leads nowhere")),
         Err(_) => None,
     };
     // A link stays a link: the file that it leads to is the one that is replaced.
-    let place = if old.is_some() { std::fs::canonicalize(way)? } else { way.to_path_buf() };
+    let place = if old.is_some() { std::fs::canonicalize(path)? } else { path.to_path_buf() };
     let beside = beside(&place)?;
     let written = write_new(&beside, bytes).and_then(|()| match old {
         Some(old) => std::fs::set_permissions(&beside, old.permissions()),

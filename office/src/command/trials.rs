@@ -34,8 +34,8 @@ pub fn replay(arguments: &Arguments) -> Result<Outcome, Misuse> {
     };
     Case::parse(&text).map_err(|why| Misuse::Words(format!("{name} is no order to replay: {why}")))?;
     Ok(match office::replay(&text) {
-        Ok(said) => Outcome::answer(format!("{}\n", said.trim_end())),
-        Err(said) => Outcome::refusal(format!("{}\n", said.trim_end())),
+        Ok(words) => Outcome::answer(format!("{}\n", words.trim_end())),
+        Err(words) => Outcome::refusal(format!("{}\n", words.trim_end())),
     })
 }
 

@@ -49,20 +49,20 @@ impl Svg {
     }
 
     /// Text that begins at x.
-    pub fn text(&mut self, x: i64, y: i64, size: i64, colour: &str, weight: &str, said: &str) {
-        self.put("start", (x, y), size, colour, weight, said);
+    pub fn text(&mut self, x: i64, y: i64, size: i64, colour: &str, weight: &str, words: &str) {
+        self.put("start", (x, y), size, colour, weight, words);
     }
 
     /// Text around x.
-    pub fn middle(&mut self, x: i64, y: i64, size: i64, colour: &str, weight: &str, said: &str) {
-        self.put("middle", (x, y), size, colour, weight, said);
+    pub fn middle(&mut self, x: i64, y: i64, size: i64, colour: &str, weight: &str, words: &str) {
+        self.put("middle", (x, y), size, colour, weight, words);
     }
 
-    fn put(&mut self, anchor: &str, (x, y): (i64, i64), size: i64, colour: &str, weight: &str, said: &str) {
+    fn put(&mut self, anchor: &str, (x, y): (i64, i64), size: i64, colour: &str, weight: &str, words: &str) {
         self.text.push_str(&format!(
             "<text x=\"{x}\" y=\"{y}\" font-size=\"{size}\" font-weight=\"{weight}\" fill=\"{colour}\" \
              text-anchor=\"{anchor}\" xml:space=\"preserve\">{}</text>\n",
-            escape(said)
+            escape(words)
         ));
     }
 }

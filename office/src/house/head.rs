@@ -3,7 +3,7 @@
 use crate::at::{At, Field, Lines};
 use crate::kinds;
 use crate::line::Line;
-use crate::measure::{self, Measure};
+use crate::measure::{self, Measure, Quantity};
 use crate::mistake::Mistake;
 use crate::record::Record;
 
@@ -95,6 +95,12 @@ impl Head {
             sections: Vec::new(),
         }
     }
+}
+
+/// The quantities of the house's own lines; the first two are for odd records alone.
+pub fn quantities() -> impl Iterator<Item = Quantity> {
+    let own = FIELDS.iter().skip(2).map(|(field, measure)| Quantity::new(field.name(), measure));
+    own.chain([Quantity::new("residents", &measure::COUNT)])
 }
 
 /// Notes the line of a place, which may be given once only.

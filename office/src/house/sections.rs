@@ -4,13 +4,16 @@ use super::head::once;
 use crate::at::{At, Lines};
 use crate::kinds;
 use crate::line::Line;
-use crate::measure;
+use crate::measure::{self, Measure, Quantity};
 use crate::mistake::{Mistake, Mistakes};
 use crate::record::{Record, Section};
 use std::collections::BTreeMap;
 
 /// The words that begin a field of a section.
 const WORDS: [&str; 6] = ["from", "length", "elevation", "kind", "fixtures", "free"];
+/// What each of these words measures; a parent and a kind are no quantities.
+const MEASURES: [Option<&Measure>; WORDS.len()] =
+    [None, Some(&measure::LENGTH), Some(&measure::ELEVATION), None, Some(&measure::COUNT), Some(&measure::FREE)];
 const EXAMPLE: &str = "section 2 from 1 length 12.5 m elevation 600 cm kind hotel-75 fixtures 8 free 200 cm";
 
 /// The sections read so far, with the line and text of each for messages.
@@ -67,7 +70,10 @@ fn number(line: &mut Line) -> Result<u8, Mistake> {
     };
     match word.parse::<u8>() {
         Ok(number) if number > 0 && word.bytes().all(|b| b.is_ascii_digit()) => Ok(number),
-        _ => Err(line.mistake(format!("`{word}` is no section's number"), "a number from 1 to 63")),
+        _ => {
+            let expected = format!("a number from {}", measure::SECTION.taken);
+            Err(line.mistake(format!("`{word}` is no section's number"), expected))
+        }
     }
 }
 
@@ -105,14 +111,17 @@ fn fields(line: &mut Line, mistakes: &mut Mistakes) -> Section {
 
 /// The field at a place of `WORDS`.
 fn field(line: &mut Line, place: usize, section: &mut Section) -> Result<(), Mistake> {
-    let what = WORDS[place];
+    let value = match MEASURES[place] {
+        Some(measure) => line.quantity(WORDS[place], measure, &WORDS)?,
+        None => 0,
+    };
     match place {
         0 => section.parent = parent(line)?,
-        1 => section.length = line.quantity(what, &measure::LENGTH, &WORDS)? as u16,
-        2 => section.elevation = line.quantity(what, &measure::ELEVATION, &WORDS)? as i16,
+        1 => section.length = value as u16,
+        2 => section.elevation = value as i16,
         3 => section.kind = kind(line)?,
-        4 => section.fixtures = line.quantity(what, &measure::COUNT, &WORDS)? as u16,
-        _ => section.free = line.quantity(what, &measure::FREE, &WORDS)? as u16,
+        4 => section.fixtures = value as u16,
+        _ => section.free = value as u16,
     }
     Ok(())
 }
@@ -151,6 +160,12 @@ fn kind(line: &mut Line) -> Result<u8, Mistake> {
             kinds::kind(&word).ok_or_else(|| line.mistake(format!("`{word}` is no kind of consumer"), expected))
         }
     }
+}
+
+/// The quantities of a section's line.
+pub fn quantities() -> impl Iterator<Item = Quantity> {
+    let fields = WORDS.iter().zip(MEASURES).filter_map(|(word, measure)| Some(Quantity::new(word, measure?)));
+    [Quantity::new("section", &measure::SECTION)].into_iter().chain(fields)
 }
 
 /// The section lines with their columns in line.

@@ -2,24 +2,8 @@
 
 use super::Place;
 use crate::at::At;
-use crate::kinds;
+use crate::kinds::{self, Norm};
 use crate::record::Record;
-
-/// Q, Z and O of kinds 1 to 12 (document 01, "Norms and design flows").
-const NORMS: [(u64, u64, u64); 12] = [
-    (200, 30, 300),
-    (104, 20, 100),
-    (120, 20, 100),
-    (125, 30, 300),
-    (190, 20, 115),
-    (224, 30, 250),
-    (280, 30, 280),
-    (300, 30, 300),
-    (84, 20, 100),
-    (26, 20, 80),
-    (40, 14, 80),
-    (27, 14, 100),
-];
 
 /// The end of Table 2, and the greatest demand for one fixture, in millionths.
 const TABLE_END: u64 = 400_000_000;
@@ -138,8 +122,8 @@ impl Demand {
         std::array::from_fn(|kind| match house[kind] {
             0 => 0,
             all => {
-                let (q, z, _) = NORMS[kind];
-                (25_000 * q * u64::from(self.record.residents[kind]) * served[kind]).div_ceil(9 * z * all)
+                let Norm { hour, fixture, .. } = kinds::ALL[kind].norm;
+                (25_000 * hour * u64::from(self.record.residents[kind]) * served[kind]).div_ceil(9 * fixture * all)
             }
         })
     }
@@ -152,8 +136,8 @@ impl Demand {
     /// The hour's sum by kind, each share rounded up.
     fn hour_sum(&self) -> Sum {
         let shares = std::array::from_fn(|kind| {
-            let (q, _, o) = NORMS[kind];
-            (100_000 * q * u64::from(self.record.residents[kind])).div_ceil(o)
+            let Norm { hour, fixture_hour, .. } = kinds::ALL[kind].norm;
+            (100_000 * hour * u64::from(self.record.residents[kind])).div_ceil(fixture_hour)
         });
         Sum { at: At::House, what: "the hour's sum", shares, served: self.house() }
     }

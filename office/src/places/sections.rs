@@ -43,17 +43,17 @@ fn parent(record: &Record, number: u8, section: &Section) -> Option<String> {
     })
 }
 
-/// The sections met on the way from a section back to itself, if the way leads there.
+/// The sections met from parent to parent until the first one comes again, if it does.
 fn circle(record: &Record, number: u8) -> Option<String> {
-    let mut way = vec![number.to_string()];
+    let mut met = vec![number.to_string()];
     let mut at = number;
     for _ in 0..record.sections.len() {
         let section = record.sections.get(usize::from(at).checked_sub(1)?)?;
         at = section.parent;
         if at == number {
-            return Some(way.join(", "));
+            return Some(met.join(", "));
         }
-        way.push(at.to_string());
+        met.push(at.to_string());
     }
     None
 }

@@ -69,7 +69,8 @@ pub fn count(job: &[u8]) -> Vec<Place> {
     found
 }
 
-/// A catalogue lent as a job, which is said first. The two layouts never have the same length for the same counts, so this is no guess.
+/// A catalogue lent as a job: this place is named before the others. The two layouts never have the same length for the same
+/// counts, so it is no guess.
 fn swapped(job: &[u8]) -> Option<Place> {
     let table = Catalogue::read(job).is_ok_and(|table| table.stated as usize == job.len());
     let swapped = table && Record::read(job).is_err();

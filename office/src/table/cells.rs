@@ -3,9 +3,9 @@
 use super::{header, odd};
 use crate::measure::Measure;
 use crate::mistake::Mistake;
-use crate::readable::{self, Said};
+use crate::readable::{self, TextLine};
 
-/// A line that says something, parted at its separators.
+/// A line that is not blank, parted at its separators.
 pub struct Cells<'a> {
     pub line: usize,
     text: &'a str,
@@ -17,16 +17,16 @@ pub struct Cells<'a> {
 const SEPARATORS: [(char, &str); 3] = [(';', "semicolons"), (',', "commas"), ('\t', "tabs")];
 
 /// The separator that a spreadsheet names in the file's first line, `sep=;`; `None` in it where it is no separator.
-pub fn named_separator(said: &Said) -> Option<Option<char>> {
-    let line = said.said.trim_matches([' ', '\r', '"']).to_lowercase();
-    let named = line.strip_prefix("sep=")?;
+pub fn named_separator(line: &TextLine) -> Option<Option<char>> {
+    let words = line.content.trim_matches([' ', '\r', '"']).to_lowercase();
+    let named = words.strip_prefix("sep=")?;
     let mut rest = named.chars();
     let separator = rest.next().filter(|c| SEPARATORS.iter().any(|(known, _)| known == c));
     Some(separator.filter(|_| rest.as_str().is_empty()))
 }
 
 /// The one separator of a file, and how many lines stand before the table. The separator is what a first line `sep=;` names, or
-/// what parts the header into its six columns: whoever took another one too would read one number as two.
+/// what parts the header into its six columns: with two separators in one file a number could be read as two.
 pub fn separator(text: &str) -> Result<(char, usize), Mistake> {
     if let Some(first) = readable::lines(text).next()
         && let Some(named) = named_separator(&first)
@@ -35,12 +35,13 @@ pub fn separator(text: &str) -> Result<(char, usize), Mistake> {
         let expected = "`sep=;`, `sep=,` or `sep=` and a tab, or no such line";
         return named.map(|c| (c, 1)).ok_or_else(|| line.mistake("`sep=` names no separator of a table", expected));
     }
-    let known =
-        |said: &Said| !SEPARATORS.iter().any(|(c, _)| odd::knows(&Cells::of(said, *c)) || !Cells::of(said, *c).says());
+    let known = |line: &TextLine| {
+        !SEPARATORS.iter().any(|(c, _)| odd::knows(&Cells::of(line, *c)) || !Cells::of(line, *c).is_filled())
+    };
     let Some(line) = readable::lines(text).find(known) else { return Ok((',', 0)) };
     let whole = SEPARATORS.iter().find(|(c, _)| header::complete(&Cells::of(&line, *c)));
     // A header with a mistake in it is read by the first separator that it has, so that the mistake can be named.
-    let found = whole.or_else(|| SEPARATORS.iter().find(|(c, _)| line.said.contains(*c)));
+    let found = whole.or_else(|| SEPARATORS.iter().find(|(c, _)| line.content.contains(*c)));
     Ok((found.map_or(',', |(c, _)| *c), 0))
 }
 
@@ -89,13 +90,13 @@ fn cell(text: &str) -> String {
 }
 
 impl<'a> Cells<'a> {
-    pub fn of(said: &Said<'a>, separator: char) -> Cells<'a> {
-        let cells = parts(said.said, separator).into_iter().map(cell).collect();
-        Cells { line: said.number, text: said.text, separator, cells }
+    pub fn of(line: &TextLine<'a>, separator: char) -> Cells<'a> {
+        let cells = parts(line.content, separator).into_iter().map(cell).collect();
+        Cells { line: line.number, text: line.text, separator, cells }
     }
 
     /// Whether any cell holds something.
-    pub fn says(&self) -> bool {
+    pub fn is_filled(&self) -> bool {
         self.cells.iter().any(|cell| !cell.is_empty())
     }
 
@@ -104,7 +105,7 @@ impl<'a> Cells<'a> {
     }
 
     /// The line's text, for a message that comes later.
-    pub fn said(&self) -> String {
+    pub fn text(&self) -> String {
         self.text.to_string()
     }
 

@@ -38,11 +38,11 @@ impl Odd {
     /// A table without sizes has no rows to count, so only there a line may say what the count's byte holds.
     pub fn rows_of(&self, sizes: &[Size], counted: u8) -> Result<u8, Mistake> {
         match self.rows {
-            Some((said, _)) if sizes.is_empty() => Ok(said),
-            Some((said, line)) if said != counted => Err(Mistake::on(
+            Some((given, _)) if sizes.is_empty() => Ok(given),
+            Some((given, line)) if given != counted => Err(Mistake::on(
                 line,
-                &format!("rows,{said}"),
-                format!("the line `rows` says {said}, but each size has {counted} rows"),
+                &format!("rows,{given}"),
+                format!("the line `rows` says {given}, but each size has {counted} rows"),
                 "no line `rows`: the rows are counted",
             )),
             _ => Ok(counted),

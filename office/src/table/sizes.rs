@@ -5,13 +5,19 @@ use super::cells::Cells;
 use super::header::Columns;
 use crate::at::{At, Lines};
 use crate::catalogue::{Row, Size};
-use crate::measure::{self, Measure};
+use crate::measure::{self, Measure, Quantity};
 use crate::mistake::{Mistake, Mistakes};
 use std::collections::BTreeMap;
 
 /// What stands under each of `COLUMNS`.
 const MEASURES: [&Measure; COLUMNS.len()] =
     [&measure::SIZE, &measure::BORE, &measure::PRICE, &measure::FLOW, &measure::SPEED, &measure::SLOPE];
+
+/// The quantities of the columns, and the count of rows that a size has.
+pub fn quantities() -> impl Iterator<Item = Quantity> {
+    let columns = COLUMNS.iter().zip(MEASURES).map(|(column, measure)| Quantity::new(column, measure));
+    columns.chain([Quantity::new("rows of a size", &measure::ROWS)])
+}
 
 /// The sizes read so far, with the lines of their rows and, for messages, the first line.
 #[derive(Default)]
@@ -97,7 +103,7 @@ impl Given {
         let Some(part) = self.sizes.get(&size) else {
             let (bore, price) = (row.noted(1, mistakes) as u16, row.noted(2, mistakes) as u16);
             let kept = Size { bore, price, rows: Vec::new() };
-            self.sizes.insert(size, Part { size: kept, lines: Vec::new(), text: row.line.said() });
+            self.sizes.insert(size, Part { size: kept, lines: Vec::new(), text: row.line.text() });
             return;
         };
         for (column, kept) in [(1, part.size.bore), (2, part.size.price)] {

@@ -48,11 +48,11 @@ fn plain_line(line: &[u8]) -> Option<String> {
         return None;
     }
     let cut = line.iter().position(|byte| *byte == b'#');
-    let said = String::from_utf8(line[..cut.unwrap_or(line.len())].to_vec()).ok()?;
+    let content = String::from_utf8(line[..cut.unwrap_or(line.len())].to_vec()).ok()?;
     if let Some(cut) = cut {
         let behind = String::from_utf8_lossy(&line[cut + 1..]).into_owned();
         let word = |c: Option<char>| c.is_some_and(char::is_alphanumeric);
-        if word(said.chars().next_back()) && word(behind.chars().next()) {
+        if word(content.chars().next_back()) && word(behind.chars().next()) {
             return None;
         }
         if behind.split(|c| matches!(c as u32, 11 | 12 | 28..=30 | 0x85 | 0x2028 | 0x2029)).skip(1).any(is_a_line) {
@@ -60,10 +60,10 @@ fn plain_line(line: &[u8]) -> Option<String> {
         }
     }
     let odd = |c: char| (c.is_control() && !"\t\u{c}".contains(c)) || "\u{2028}\u{2029}".contains(c);
-    if said.contains(odd) {
+    if content.contains(odd) {
         return None;
     }
-    Some(said.to_lowercase())
+    Some(content.to_lowercase())
 }
 
 /// Whether a part of a comment looks like a house's line or a table's row.
@@ -418,7 +418,7 @@ fn whole_table(mut fields: Fields, counts: &BTreeMap<i64, i64>) -> Option<Fields
     let even = counts.values().all(|own| (*own).max(0) == rows);
     (even && counts.keys().copied().eq(1..=sizes)).then_some(())?;
     match fields.get("rows").copied() {
-        Some(said) if sizes > 0 && said != rows => return None,
+        Some(given) if sizes > 0 && given != rows => return None,
         Some(_) => {}
         None => {
             fields.insert("rows".to_string(), rows);

@@ -1,0 +1,183 @@
+//! What the command tells an installer who has no page of the repository: kinds, files, refusals, files to start from, versions.
+
+#[path = "tools/json.rs"]
+mod json;
+#[path = "tools/run.rs"]
+mod run;
+
+use json::Value;
+use office::{Refusal, house, kinds, table};
+use run::{Ran, office, office_with, read, scratch};
+
+fn answered(words: &[&str]) -> String {
+    let ran = office(words);
+    assert_eq!((ran.status, ran.error.as_str()), (0, ""), "{words:?}");
+    ran.text()
+}
+
+/// A text without its line ends, so that lines that were folded can be looked for.
+fn unfolded(text: &str) -> String {
+    text.split_whitespace().collect::<Vec<_>>().join(" ")
+}
+
+fn misused(ran: Ran, why: &str) {
+    assert_eq!((ran.status, ran.output.len()), (2, 0), "{why}");
+    assert!(ran.error.starts_with("office: ") && ran.error.contains(why), "{}", ran.error);
+}
+
+#[test]
+fn kinds_in_words_in_json_and_on_the_page() {
+    let printed = answered(&["kinds"]);
+    let parsed = json::parse(&answered(&["kinds", "--json"]));
+    let page = read("docs/FILES.md");
+    assert_eq!(parsed.list("kinds").len(), kinds::ALL.len());
+    for (number, (kind, listed)) in (1..).zip(kinds::ALL.iter().zip(parsed.list("kinds"))) {
+        let (name, what) = (kind.name, kind.what);
+        assert_eq!(listed.number("kind"), number);
+        assert_eq!((listed.get("name"), listed.get("what")), (&Value::Text(name.into()), &Value::Text(what.into())));
+        let keys = ["day_l", "hour_tenths_l", "fixture_hundredths_l_per_s", "fixture_l_per_h"];
+        let [day, hour, fixture, fixture_hour] = keys.map(|key| listed.number(key));
+        let own = [kind.norm.day, kind.norm.hour, kind.norm.fixture, kind.norm.fixture_hour];
+        assert_eq!([day, hour, fixture, fixture_hour], own.map(|norm| norm as i64));
+        let line = printed.lines().find(|line| line.starts_with(&format!("{name} "))).expect("a line for each kind");
+        let litres = format!("{}.{} 0.{fixture:02} {fixture_hour}", hour / 10, hour % 10);
+        assert_eq!(unfolded(line), format!("{name} {number} {what} {day} {litres}"));
+        assert!(page.contains(&format!("\n|`{name}`|{number}|{what}|\n")), "docs/FILES.md has another line for {name}");
+    }
+}
+
+/// The indented lines of a help text, block by block; a blank line within a block belongs to it.
+fn blocks(text: &str) -> Vec<String> {
+    let mut blocks = vec![String::new()];
+    for line in text.lines() {
+        let last = blocks.last_mut().expect("there is a first block");
+        match line.strip_prefix("    ") {
+            Some(line) => last.push_str(&format!("{line}\n")),
+            None if line.is_empty() => last.push('\n'),
+            None => blocks.push(String::new()),
+        }
+    }
+    blocks.into_iter().map(|block| block.trim().to_string() + "\n").filter(|block| block != "\n").collect()
+}
+
+#[test]
+fn the_examples_of_the_help_on_files_are_packed_from_that_text() {
+    let examples = blocks(&answered(&["help", "files"]));
+    let [house, table] = &examples[..] else { panic!("a house and a table: {examples:?}") };
+    for (text, packed) in [(house, house::pack(house)), (table, table::pack(table))] {
+        let ran = office_with(&["pack", "-", "--strict"], text.as_bytes());
+        assert_eq!((ran.status, ran.error.as_str()), (0, ""), "{text}");
+        assert_eq!(Ok(ran.output), packed);
+    }
+    assert_eq!([house, table].map(String::as_str), [&answered(&["new", "house"]), &answered(&["new", "table"])]);
+}
+
+#[test]
+fn the_help_on_files_has_every_field() {
+    let text = answered(&["help", "files"]);
+    for quantity in house::quantities().iter().chain(&table::quantities()) {
+        let wanted = unfolded(&format!("{} {} {}", quantity.name, quantity.taken, quantity.units));
+        assert!(text.lines().any(|line| unfolded(line) == wanted), "{wanted}");
+    }
+}
+
+#[test]
+fn new_files_are_taken_without_refusal_or_warning() {
+    let (house, table) = (scratch("new-house.txt"), scratch("new-table.csv"));
+    for (what, file) in [("house", &house), ("table", &table)] {
+        let _ = std::fs::remove_file(file);
+        assert_eq!(answered(&["new", what, "-o", file]), "");
+        assert_eq!(std::fs::read_to_string(file).expect("written"), answered(&["new", what]));
+    }
+    answered(&["flow", &house, "--strict"]);
+    let chosen = answered(&["choose", &house, &table, "--strict"]);
+    let sizes = chosen.lines().find_map(|line| line.strip_prefix("sizes  ")).expect("a list of sizes");
+    assert!(sizes.contains('1') && sizes.contains('2'), "the example mixes sizes: {sizes}");
+    answered(&["rate", &house, &table, sizes, "--strict"]);
+    answered(&["choose", &house, "examples/table.csv", "--strict"]);
+    answered(&["choose", "examples/house.txt", "examples/table.csv", "--strict"]);
+}
+
+#[test]
+fn new_replaces_no_file() {
+    let file = scratch("new-kept.txt");
+    std::fs::write(&file, "my own house").expect("written");
+    misused(office(&["new", "house", "-o", &file]), "is there already, and `new` replaces no file");
+    assert_eq!(std::fs::read_to_string(&file).expect("as it was"), "my own house");
+    misused(office(&["new", "shed"]), "`new` gives no `shed`; it gives house or table");
+    misused(office(&["new"]), "`new` takes 1 word, not 0");
+    // What is no file of the disk is written as it is, as by every command.
+    if cfg!(unix) {
+        assert_eq!(answered(&["new", "house", "-o", "/dev/null"]), "");
+    }
+}
+
+#[test]
+fn each_refusal_has_its_help() {
+    let list = answered(&["help", "refusals"]);
+    for refusal in Refusal::all() {
+        let number = refusal.number();
+        let text = answered(&["help", &number.to_string()]);
+        assert!(text.lines().all(|line| line.chars().count() <= 120), "{text}");
+        let words = unfolded(&text);
+        assert!(words.starts_with(&format!("{refusal} {} Usual causes: - ", refusal.plain())), "{text}");
+        for sentence in refusal.causes().iter().chain(refusal.remedies()) {
+            assert!(words.contains(&format!("- {sentence}")), "{sentence}");
+        }
+        assert!(list.contains(&format!("{number:>2}  {}\n", refusal.plain())), "{list}");
+    }
+}
+
+#[test]
+fn help_on_what_there_is_not_says_what_there_is() {
+    let last = Refusal::all().count();
+    for word in ["0", &(last + 1).to_string(), "016", "+1", "frobnicate", ""] {
+        misused(office(&["help", word]), &format!("there is no help on `{word}`; the commands are pack, show"));
+        misused(
+            office(&["help", word]),
+            &format!("the topics are files, refusals, and a refusal's number, 1 to {last}\n"),
+        );
+    }
+    // A topic has one spelling: it is no command.
+    for words in [&["files"][..], &["refusals", "--help"], &["13", "--help"], &["version"]] {
+        misused(office(words), "there is no command `");
+    }
+}
+
+#[test]
+fn versions_a_line_each() {
+    let version = env!("CARGO_PKG_VERSION");
+    let wanted = format!("command {version}\nlibrary {version}\nspecification document 01\n");
+    assert_eq!(answered(&["--version"]), wanted);
+    let parsed = json::parse(&answered(&["--version", "--json"]));
+    assert_eq!(parsed.get("command_version"), &Value::Text(version.into()));
+    assert_eq!(parsed.get("library_version"), &Value::Text(version.into()));
+    assert_eq!(parsed.get("specification"), &Value::Text("document 01".into()));
+    misused(office(&["flow", "examples/house.txt", "--version"]), "`--version` stands alone");
+    misused(office(&["--version", "please"]), "`--version` takes no words, not 1");
+}
+
+/// The commands' usages as `office help` lists them.
+fn usages() -> Vec<String> {
+    let list = answered(&["help"]);
+    let commands = list.split("\n\n").nth(1).expect("the list of commands");
+    commands.lines().map(|line| line.trim_start().split("  ").next().unwrap_or("").to_string()).collect()
+}
+
+#[test]
+fn every_command_of_the_list_has_its_help_and_its_line_on_the_page() {
+    assert_eq!(
+        [answered(&[]), answered(&["--help"]), answered(&["help", "help"])],
+        [(); 3].map(|()| answered(&["help"]))
+    );
+    let page = read("docs/COMMAND.md");
+    for usage in usages() {
+        let name = usage.split(' ').nth(1).expect("a name behind `office`");
+        let help = answered(&["help", name]);
+        assert!(name == "help" || help.starts_with(&format!("{usage}\n")), "{usage}");
+        assert!(help.contains("Status: 0"), "{usage}");
+        assert_eq!(help, answered(&[name, "--help"]));
+        assert!(page.contains(&format!("\n|`office {name}")), "docs/COMMAND.md has no line for `office {name}`");
+    }
+    assert!(usages().len() >= 13, "{:?}", usages());
+}
