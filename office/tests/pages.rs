@@ -9,8 +9,8 @@
 //! - Calls. `` `crate::name` `` is a function, a type, a constant or a module in that crate's `src/`.
 //! - Vectors. On a line with the word Vector or Vectors, `` `# room 50` `` begins a line of `crates/vectors/stdin`.
 //! - Crates. `docs/ARCHITECTURE.md` shows them between the lines `<!-- crates -->` and `<!-- /crates -->`, each on a line
-//!   `name ── one, two, three` with the crates of the repository that it uses itself, or `name ──` where there is none. Other
-//!   lines are headings. It is what `crates.txt` has.
+//!   `name ── one, two, three` with the crates of the repository that it uses and that none of these uses in turn, or `name ──`
+//!   where there is none. Other lines are headings. It is what `crates.txt` has.
 //! - Commands. A line `office ...` or `$ office ...` of a block (indented or fenced) is run, unless it has a placeholder in
 //!   capitals, and ends with status 0. What follows it up to the next command or the end of the block is what it prints; a
 //!   last line `...` stands for any more. A page's commands run one after another in a folder that has `examples/`. Where
@@ -209,6 +209,18 @@ fn crates() -> BTreeMap<String, BTreeSet<String>> {
     all.iter().map(|(name, uses)| (name.to_string(), own(uses))).collect()
 }
 
+/// All that a crate uses, itself or through another.
+fn reached(crates: &BTreeMap<String, BTreeSet<String>>, name: &str) -> BTreeSet<String> {
+    let uses = &crates[name];
+    uses.iter().cloned().chain(uses.iter().flat_map(|used| reached(crates, used))).collect()
+}
+
+/// Of the crates that one uses, those that none of the others uses in turn.
+fn nearest(crates: &BTreeMap<String, BTreeSet<String>>, name: &str) -> BTreeSet<String> {
+    let uses = &crates[name];
+    uses.iter().filter(|used| !uses.iter().any(|other| reached(crates, other).contains(*used))).cloned().collect()
+}
+
 /// The source of a crate, all files together.
 fn source(name: &str) -> String {
     let folder = top().join("crates").join(name).join("src");
@@ -272,7 +284,7 @@ fn between<'a>(text: &'a str, from: &str, to: &str) -> Option<&'a str> {
 #[test]
 fn the_picture_of_the_crates_is_their_list() {
     let page = read("docs/ARCHITECTURE.md");
-    let Some(picture) = between(&page, "<!-- crates -->\n", "<!-- /crates -->") else { return };
+    let picture = between(&page, "<!-- crates -->\n", "<!-- /crates -->").expect("the picture is there");
     let mut shown = BTreeMap::new();
     for (name, uses) in picture.lines().filter_map(|line| line.split_once("──")) {
         let uses: BTreeSet<String> =
@@ -280,9 +292,11 @@ fn the_picture_of_the_crates_is_their_list() {
         assert!(shown.insert(name.trim().to_string(), uses).is_none(), "{name} is there twice");
     }
     let mut wrong = Vec::new();
-    for (name, uses) in &crates() {
+    let crates = crates();
+    for name in crates.keys() {
+        let uses = nearest(&crates, name);
         match shown.remove(name) {
-            Some(shown) if shown == *uses => {}
+            Some(shown) if shown == uses => {}
             Some(shown) => wrong.push(format!("{name} uses {uses:?}; the picture has {shown:?}")),
             None => wrong.push(format!("the picture has no crate {name}")),
         }
