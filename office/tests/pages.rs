@@ -18,7 +18,7 @@
 //!   `` `office ...` `` in prose begins with a command that there is.
 //! - Files. The examples of the two formats in `docs/FILES.md` are taken, and its ranges are those of the command.
 //! - Targets. Each `make name` is a target of the Makefile. Where a line that names one ends in "prints", the block behind it
-//!   is what the target's own commands print.
+//!   is what the target prints.
 #![cfg(unix)]
 
 #[path = "tools/run.rs"]
@@ -448,15 +448,6 @@ fn targets_are_in_the_makefile() {
     assert!(seen > 5, "only {seen} targets were found");
 }
 
-/// The commands of a target that print its answer; the others build what these need.
-fn recipe(name: &str) -> String {
-    let makefile = read("Makefile");
-    let from = makefile.lines().skip_while(|line| !line.starts_with(&format!("{name}:"))).skip(1);
-    let lines = from.map_while(|line| line.strip_prefix('\t')).map(|line| line.trim_start_matches('@'));
-    let printing = lines.filter(|line| ["$(office) ", "echo", "target/bin/"].iter().any(|word| line.starts_with(word)));
-    printing.map(|line| line.replace("$(office)", "office").replace("$$", "$") + "\n").collect()
-}
-
 #[test]
 fn targets_print_what_is_shown() {
     let mut wrong = Vec::new();
@@ -465,7 +456,8 @@ fn targets_print_what_is_shown() {
         for block in page.blocks().iter().filter(|block| block.lead.ends_with(" prints")) {
             let Some(name) = quoted(&block.lead).filter_map(target).last() else { continue };
             seen += 1;
-            let (status, printed) = shell(&recipe(name), &top());
+            // What the target stands on is built by now, since this test is.
+            let (status, printed) = shell(&format!("make --no-print-directory -o target/built {name}"), &top());
             if status != Some(0) || !is_shown(&block.lines, &printed) {
                 wrong.push(format!("{}: `make {name}` prints\n{printed}", page.name));
             }
