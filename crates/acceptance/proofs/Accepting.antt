@@ -81,15 +81,15 @@ module _ (b cat : List ℕ) where
     unfolding inputJob inputNo
     input-fields = fields-given (inputChecks b cat) (decode b) none
 
-    both : (jobNo b ≡ 0) × (catNo cat ≡ 0)
+    pub input-both : (jobNo b ≡ 0) × (catNo cat ≡ 0)
     unfolding inputNo inputChecks jobNo catNo
-    both = first-split (jobChecks b) (catChecks cat) (job-numbered b) none
+    input-both = first-split (jobChecks b) (catChecks cat) (job-numbered b) none
 
     pub input-accepted : Accepted (decode b)
-    input-accepted = accept-accepted b (both .0)
+    input-accepted = accept-accepted b (input-both .0)
 
     pub input-listed : AcceptedCat cat
-    input-listed = cat-of cat (both .1)
+    input-listed = cat-of cat (input-both .1)
 
   module _ (rest : List (Bool × ℕ)) where
     pub input-stops : (inputNo b cat ≡ 0 → ⊥) → firstNo (inputChecks b cat ++ rest) ≡ inputNo b cat

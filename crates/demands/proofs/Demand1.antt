@@ -10,7 +10,7 @@ use borrow.Author.Tests.{ne-eqb}
 use Rattle.basis.proofs.Split.{eq-or-ne}
 use Rattle.answer.specs.Checks.{firstNo}
 use Rattle.rules.specs.Rules.{fieldChecks}
-use Rattle.job.specs.Calls.{shapeChecks, readChecks, copyChecks, copyNo}
+use Rattle.job.specs.Calls.{shapeChecks, readChecks, readNo, writeChecks, writeNo, copyChecks, copyNo}
 use Rattle.demand.specs.Demand.{demandChecks}
 use Rattle.catalogue.specs.Rules.{catChecks}
 use Rattle.acceptance.specs.Acceptance.{jobChecks, inputChecks}
@@ -18,7 +18,7 @@ use Rattle.flow.specs.Calls.{flowNo, dutyNo}
 use Rattle.rating.specs.Calls.{rateChecks, rateNo}
 use Rattle.choosing.specs.Calls.{chooseChecks, chooseNo, Chosen}
 use Rattle.order.specs.Promises.{Gives}
-use Rattle.demands.specs.Demand1.{Call, Copy, Flow, Duty, Rate, Choose, numbersOf, Among, Called, copied, flow-given, duty-given, rated, chosen, Answered, Demand1}
+use Rattle.demands.specs.Demand1.{Call, Read, Write, Copy, Flow, Duty, Rate, Choose, numbersOf, Among, Called, read, written, copied, flow-given, duty-given, rated, chosen, Answered, Demand1}
 
 -- the numbers of a list of checks
 numbers : List (Bool × ℕ) → List ℕ
@@ -39,41 +39,48 @@ among-last n [] = inl refl
 among-last n (x ∷ l) = inr (among-last n l)
 
 -- a call without a workspace, whose number is that of its checks
-gives-answered : (call : Call) (checks : List (Bool × ℕ)) → numbers checks ≡ numbersOf call → {bytes out₀ out : List ℕ} {n : ℕ} →
-    Gives (firstNo checks) bytes out₀ out n → Answered call out₀ out [] [] n
-gives-answered call checks e {bytes} {out₀} {out} {n} g =
+checked : (call : Call) (checks : List (Bool × ℕ)) → numbers checks ≡ numbersOf call → {out₀ out : List ℕ} {n : ℕ} → n ≡ firstNo checks →
+    ((n ≡ 0 → ⊥) → out ≡ out₀) → Answered call out₀ out [] [] n
+checked call checks e {n = n} number kept =
     record {
-      number = rw (g .number, ← e) (first-among checks);
-      kept = λ other. g .buffer ∙ rw (ne-eqb n 0 other);
-      untouched = λ other not-16. refl;
+      answer = ⊎-elim
+          inl
+          (λ other. inr (rw (number, ← e) (⊎-elim (λ z. absurd (other (number ∙ z))) (λ a. a) (first-among checks)), kept other))
+          (eq-or-ne n 0);
+      workspace = λ other not-16. refl;
     }
 
+gives-answered : (call : Call) (checks : List (Bool × ℕ)) → numbers checks ≡ numbersOf call → {bytes out₀ out : List ℕ} {n : ℕ} →
+    Gives (firstNo checks) bytes out₀ out n → Answered call out₀ out [] [] n
+gives-answered call checks e {n = n} g = checked call checks e (g .number) (λ other. g .buffer ∙ rw (ne-eqb n 0 other))
+
 -- choosing: the checks before the search, then 16 or a result
-module _ {b cat out₀ work₀ out work : List ℕ} {n : ℕ} (c : Chosen b cat out₀ work₀ out work n) where
-  before : ℕ
-  before = chooseNo b cat (length out₀) (length work₀)
-
-  found : (n ≡ 0) ⊎ Among n (numbersOf Choose)
-  unfolding before numbers chooseNo chooseChecks inputChecks jobChecks readChecks shapeChecks fieldChecks demandChecks catChecks
-  found =
-      ⊎-elim
-      (λ e. ⊎-elim (λ u. rw (u .number) (inr (among-last 16 (numbers (chooseChecks b cat (length out₀) (length work₀)))))) (λ f. inl (f .number)) (c .chosen e))
-      (λ other. rw (c .refused other .number)
-      (⊎-elim inl (λ a. inr (among-more before (numbers (chooseChecks b cat (length out₀) (length work₀))) (16 ∷ []) a)) (first-among (chooseChecks b cat (length out₀) (length work₀)))))
-      (eq-or-ne before 0)
-
-  chosen-answered : Answered Choose out₀ out work₀ work n
-  unfolding before
-  chosen-answered =
-      record {
-        number = found;
-        kept = λ other. ⊎-elim (λ e. ⊎-elim (λ u. u .kept) (λ f. absurd (other (f .number))) (c .chosen e)) (λ no. c .refused no .kept) (eq-or-ne before 0);
-        untouched = λ other not-16.
-            ⊎-elim (λ e. ⊎-elim (λ u. absurd (not-16 (u .number))) (λ f. absurd (other (f .number))) (c .chosen e)) (λ no. c .refused no .untouched) (eq-or-ne before 0);
-      }
+chosen-answered : {b cat out₀ work₀ out work : List ℕ} {n : ℕ} → Chosen b cat out₀ work₀ out work n → Answered Choose out₀ out work₀ work n
+unfolding numbers chooseNo chooseChecks inputChecks jobChecks readChecks shapeChecks fieldChecks demandChecks catChecks
+chosen-answered {b} {cat} {out₀} {work₀} {out} {work} {n} c =
+    let checks = chooseChecks b cat (length out₀) (length work₀) in
+    ⊎-elim
+    (λ e. ⊎-elim
+    (λ u. record {
+      answer = inr (rw (u .number) (among-last 16 (numbers checks)), u .kept);
+      workspace = λ other not-16. absurd (not-16 (u .number));
+    })
+    (λ f. record { answer = inl (f .number); workspace = λ other not-16. absurd (other (f .number)) })
+    (c .chosen e))
+    (λ other. let r = c .refused other in
+    record {
+      answer = inr
+          (rw (r .number) (among-more (firstNo checks) (numbers checks) (16 ∷ []) (⊎-elim (λ z. absurd (other z)) (λ a. a) (first-among checks))), r .kept);
+      workspace = λ no not-16. r .untouched;
+    })
+    (eq-or-ne (chooseNo b cat (length out₀) (length work₀)) 0)
 
 answered : {call : Call} {out₀ out work₀ work : List ℕ} {n : ℕ} → Called call out₀ out work₀ work n → Answered call out₀ out work₀ work n
-unfolding numbers copyNo copyChecks flowNo dutyNo rateNo rateChecks inputChecks jobChecks readChecks shapeChecks fieldChecks demandChecks catChecks
+unfolding
+    numbers readNo writeNo writeChecks copyNo copyChecks flowNo dutyNo rateNo rateChecks
+    inputChecks jobChecks readChecks shapeChecks fieldChecks demandChecks catChecks
+answered (read b e) = checked Read (readChecks b) refl e (λ other. refl)
+answered (written job g) = gives-answered Write _ refl g
 answered (copied job g) = gives-answered Copy _ refl g
 answered (flow-given job g) = gives-answered Flow _ refl g
 answered (duty-given job g) = gives-answered Duty _ refl g

@@ -7,7 +7,10 @@ use lib.ListN.{length}
 use Rattle.basis.specs.Part.{part}
 use Rattle.basis.proofs.Part.{part-front}
 use Rattle.basis.proofs.Stored.{stored-front}
-use Rattle.job.proofs.RoundTrip.{written-read-same, same-bytes, not-refused}
+use Rattle.job.proofs.RoundTrip.{written-read-same, same-bytes, copied as copied-number, not-refused}
+use Rattle.acceptance.proofs.Accepting.{input-cat}
+use Rattle.flow.proofs.Ordering.{flow-done, duty-done}
+use Rattle.rating.proofs.Ordering.{rate-done}
 use Rattle.order.specs.Promises.{Copied}
 use Rattle.demands.specs.Demand2.{Demand2}
 use Rattle.demands.proofs.Flows.{flow-figures, duty-figure}
@@ -19,11 +22,15 @@ copied job out₀ out g = rw (g .buffer ∙ stored-front out₀ job) (part-front
 pub demand-2 : Demand2
 demand-2 =
     record {
+      flow-given = λ b room e h. flow-done b room e h;
+      duty-given = λ b room e h. duty-done b room e h;
+      rate-given = λ b cat sizes room e f named none h. rate-done b cat sizes room (input-cat b cat e .0 ∙ f) named h none;
       flow = λ job out₀ out bytes g. flow-figures job out₀ out g bytes;
       duty = duty-figure;
       rate = λ job cat sizes out₀ out bytes g. rate-figures job cat sizes out₀ out bytes g;
       same-fields = λ job again out₀ out w. written-read-same w refl;
       same-bytes = λ b bytes e. same-bytes b e bytes;
       copied = copied;
-      not-refused = λ b room e h. not-refused b e room h;
+      write-given = λ b room e h. not-refused b e room h;
+      copy-given = λ b room e h. copied-number b e room ∙ not-refused b e room h;
     }

@@ -20,7 +20,7 @@ use Rattle.demand.specs.Demand.{Accepted}
 use Rattle.demand.proofs.Validity.{valid-count}
 use Rattle.catalogue.specs.Contracts.{AcceptedCat}
 use Rattle.acceptance.specs.Acceptance.{inputNo}
-use Rattle.acceptance.proofs.Accepting.{input-accepted, input-listed}
+use Rattle.acceptance.proofs.Accepting.{input-cat, input-both, input-accepted, input-listed}
 use Rattle.sizing.specs.Losses.{lossesOf}
 use Rattle.sizing.proofs.Named.{list-long, list-names}
 use Rattle.choosing.specs.Suitable.{Suitable, priceAt, costOf}
@@ -28,7 +28,7 @@ use Rattle.choosing.specs.Calls.{Ample, chooseNo, chooseBytes, Unsuitable, Chea
 use Rattle.choosing.proofs.EachEnd.{required-ends, ends-required}
 use Rattle.choosing.proofs.Entries.{price-top}
 use Rattle.choosing.proofs.Ordering.{choose-inputs, choose-ready}
-use Rattle.demands.specs.Demand3.{Suited, returnedList, Returned, Sixteen, Demand3}
+use Rattle.demands.specs.Demand3.{Suited, returnedList, Returned, SixteenOrList, Demand3}
 
 -- the demand's own words and document 01's
 module _ {job : Job} {cat list : List ℕ} where
@@ -80,12 +80,12 @@ module _ (b cat : List ℕ) (accepted : inputNo b cat ≡ 0) where
     either : Unsuitable (decode b) cat out₀ out n ⊎ Cheapest (decode b) cat out₀ out n
     either = c .chosen (choose-ready b cat (length out₀) (length work₀) accepted (space .result) (space .space))
 
-    sixteen-of : Sixteen (decode b) cat n
+    sixteen-of : SixteenOrList (decode b) cat out n
     sixteen-of =
         record {
           none = λ e y s. ⊎-elim (λ u. u .none y (suitable some s)) (λ f. absurd (omega (arith, f .number))) either;
           only = λ none. ⊎-elim (λ u. u .number) (λ f. absurd (none (f .list) (suited (f .suits)))) either;
-          otherwise = λ other. ⊎-elim (λ u. absurd (other (u .number))) (λ f. f .number) either;
+          otherwise = λ other. ⊎-elim (λ u. absurd (other (u .number))) (λ f. (f .number, returned-of f)) either;
         }
 
 -- a list is returned only where nothing was found before the search, and so to accepted inputs
@@ -102,6 +102,6 @@ module _ {b cat out₀ work₀ out work : List ℕ} (c : Chosen b cat out₀ wor
 pub demand-3 : Demand3
 demand-3 =
     record {
-      returned = λ b cat out₀ work₀ out work c. (accepted-of c, result-of c);
-      sixteen = λ b cat out₀ work₀ out work n accepted space c. sixteen-of b cat accepted space c;
+      returned = λ b cat out₀ work₀ out work c. (input-both b cat (accepted-of c) .0, input-both b cat (accepted-of c) .1, result-of c);
+      sixteen = λ b cat out₀ work₀ out work n job listed space c. sixteen-of b cat (input-cat b cat job .0 ∙ listed) space c;
     }

@@ -1,21 +1,26 @@
 -- Demand 1: "Whoever wrote the job, the catalogue or the list of sizes, each call comes back with a result or with a number from the
 -- table in document 01, nobody has to check the input first, and a refusal leaves the result buffer untouched."
--- That each call comes back is what the check shows of every function; that nobody has to check the input first, that no exported call
--- has a `requires`. The rest is `Demand1`.
+-- Each call comes back: the check shows of every function that it ends. Nobody has to check the input first: no call has a `requires`.
 -- Assumes nothing.
 use mathlib.Core.Path.{_≡_}
 use mathlib.Core.Logic.{_⊎_}
 use mathlib.Core.List.{List, [], _∷_}
 use Prim.Native.Nat.{ℕ}
+use lib.ListN.{length}
+use Rattle.fields.specs.declared.Job.{Job}
+use Rattle.record.specs.Record.{encode}
+use Rattle.job.specs.Calls.{readNo, writeNo}
 use Rattle.choosing.specs.Calls.{Chosen}
-use Rattle.order.specs.Promises.{Copied, FlowGiven, DutyGiven, Rated}
+use Rattle.order.specs.Promises.{Gives, Copied, FlowGiven, DutyGiven, Rated}
 
--- the exported calls
+-- the reader and the writer of a record, and the exported calls
 pub data Call : Type 0 where
-  Copy Flow Duty Rate Choose : Call
+  Read Write Copy Flow Duty Rate Choose : Call
 
--- the numbers of document 01's table that a call can give, in its order
+-- the numbers of document 01's table that a call can give, in the order of its checks
 abbrev pub numbersOf : Call → List ℕ
+numbersOf Read = 1 ∷ 2 ∷ 3 ∷ 4 ∷ 5 ∷ 6 ∷ 7 ∷ []
+numbersOf Write = 3 ∷ 5 ∷ 6 ∷ 7 ∷ 14 ∷ []
 numbersOf Copy = 1 ∷ 2 ∷ 3 ∷ 4 ∷ 5 ∷ 6 ∷ 7 ∷ 14 ∷ []
 numbersOf Flow = 1 ∷ 2 ∷ 3 ∷ 4 ∷ 5 ∷ 6 ∷ 7 ∷ 8 ∷ 9 ∷ 14 ∷ []
 numbersOf Duty = 1 ∷ 2 ∷ 3 ∷ 4 ∷ 5 ∷ 6 ∷ 7 ∷ 8 ∷ 9 ∷ 14 ∷ []
@@ -27,22 +32,20 @@ abbrev pub Among : ℕ → List ℕ → Type 0
 Among n [] = ⊥
 Among n (x ∷ l) = (n ≡ x) ⊎ Among n l
 
--- a call kept its promise: result buffer and workspace before and after it, and the number that it gave
+-- a call kept its promise: result buffer and workspace before and after it, empty where it has none, and the number that it gave
 pub data Called : Call → List ℕ → List ℕ → List ℕ → List ℕ → ℕ → Type 0 where
+  read : {n : ℕ} (b : List ℕ) → n ≡ readNo b → Called Read [] [] [] [] n
+  written : {out₀ out : List ℕ} {n : ℕ} (job : Job) → Gives (writeNo job (length out₀)) (encode job) out₀ out n → Called Write out₀ out [] [] n
   copied : {out₀ out : List ℕ} {n : ℕ} (job : List ℕ) → Copied job out₀ out n → Called Copy out₀ out [] [] n
   flow-given : {out₀ out : List ℕ} {n : ℕ} (job : List ℕ) → FlowGiven job out₀ out n → Called Flow out₀ out [] [] n
   duty-given : {out₀ out : List ℕ} {n : ℕ} (job : List ℕ) → DutyGiven job out₀ out n → Called Duty out₀ out [] [] n
   rated : {out₀ out : List ℕ} {n : ℕ} (job cat sizes : List ℕ) → Rated job cat sizes out₀ out n → Called Rate out₀ out [] [] n
   chosen : {out₀ out work₀ work : List ℕ} {n : ℕ} (job cat : List ℕ) → Chosen job cat out₀ work₀ out work n → Called Choose out₀ out work₀ work n
 
--- what it then gave
+-- what it then gave: a result, or a number from the table with the result buffer untouched, and the workspace too but for 16
 pub record Answered (call : Call) (out₀ out work₀ work : List ℕ) (n : ℕ) : Type 0 where
-  -- a result, or a number from the table
-  pub number : (n ≡ 0) ⊎ Among n (numbersOf call)
-  -- a refusal leaves the result buffer untouched
-  pub kept : (n ≡ 0 → ⊥) → out ≡ out₀
-  -- and the workspace, but for 16
-  pub untouched : (n ≡ 0 → ⊥) → (n ≡ 16 → ⊥) → work ≡ work₀
+  pub answer : (n ≡ 0) ⊎ (Among n (numbersOf call) × (out ≡ out₀))
+  pub workspace : (n ≡ 0 → ⊥) → (n ≡ 16 → ⊥) → work ≡ work₀
 
 pub record Demand1 : Type 0 where
   pub answered : {call : Call} {out₀ out work₀ work : List ℕ} {n : ℕ} → Called call out₀ out work₀ work n → Answered call out₀ out work₀ work n

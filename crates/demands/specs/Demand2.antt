@@ -3,6 +3,7 @@
 -- The figures are read back from a result's bytes by its layout, as a caller reads them. The formulas are the definitions named here.
 -- Assumes nothing.
 use mathlib.Core.Path.{_≡_}
+use mathlib.Core.Bool.{true, false}
 use mathlib.Core.List.{List}
 use Prim.Native.Nat.{ℕ, _+_, _-_, _*_, _≤_, _<_}
 use lib.ListN.{length}
@@ -12,13 +13,17 @@ use Rattle.wire.specs.Wire.{byteAt, beAt, signedOf}
 use Rattle.fields.specs.declared.Job.{Job}
 use Rattle.fields.specs.Fields.{countOf}
 use Rattle.record.specs.Record.{decode, encode}
-use Rattle.job.specs.Calls.{readNo, readJob, writeNo, WrittenRead, SameFields}
+use Rattle.job.specs.Calls.{readNo, readJob, writeNo, copyNo, WrittenRead, SameFields}
 use Rattle.demand.specs.Demand.{hourOf, dayOf, meanOf, sectionFlow, houseFlow}
 use Rattle.heads.specs.Heads.{requiredOf, pumpOf, dictatingOf}
-use Rattle.sizing.specs.Losses.{readingOf, lossesOf}
+use Rattle.acceptance.specs.Acceptance.{jobNo}
+use Rattle.catalogue.specs.Rules.{catNo}
+use Rattle.sizing.specs.Losses.{listOk, overAny, readingOf, lossesOf}
+use Rattle.flow.specs.Calls.{flowLength, flowNo, dutyNo}
+use Rattle.rating.specs.Calls.{rateLength, rateNo}
 use Rattle.order.specs.Promises.{Copied, FlowGiven, DutyGiven, Rated}
 
--- what is lent is bytes
+-- what is lent is bytes, as it always is: the parameters are slices of bytes
 abbrev pub Bytes : List ℕ → Type 0
 Bytes b = (k : ℕ) → byteAt b k < 256
 
@@ -38,16 +43,23 @@ pub record RateFigures (job : Job) (cat sizes out : List ℕ) : Type 0 where
   pub loss : (i : ℕ) → 0 < i → i ≤ countOf job → beAt 4 out (11 + 6 * (i - 1)) ≡ lossesOf job cat sizes i
 
 pub record Demand2 : Type 0 where
-  -- where the flow call gives a result
+  -- an accepted job gets its flows and its duty, given room for them
+  pub flow-given : (b : List ℕ) (room : ℕ) → jobNo b ≡ 0 → flowLength (countOf (decode b)) ≤ room → flowNo b room ≡ 0
+  pub duty-given : (b : List ℕ) (room : ℕ) → jobNo b ≡ 0 → 4 ≤ room → dutyNo b room ≡ 0
+  -- and an accepted catalogue with a list that names its sizes, with no section over, a rating
+  pub rate-given : (b cat sizes : List ℕ) (room : ℕ) → jobNo b ≡ 0 → catNo cat ≡ 0 → listOk (decode b) cat sizes ≡ true →
+      overAny (decode b) cat sizes ≡ false → rateLength (countOf (decode b)) ≤ room → rateNo b cat sizes room ≡ 0
+  -- then the figures are these: of the flow call
   pub flow : (job out₀ out : List ℕ) → Bytes job → FlowGiven job out₀ out 0 → FlowFigures (decode job) out
-  -- where the duty call does: the house's design flow in ml/s
+  -- of the duty call, the house's design flow in ml/s
   pub duty : (job out₀ out : List ℕ) → DutyGiven job out₀ out 0 → beAt 4 out 0 ≡ houseFlow (decode job)
-  -- where the rating call does
+  -- of the rating call
   pub rate : (job cat sizes out₀ out : List ℕ) → Bytes cat → Rated job cat sizes out₀ out 0 → RateFigures (decode job) cat sizes out
   -- a job record written and read again has the same fields
   pub same-fields : (job again : Job) (out₀ out : List ℕ) → WrittenRead job out₀ out 0 again → SameFields job again
-  -- an accepted record read and written has the same bytes, of the reader and the writer and of the call that does both
+  -- an accepted record read and written has the same bytes, by the reader and the writer and by the call that does both
   pub same-bytes : (b : List ℕ) → Bytes b → readNo b ≡ 0 → encode (readJob b) ≡ b
   pub copied : (job out₀ out : List ℕ) → Copied job out₀ out 0 → part out 0 (length job) ≡ job
-  -- and with enough room the writer does not refuse it
-  pub not-refused : (b : List ℕ) (room : ℕ) → readNo b ≡ 0 → length b ≤ room → writeNo (readJob b) room ≡ 0
+  -- and neither refuses it, given room for it
+  pub write-given : (b : List ℕ) (room : ℕ) → readNo b ≡ 0 → length b ≤ room → writeNo (readJob b) room ≡ 0
+  pub copy-given : (b : List ℕ) (room : ℕ) → readNo b ≡ 0 → length b ≤ room → copyNo b room ≡ 0

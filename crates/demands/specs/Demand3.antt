@@ -16,7 +16,8 @@ use Rattle.wire.specs.Wire.{beAt}
 use Rattle.fields.specs.declared.Job.{Job}
 use Rattle.fields.specs.Fields.{countOf}
 use Rattle.record.specs.Record.{decode}
-use Rattle.acceptance.specs.Acceptance.{inputNo}
+use Rattle.acceptance.specs.Acceptance.{jobNo}
+use Rattle.catalogue.specs.Rules.{catNo}
 use Rattle.heads.specs.Heads.{reachOf}
 use Rattle.sizing.specs.Losses.{listOk, overAny, lossesOf}
 use Rattle.choosing.specs.Suitable.{costOf}
@@ -52,15 +53,16 @@ pub record Returned (job : Job) (cat out : List ℕ) : Type 0 where
   pub least : (y : List ℕ) → Suited job cat y → reported out ≤ costOf job cat y
 
 -- 16 exactly when no list suits, and otherwise a list is returned
-pub record Sixteen (job : Job) (cat : List ℕ) (n : ℕ) : Type 0 where
+pub record SixteenOrList (job : Job) (cat out : List ℕ) (n : ℕ) : Type 0 where
   pub none : n ≡ 16 → (y : List ℕ) → Suited job cat y → ⊥
   pub only : ((y : List ℕ) → Suited job cat y → ⊥) → n ≡ 16
-  pub otherwise : (n ≡ 16 → ⊥) → n ≡ 0
+  pub otherwise : (n ≡ 16 → ⊥) → (n ≡ 0) × Returned job cat out
 
--- the choosing call's promise, whatever workspace and result buffer held before
+-- what follows from the choosing call's promise, whatever workspace and result buffer held before
 pub record Demand3 : Type 0 where
-  -- for every accepted job and catalogue; a job or a catalogue that is not accepted is refused
-  pub returned : (b cat out₀ work₀ out work : List ℕ) → Chosen b cat out₀ work₀ out work 0 → (inputNo b cat ≡ 0) × Returned (decode b) cat out
-  -- given enough workspace and result space
-  pub sixteen : (b cat out₀ work₀ out work : List ℕ) (n : ℕ) → inputNo b cat ≡ 0 → Ample b out₀ work₀ →
-      Chosen b cat out₀ work₀ out work n → Sixteen (decode b) cat n
+  -- where a list is returned, the job and the catalogue are accepted, and it is one of least cost
+  pub returned : (b cat out₀ work₀ out work : List ℕ) → Chosen b cat out₀ work₀ out work 0 →
+      (jobNo b ≡ 0) × (catNo cat ≡ 0) × Returned (decode b) cat out
+  -- given enough workspace and result space, for every accepted job and every accepted catalogue
+  pub sixteen : (b cat out₀ work₀ out work : List ℕ) (n : ℕ) → jobNo b ≡ 0 → catNo cat ≡ 0 → Ample b out₀ work₀ →
+      Chosen b cat out₀ work₀ out work n → SixteenOrList (decode b) cat out n

@@ -15,7 +15,7 @@ use Rattle.fields.specs.declared.Job.{Job}
 use Rattle.fields.specs.Fields.{blankSection}
 use Rattle.fields.proofs.Job.{the-type}
 use Rattle.fields.proofs.Section.{the-field}
-use Rattle.job.proofs.RoundTrip.{Sixteen}
+use Rattle.job.proofs.RoundTrip.{SixteenBits}
 
 -- what the elements' type tells of each of them holds at every place of an array, if it holds of what stands past its end
 module _ (F : Field) (P : F .Value → Type 0) (told : (x : F .Value) (vs : List Val) → Is (F .row) (F .into x) vs → P x) where
@@ -26,7 +26,7 @@ module _ (F : Field) (P : F .Value → Type 0) (told : (x : F .Value) (vs : List
   at-each (x ∷ l) (u ∷ us) h blank p zero = told x (u ∷ []) (h .0)
   at-each (x ∷ l) (u ∷ us) h blank p (suc i) = at-each l us (h .1) blank p i
 
-pub held : {job : Job} {vs : List Val} → Is (row the-type) job vs → Sixteen job
+pub held : {job : Job} {vs : List Val} → Is (row the-type) job vs → SixteenBits job
 held {job} h =
     let residents = h .1 .1 .1 .0 .1 in
     let sections = h .1 .1 .1 .1 .0 .1 in

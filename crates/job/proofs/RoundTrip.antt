@@ -62,7 +62,7 @@ module _ (b : List ℕ) (accepted : readNo b ≡ 0) where
 
 -- what no rule bounds, and the types hold: residents of twelve kinds, and fixtures, of 16 bits each.
 -- `held` (`Held.antt`) has it of every job that code can hold, so `write_read` promises the same fields without asking for it.
-pub record Sixteen (job : Job) : Type 0 where
+pub record SixteenBits (job : Job) : Type 0 where
   pub kinds : length (job .residents) ≡ 12
   pub residents : (c : ℕ) → c < 12 → getD (job .residents) c 0 < 65536
   pub fixtures : (i : ℕ) → 0 < i → i ≤ countOf job → sectionOf job i .fixtures < 65536
@@ -93,7 +93,7 @@ module _ (job : Job) (room : ℕ) (done : writeNo job room ≡ 0) where
       checks-same job (kept job) (sym (s .header)) (sym (s .residents)) (λ i a h. sym (s .sections i a h))
 
   -- and read again
-  module _ (sixteen : Sixteen job) where
+  module _ (sixteen : SixteenBits job) where
     section-fits : (i : ℕ) → 0 < i → i ≤ countOf job → SectionFits (sectionOf job i)
     section-fits i a h =
         let s : SectionIn i (sectionOf job i) = sections-in job (kept-of job (may .fields) .sections) i a h in

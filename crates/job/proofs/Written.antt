@@ -16,13 +16,13 @@ use Rattle.record.specs.Record.{lengthOf, encode, kept}
 use Rattle.record.proofs.Lengths.{encode-length}
 use Rattle.job.specs.Calls.{readNo, readJob, writeNo, WrittenRead}
 use Rattle.job.proofs.Decided.{writable}
-use Rattle.job.proofs.RoundTrip.{Sixteen, accepted-again, same-fields}
+use Rattle.job.proofs.RoundTrip.{SixteenBits, accepted-again, same-fields}
 
 -- what the writer gives: a number, and the buffer after it
 module _ (job : Job) (out₀ : List ℕ) {out : List ℕ} {n : ℕ} (number : n ≡ writeNo job (length out₀))
     (buffer : out ≡ bufferAfter n (encode job) out₀) where
   pub refused-again : (n ≡ 0 → ⊥) → WrittenRead job out₀ out n blankJob
-  refused-again h = record { number = number; fields = sym (rw (ne-eqb n 0 h)); buffer = buffer }
+  refused-again h = record { number = number; buffer = buffer; read = λ e. absurd (h e); fields = sym (rw (ne-eqb n 0 h)) }
 
   module _ (taken : n ≡ 0) where
     done : writeNo job (length out₀) ≡ 0
@@ -40,9 +40,9 @@ module _ (job : Job) (out₀ : List ℕ) {out : List ℕ} {n : ℕ} (number : n 
     front = rw (whole, stored-front out₀ (encode job)) (take-at (encode job) _ (lengthOf (countOf job)) (encode-length job))
 
     -- the record at the front, read
-    pub read-again : {m : ℕ} {again : Job} → Sixteen job → m ≡ readNo (take (lengthOf (countOf job)) out) →
+    pub read-again : {m : ℕ} {again : Job} → SixteenBits job → m ≡ readNo (take (lengthOf (countOf job)) out) →
         again ≡ readJob (take (lengthOf (countOf job)) out) → WrittenRead job out₀ out m again
     read-again {m} {again} held a b =
         let none : m ≡ 0 = a ∙ rw front (accepted-again job (length out₀) done held) in
         let fields : again ≡ kept job = b ∙ rw front (same-fields job (length out₀) done held) in
-        record { number = none ∙ sym done; fields = rw (eq-eqb m 0 none) fields; buffer = rw (eq-eqb m 0 none) whole }
+        record { number = none ∙ sym done; buffer = rw (eq-eqb m 0 none) whole; read = λ e. b; fields = rw (eq-eqb m 0 none) fields }

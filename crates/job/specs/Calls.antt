@@ -6,6 +6,7 @@ use mathlib.Core.Bool.{Bool, not, _||_, cond}
 use mathlib.Core.List.{List, [], _∷_, _++_}
 use lib.ListN.{length}
 use lib.Dec.{ltb, eqb}
+use Rattle.basis.specs.Part.{part}
 use Rattle.answer.specs.Checks.{firstNo, tooShort, bufferAfter}
 use Rattle.wire.specs.Wire.{byteAt, beAt}
 use Rattle.fields.specs.declared.Job.{Job}
@@ -57,12 +58,13 @@ copyChecks b room = readChecks b ++ ((tooShort room (length b), 14) ∷ [])
 unfoldable pub copyNo : List ℕ → ℕ → ℕ
 copyNo b room = firstNo (copyChecks b room)
 
--- writing a job and reading it again: the writer's number, the fields that a record keeps where it is 0 and all zero otherwise,
--- and the buffer as the writer leaves it
+-- writing a job and reading the record again: the writer's number, the buffer as the writer leaves it, the fields that reading gives,
+-- which are those that a record keeps where the number is 0, and all zero otherwise
 pub record WrittenRead (job : Job) (out₀ out : List ℕ) (n : ℕ) (again : Job) : Type 0 where
   pub number : n ≡ writeNo job (length out₀)
-  pub fields : again ≡ cond (eqb n 0) (kept job) blankJob
   pub buffer : out ≡ bufferAfter n (encode job) out₀
+  pub read : n ≡ 0 → again ≡ readJob (part out 0 (lengthOf (countOf job)))
+  pub fields : again ≡ cond (eqb n 0) (kept job) blankJob
 
 -- two jobs with the same fields: the head, the residents and sections 1 to S
 pub record SameFields (job again : Job) : Type 0 where
