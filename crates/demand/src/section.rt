@@ -66,19 +66,6 @@ fn needs_table_one(m: u64, fixtures: u64) -> bool
     100000 * fixtures < m
 }
 
-// The same for section i, by its set. m is worked out only where there are at most 200 fixtures.
-fn one_needs_table_one(job: Job, served: &[u32; 768], set: u64, i: usize) -> bool
-    requires { ⌜ Valid job × Counted job (now served) × (i ≤ countOf job) × (set ≡ setOf job i) ⌝ }
-    ensures { λ r. ⌜ r ≡ needsTableOne (mOf job (servedOf job i)) (fixturesOf (servedOf job i)) ⌝ }
-{
-    let fixtures = tree::fixtures_below(job, set, i);
-    if 200 < fixtures {
-        return false;
-    }
-    let s = sums_of(job, served, i);
-    needs_table_one(s.m, fixtures)
-}
-
 fn section_needs_table_one(job: Job, served: &[u32; 768], sets: &[u64; 64]) -> bool
     requires { ⌜ Valid job × Counted job (now served) × ((i : ℕ) → i < 64 → getD (now sets) i 0 ≡ setOf job i) ⌝ }
     ensures { λ r. ⌜ r ≡ anyTo (countOf job) (λ i. needsTableOne (mOf job (servedOf job i)) (fixturesOf (servedOf job i))) ⌝ }
@@ -86,7 +73,9 @@ fn section_needs_table_one(job: Job, served: &[u32; 768], sets: &[u64; 64]) -> b
     let count = job.header.sections as usize;
     let mut i: usize = 1;
     while i <= count {
-        if one_needs_table_one(job, served, sets[i], i) {
+        let s = sums_of(job, served, i);
+        let fixtures = tree::fixtures_below(job, sets[i], i);
+        if needs_table_one(s.m, fixtures) {
             return true;
         }
         i += 1;
