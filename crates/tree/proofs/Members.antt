@@ -10,7 +10,6 @@ use lib.Dec.{ltb}
 use borrow.Author.Tests.{lt-ltb}
 use lib.Pow.{pow-pos, pow-add, pow-mono, shr-shr}
 use Rattle.basis.specs.Range.{sumTo}
-use Rattle.basis.proofs.Bools.{apart}
 use Rattle.basis.proofs.Split.{eq-or-ne, lt-or-ge, either}
 use Rattle.basis.proofs.Sum.{sum-none, sum-more, sum-some, sum-pow, sum-at, sum-nothing}
 

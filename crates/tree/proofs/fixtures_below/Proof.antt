@@ -1,7 +1,6 @@
 -- `tree::fixtures_below` meets its contract. The loop's invariant: the sections of the set before `j` are summed.
 -- Assumes nothing.
-use mathlib.Core.Path.{_≡_, _∙_}
-use Prim.Native.Nat.{_≤_, _<_}
+use Prim.Native.Nat.{_<_}
 use native.Mathlib.Omega.{arith}
 use borrow.Author.Needs.{needs}
 use Rattle.fields.specs.Fields.{countOf, sectionOf}

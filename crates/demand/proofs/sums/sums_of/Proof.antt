@@ -1,6 +1,6 @@
 -- `demand::sums::sums_of` meets its contract: before each kind the two sums are those of the kinds before it.
 -- Assumes nothing.
-use mathlib.Core.Path.{_≡_, _∙_}
+use mathlib.Core.Path.{_≡_}
 use Prim.Native.Nat.{ℕ, _-_, _*_, _≤_}
 use native.Mathlib.Omega.{arith}
 use Rattle.basis.proofs.Within.{Within}
