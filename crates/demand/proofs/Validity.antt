@@ -1,6 +1,6 @@
 -- What 3 and 5 to 7 say of a job that they let pass.
 -- Assumes nothing.
-use mathlib.Core.Path.{_≡_}
+use mathlib.Core.Path.{_≡_, sym}
 use mathlib.Core.Bool.{true, false, _&&_}
 use Prim.Native.Nat.{ℕ, _≤_, _<_}
 use native.Mathlib.Nat.{pos-of-ne-zero}
@@ -11,13 +11,14 @@ use Rattle.basis.proofs.Each.{any-at}
 use Rattle.basis.proofs.Within.{Within}
 use Rattle.fields.specs.declared.Job.{Job}
 use Rattle.fields.specs.Fields.{countOf, residentsOf}
-use Rattle.tree.specs.Tree.{Rooted, houseOf}
+use Rattle.tree.specs.Tree.{Rooted, servedOf, houseOf, fixturesBelow}
 use Rattle.tree.specs.Rows.{Kinds}
+use Rattle.tree.proofs.Served.{served-all}
 use Rattle.rules.specs.Rules.{sectionsOk, childlessZero, unmatched}
 use Rattle.rules.proofs.HeaderBounds.{HeaderIn, header-in}
 use Rattle.rules.proofs.House.{oddAt}
-use Rattle.rules.proofs.Kept.{Kept, kept-of, rooted-of, kinds-of}
-use Rattle.demand.specs.Demand.{Valid}
+use Rattle.rules.proofs.Kept.{Kept, kept-of, sections-in, rooted-of, kinds-of}
+use Rattle.demand.specs.Demand.{fixturesOf, Valid}
 
 module _ {job : Job} (r : Valid job) where
   valid-head : HeaderIn (job .header)
@@ -46,6 +47,11 @@ module _ {job : Job} (r : Valid job) where
 
   pub valid-kinds : Kinds job
   valid-kinds = kinds-of job valid-sections
+
+  -- all fixtures at or below a section, and the sum of its counts of the kinds
+  pub valid-fixtures : (i : ℕ) → fixturesBelow job i ≡ fixturesOf (servedOf job i)
+  unfolding fixturesOf
+  valid-fixtures i = sym (served-all job valid-kinds (λ j p q z. sections-in job valid-sections j p q .kinds .bare z .0) i)
 
   module _ (kind : ℕ) (low : 0 < kind) (high : kind ≤ 12) where
     -- neither is zero without the other

@@ -5,7 +5,8 @@ use crate::sums::sums_of;
 use answer::Answer;
 use fields::Job;
 ghost use mathlib.Core.Path.{_≡_};
-ghost use Prim.Native.Nat.{_+_, _*_, _≤_, _<_};
+ghost use Prim.Native.Nat.{ℕ, _+_, _*_, _≤_, _<_};
+ghost use lib.ListN.{getD};
 ghost use Rattle.basis.specs.Range.{anyTo};
 ghost use Rattle.basis.specs.Round.{up};
 ghost use Rattle.basis.specs.Slots.{slots};
@@ -14,7 +15,7 @@ ghost use Rattle.answer.specs.Checks.{firstNo};
 ghost use Rattle.coefficient.specs.Table.{table};
 ghost use Rattle.coefficient.specs.Alpha.{alphaOf};
 ghost use Rattle.fields.specs.Fields.{countOf};
-ghost use Rattle.tree.specs.Tree.{servedOf, Rooted};
+ghost use Rattle.tree.specs.Tree.{servedOf, setOf};
 ghost use Rattle.tree.specs.Rows.{Counted};
 ghost use Rattle.demand.specs.Demand.{mOf, fixturesOf, needsTableOne, sectionFlow, houseFlow, demandChecks, Valid, Accepted};
 
@@ -65,15 +66,16 @@ fn needs_table_one(m: u64, fixtures: u64) -> bool
     100000 * fixtures < m
 }
 
-fn section_needs_table_one(job: Job, served: &[u32; 768]) -> bool
-    requires { ⌜ Rooted job × Counted job (now served) ⌝ }
+fn section_needs_table_one(job: Job, served: &[u32; 768], sets: &[u64; 64]) -> bool
+    requires { ⌜ Valid job × Counted job (now served) × ((i : ℕ) → i < 64 → getD (now sets) i 0 ≡ setOf job i) ⌝ }
     ensures { λ r. ⌜ r ≡ anyTo (countOf job) (λ i. needsTableOne (mOf job (servedOf job i)) (fixturesOf (servedOf job i))) ⌝ }
 {
     let count = job.header.sections as usize;
     let mut i: usize = 1;
     while i <= count {
         let s = sums_of(job, served, i);
-        if needs_table_one(s.m, s.fixtures) {
+        let fixtures = tree::fixtures_below(job, sets[i], i);
+        if needs_table_one(s.m, fixtures) {
             return true;
         }
         i += 1;
@@ -87,7 +89,9 @@ pub fn demand_refusal(job: Job) -> Answer
     ensures { λ r. ⌜ numberOf r ≡ firstNo (demandChecks job) ⌝ }
 {
     let served = tree::counts(job);
+    let sets = tree::sets(job);
     let house = sums_of(job, &served, 0);
+    let fixtures = tree::fixtures_below(job, sets[0], 0);
     let hour = hour_sums(job);
     if 400000000 < house.m {
         return Answer::DemandOverTable;
@@ -95,13 +99,13 @@ pub fn demand_refusal(job: Job) -> Answer
     if 400000000 < hour.shares {
         return Answer::DemandOverTable;
     }
-    if needs_table_one(house.m, house.fixtures) {
+    if needs_table_one(house.m, fixtures) {
         return Answer::DemandOverFixtures;
     }
-    if section_needs_table_one(job, &served) {
+    if section_needs_table_one(job, &served, &sets) {
         return Answer::DemandOverFixtures;
     }
-    if needs_table_one(hour.shares, house.fixtures) {
+    if needs_table_one(hour.shares, fixtures) {
         return Answer::DemandOverFixtures;
     }
     Answer::Done

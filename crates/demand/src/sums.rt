@@ -1,4 +1,4 @@
-// The sums over the twelve kinds: shares, shares by norm, and fixtures.
+// The sums over the twelve kinds: shares, and shares by norm.
 use fields::Job;
 use numbers::long16;
 use numbers::long32;
@@ -10,13 +10,12 @@ ghost use Rattle.basis.specs.Round.{up};
 ghost use Rattle.norms.specs.Norms.{normOf};
 ghost use Rattle.tree.specs.Tree.{servedOf, Rooted};
 ghost use Rattle.tree.specs.Rows.{Counted};
-ghost use Rattle.demand.specs.Demand.{mOf, fixtureSumOf, fixturesOf, hourSumOf, hourlySumOf};
+ghost use Rattle.demand.specs.Demand.{mOf, fixtureSumOf, hourSumOf, hourlySumOf};
 
-// Of a section or the house: m, the sum of share × Z, and the fixtures.
+// Of a section or the house: m, and the sum of share × Z.
 pub struct Sums {
     pub m: u64,
     pub weighted: u64,
-    pub fixtures: u64,
 }
 
 // Of the house's hour: the sum of the shares, and of share × O.
@@ -42,12 +41,10 @@ fn share(kind: usize, residents: u64, n: u64, house: u64) -> u64
 // The sums of row i of the counts: section i's, or the house's where i is 0. An index into a job's own array would copy the whole job.
 pub fn sums_of(job: Job, counts: &[u32; 768], i: usize) -> Sums
     requires { ⌜ Rooted job × Counted job (now counts) × (i < 64) ⌝ }
-    ensures { λ r. ⌜ (r .m ≡ mOf job (servedOf job i)) × (r .weighted ≡ fixtureSumOf job (servedOf job i))
-        × (r .fixtures ≡ fixturesOf (servedOf job i)) ⌝ }
+    ensures { λ r. ⌜ (r .m ≡ mOf job (servedOf job i)) × (r .weighted ≡ fixtureSumOf job (servedOf job i)) ⌝ }
 {
     let mut m: u64 = 0;
     let mut weighted: u64 = 0;
-    let mut fixtures: u64 = 0;
     let mut kind: usize = 1;
     while kind <= 12 {
         let c = kind - 1;
@@ -57,14 +54,9 @@ pub fn sums_of(job: Job, counts: &[u32; 768], i: usize) -> Sums
         let norm = norms::norm_of(kind);
         m = m + part;
         weighted = weighted + part * norm.fixture;
-        fixtures = fixtures + n;
         kind += 1;
     }
-    Sums {
-        m,
-        weighted,
-        fixtures,
-    }
+    Sums { m, weighted }
 }
 
 // The sums of the house's hour.

@@ -11,10 +11,25 @@ use lib.Pow.{pow-pos}
 use borrow.Author.Tests.{eq-eqb, ne-eqb}
 use Rattle.basis.specs.Range.{sumTo}
 use Rattle.basis.proofs.Split.{lt-or-ge, eq-or-ne, either}
-use Rattle.basis.proofs.Sum.{sum-ext, sum-le, sum-one, sum-two, sum-some, sum-at, sum-wider}
+use Rattle.basis.proofs.Sum.{
+  sum-none,
+  sum-more,
+  sum-ext,
+  sum-add,
+  sum-le,
+  sum-if,
+  sum-out,
+  sum-one,
+  sum-two,
+  sum-some,
+  sum-nothing,
+  sum-at,
+  sum-wider,
+}
 use Rattle.fields.specs.declared.Job.{Job}
 use Rattle.fields.specs.Fields.{countOf, sectionOf}
-use Rattle.tree.specs.Tree.{below, ownOf, servedOf, houseOf, setOf, Rooted}
+use Rattle.tree.specs.Tree.{below, ownOf, servedOf, houseOf, setOf, fixturesBelow, Rooted}
+use Rattle.tree.specs.Rows.{Kinds}
 use Rattle.tree.proofs.Below.{below-self, below-up, below-under, below-pump, child-below, below-child}
 use Rattle.tree.proofs.Climb.{climb, climb-stop, climb-step}
 use Rattle.tree.proofs.Taken.{part}
@@ -127,6 +142,41 @@ module _ {job : Job} (r : Rooted job) where
       rw s at (sum-two (countOf job) i j (λ k. cond (below job i k) (2 ^ k) 0) a b p q (λ z. omega arith)) in
       let both : 2 ^ i + 2 ^ j ≤ 2 ^ i = rw (below-self job i, under) at two in
       omega (arith, pow-pos j)
+
+-- the same sum of sums, either one first
+exchange : (m n : ℕ) (f : ℕ → ℕ → ℕ) → sumTo m (λ k. sumTo n (f k)) ≡ sumTo n (λ j. sumTo m (λ k. f k j))
+exchange zero n f = sum-none (λ k. sumTo n (f k)) ∙ sym (sum-nothing n _ (λ j p q. sum-none (λ k. f k j)))
+exchange (suc m) n f =
+    sum-more m (λ k. sumTo n (f k)) ∙ rw (exchange m n f, ← sum-add n (λ j. sumTo m (λ k. f k j)) (f (suc m)))
+    (sum-ext n _ _ (λ j p q. sym (sum-more m (λ k. f k j))))
+
+either-way : (a b : ℕ) → eqb a b ≡ eqb b a
+either-way a b =
+    ⊎-elim
+    (λ e. rw (eq-eqb a b e, eq-eqb b a (sym e)))
+    (λ ne. rw (ne-eqb a b ne, ne-eqb b a (λ e. ne (sym e))))
+    (eq-or-ne a b)
+
+-- a section's fixtures are all of its kind
+own-all : (job : Job) (j : ℕ) → sectionOf job j .kind ≤ 12 → (sectionOf job j .kind ≡ 0 → sectionOf job j .fixtures ≡ 0) →
+    sumTo 12 (λ kind. ownOf job kind j) ≡ sectionOf job j .fixtures
+unfolding ownOf
+own-all job j h bare =
+    sum-ext 12 _ (λ kind. cond (eqb kind (sectionOf job j .kind)) (sectionOf job j .fixtures) 0)
+    (λ kind p q. rw (either-way (sectionOf job j .kind) kind)) ∙
+    ⊎-elim
+    (λ p. sum-one 12 (sectionOf job j .kind) (λ kind. sectionOf job j .fixtures) p h)
+    (λ z. sum-out 12 (sectionOf job j .kind) (λ kind. sectionOf job j .fixtures) (λ p. absurd (omega arith)) ∙ sym (bare (omega arith)))
+    (lt-or-ge 0 (sectionOf job j .kind))
+
+-- all fixtures are the sum over the kinds, where kind 0 has none
+pub served-all : (job : Job) → Kinds job → ((j : ℕ) → 0 < j → j ≤ countOf job → sectionOf job j .kind ≡ 0 → sectionOf job j .fixtures ≡ 0) →
+    (i : ℕ) → sumTo 12 (servedOf job i) ≡ fixturesBelow job i
+unfolding servedOf fixturesBelow
+served-all job kinds bare i =
+    exchange 12 (countOf job) (λ kind j. cond (below job i j) (ownOf job kind j) 0) ∙
+    sum-ext (countOf job) _ _ (λ j p q.
+    sum-if (below job i j) 12 (λ kind. ownOf job kind j) ∙ rw (own-all job j (kinds .twelve j p q) (bare j p q)))
 
 -- the house's fixtures are those of the sections up to the last
 pub house-same : (a b : Job) → countOf a ≡ countOf b → ((j : ℕ) → 0 < j → j ≤ countOf a → sectionOf a j ≡ sectionOf b j) →

@@ -36,6 +36,10 @@ houseOf job kind = sumTo (countOf job) (λ j. ownOf job kind j)
 unfoldable pub setOf : Job → ℕ → ℕ
 setOf job i = sumTo (countOf job) (λ j. cond (below job i j) (2 ^ j) 0)
 
+-- all fixtures, of every kind, at the end of section i or at any end below it
+unfoldable pub fixturesBelow : Job → ℕ → ℕ
+fixturesBelow job i = sumTo (countOf job) (λ j. cond (below job i j) (sectionOf job j .fixtures) 0)
+
 -- at most 63 sections, and each parent less than the section's own number
 pub record Rooted (job : Job) : Type 0 where
   pub few : countOf job ≤ 63

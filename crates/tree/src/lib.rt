@@ -4,7 +4,7 @@ ghost use mathlib.Core.Path.{_≡_};
 ghost use Prim.Native.Nat.{ℕ, _+_, _*_, _≤_, _<_};
 ghost use lib.ListN.{getD};
 ghost use Rattle.fields.specs.Fields.{countOf};
-ghost use Rattle.tree.specs.Tree.{servedOf, setOf, Rooted};
+ghost use Rattle.tree.specs.Tree.{setOf, fixturesBelow, Rooted};
 ghost use Rattle.tree.specs.Rows.{Kinds, RowsFit, RowAdded, Zeros, Owned, Counted, Singles};
 
 // Section j's own bit at place j.
@@ -36,6 +36,24 @@ pub fn sets(job: Job) -> [u64; 64]
         t -= 1;
     }
     sets
+}
+
+// All fixtures at the ends of section i's set, those of the house where i is 0: bit by bit from the section's own up, as no section of the
+// set has a lower number.
+pub fn fixtures_below(job: Job, set: u64, i: usize) -> u64
+    requires { ⌜ Rooted job × (i ≤ countOf job) × (set ≡ setOf job i) ⌝ }
+    ensures { λ r. ⌜ r ≡ fixturesBelow job i ⌝ }
+{
+    let mut sum: u64 = 0;
+    let mut rest = set >> i;
+    let mut j = i;
+    while 0 < rest {
+        let s = job.sections[j];
+        sum = sum + rest % 2 * (s.fixtures as u64);
+        rest = rest / 2;
+        j += 1;
+    }
+    sum
 }
 
 // Adds the twelve counts of one section to those of another.

@@ -13,7 +13,8 @@ head : (c : tie.Start) → HeaderIn (c .args .job .header)
 head c = header-in (c .args .job .header) (c .pre .valid .header)
 
 top : (c : tie.After-divide-up) → c .divide-up .result ≤ c .before .before .day-of .result
-top c = rw (c .divide-up .ensures) (mean-top (c .before .before .day-of .result) (head (c .before .before .before) .hours .low))
+top c =
+    let h = head (c .before .before .before) in rw (c .divide-up .ensures) (mean-top (c .before .before .day-of .result) (omega arith))
 
 returns : tie.Need-returns
 unfolding meanOf
