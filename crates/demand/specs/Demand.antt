@@ -98,12 +98,12 @@ overProbability job =
 unfoldable pub demandChecks : Job → List (Bool × ℕ)
 demandChecks job = (overSum job, 8) ∷ (overProbability job, 9) ∷ []
 
--- a job whose fields 3 and 5 to 7 let pass
+-- a job in which 3 and 5 to 7 find nothing
 pub record Valid (job : Job) : Type 0 where
   pub header : headerOk (job .header) ≡ true
   pub fields : firstNo (fieldChecks job) ≡ 0
 
--- a job whose fields 8 and 9 let pass too
+-- and 8 and 9 nothing either
 pub record Accepted (job : Job) : Type 0 where
   pub valid : Valid job
   pub demand : firstNo (demandChecks job) ≡ 0

@@ -21,7 +21,7 @@ use Rattle.wire.specs.Wire.{beAt, bytesOf, signedOf}
 use Rattle.record.specs.Record.{headerAt, residentsAt, sectionFrom, decode}
 use Rattle.tree.specs.Tree.{parentOf, reaches, below, ownOf, servedOf, houseOf}
 use Rattle.rules.specs.Rules.{headerOk, kindOk, elevationOk, sectionOk, sectionsOk, childless, childlessZero, unmatched, fieldChecks}
-use Rattle.job.specs.Calls.{wrongLength, wrongVersion, wrongCount, shapeChecks, readChecks}
+use Rattle.job.specs.Calls.{wrongLength, wrongVersion, wrongCount, shapeChecks, readChecks, copyChecks, copyNo}
 use Rattle.norms.specs.Norms.{dayNorms, hourNorms, fixtureNorms, hourlyNorms, normOf}
 use Rattle.coefficient.specs.Table.{table}
 use Rattle.coefficient.specs.Alpha.{along, alphaOf}
@@ -35,6 +35,7 @@ use Rattle.heads.specs.Signed.{greater, clamped}
 use Rattle.heads.specs.Heads.{reachOf, greatestTo, requiredOf, pumpAt, lowestTo, dictatingOf}
 use Rattle.sizing.specs.Losses.{listOk, readingOf, overBy, overAt, overAny, lossOf, lossAt, lossesOf}
 use Rattle.acceptance.specs.Acceptance.{inputChecks}
+use Rattle.flow.specs.Calls.{flowNo, dutyNo}
 use Rattle.rating.specs.Calls.{rateChecks, rateNo}
 use Rattle.sizing.proofs.Named.{list-long, list-names}
 use Rattle.acceptance.proofs.Accepting.{input-cat}
@@ -113,7 +114,7 @@ module _ {out₀ work₀ : List ℕ} where
 
 -- the rest is computed too, but for the statements over every list and over the call
 pub own-case : OwnCase
-unfolding computed dayNorms hourlySumOf hourOf dayOf meanOf clamped pumpAt lowestTo dictatingOf inputChecks rateChecks rateNo chooseChecks chooseNo
+unfolding computed dayNorms hourlySumOf hourOf dayOf meanOf clamped pumpAt lowestTo dictatingOf copyChecks copyNo flowNo dutyNo inputChecks rateChecks rateNo chooseChecks chooseNo
 own-case =
     record {
       job = computed .own;
@@ -128,6 +129,9 @@ own-case =
       hour = refl;
       day = refl;
       mean = refl;
+      copied = refl;
+      flowed = refl;
+      delivered = refl;
       rated = refl;
       velocity = refl;
       loss = refl;

@@ -13,6 +13,8 @@ use Rattle.acceptance.specs.Acceptance.{jobNo}
 use Rattle.catalogue.specs.Rules.{catNo}
 use Rattle.heads.specs.Heads.{requiredOf, pumpOf, dictatingOf}
 use Rattle.sizing.specs.Losses.{readingOf, lossAt, lossesOf}
+use Rattle.job.specs.Calls.{copyNo}
+use Rattle.flow.specs.Calls.{flowNo, dutyNo}
 use Rattle.rating.specs.Calls.{rateNo}
 use Rattle.choosing.specs.Suitable.{Suitable, costOf}
 use Rattle.choosing.specs.Calls.{Ample, chooseNo, Chosen}
@@ -67,6 +69,10 @@ pub record OwnCase : Type 0 where
   pub day : dayOf (decode ownJob) ≡ 17750
   -- the mean hour
   pub mean : meanOf (decode ownJob) ≡ 740
+  -- copying, flow and duty give a result where there is room for it
+  pub copied : copyNo ownJob 50 ≡ 0
+  pub flowed : flowNo ownJob 16 ≡ 0
+  pub delivered : dutyNo ownJob 4 ≡ 0
   -- rating takes size 2
   pub rated : rateNo ownJob ownCat (2 ∷ []) 15 ≡ 0
   -- the velocity of size 2, mm/s
