@@ -12,7 +12,8 @@ use Rattle.record.specs.Record.{decode}
 use Rattle.demand.specs.Demand.{hourOf, dayOf, meanOf, sectionFlow}
 use Rattle.heads.specs.Heads.{requiredOf, pumpOf, dictatingOf}
 use Rattle.sizing.specs.Losses.{readingOf, lossesOf}
-use Rattle.rating.specs.Calls.{rateLength, rateNo}
+use Rattle.rated_bytes.specs.RatedBytes.{rateLength}
+use Rattle.rating.specs.Calls.{rateNo}
 use Rattle.lines.specs.Lines.{houseLine, sectionLine, headLine, refusedLine}
 
 -- the lines for a job with these velocities and losses: each section has its line, by rising number

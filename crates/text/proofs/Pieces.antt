@@ -5,30 +5,19 @@ use mathlib.Core.List.{List, [], _∷_, _++_}
 use Prim.Native.Nat.{ℕ, zero, suc, _+_, _-_, _*_, _≤_, _<_}
 use native.Mathlib.Omega.{arith}
 use native.Mathlib.Nat.{mul-zero, mul-suc}
-use lib.ListN.{length, set, length-append}
+use lib.ListN.{length, set, length-append, length-set}
 use Rattle.basis.specs.Range.{concatTo}
 use Rattle.basis.specs.Stored.{stored}
 use Rattle.basis.proofs.Concat.{concat-none, concat-more}
-use Rattle.basis.proofs.Stored.{stored-none, stored-one, stored-length, stored-next}
+use Rattle.basis.proofs.Stored.{stored-none, stored-one, stored-next}
 use Rattle.text.specs.Pieces.{Wrote}
-
--- a piece that is stored where there is room for the most
-pub wrote-of : {most : ℕ} {before now : List ℕ} {at next : ℕ} {x : List ℕ} → now ≡ stored before at x → next ≡ at + length x →
-    length x ≤ most → at + most ≤ length before → Wrote most before now at next x
-wrote-of {before = before} {at = at} {x = x} e p s h =
-    record {
-      text = e;
-      place = p;
-      short = s;
-      same = rw e (stored-length before at x (omega arith));
-      fits = omega arith;
-    }
 
 pub wrote-none : (l : List ℕ) (at : ℕ) → at ≤ length l → Wrote 0 l l at at []
 wrote-none l at h = record { text = sym (stored-none l at); place = omega arith; short = omega arith; same = refl; fits = h }
 
 pub wrote-byte : (l : List ℕ) (at a : ℕ) → at < length l → Wrote 1 l (set l at a) at (at + 1) (a ∷ [])
-wrote-byte l at a h = wrote-of (stored-one l at a h) refl (omega arith) (omega arith)
+wrote-byte l at a h =
+    record { text = stored-one l at a h; place = refl; short = omega arith; same = length-set l at a; fits = omega arith }
 
 module _ {m n : ℕ} {a b c : List ℕ} {i j k : ℕ} {x y : List ℕ} (p : Wrote m a b i j x) (q : Wrote n b c j k y) where
   pub wrote-then : Wrote (m + n) a c i k (x ++ y)

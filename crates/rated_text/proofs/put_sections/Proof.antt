@@ -20,11 +20,13 @@ Inv-loop out₀ from count flows velocities losses at₀ i₀ out at i =
 abbrev μ-loop : tie.MeasureT-loop
 μ-loop out₀ from count flows velocities losses at₀ i₀ out at i = count + 1 - i
 
+-- t4, t5 and t6 are the flows, velocities and losses
 loop-again : tie.Need-loop-again Inv-loop μ-loop
 loop-again c =
     let put = c .before .before in
     let at = put .before .before .before in
-    (omega arith, omega arith, lines-more 52 _ (omega arith) (at .loop .inv .2) (put .put-section .ensures))
+    let given = at .before .before .args in
+    (omega arith, omega arith, lines-more 52 (λ k. sectionLine k (getD (given .t4) k 0) (getD (given .t5) k 0) (getD (given .t6) k 0)) (omega arith) (at .loop .inv .2) (put .put-section .ensures))
 
 returns : tie.Need-returns Inv-loop μ-loop
 returns c = let e : c .before .loop .i - 1 ≡ c .before .before .before .args .count = omega arith in rw e at (c .before .loop .inv .2)
