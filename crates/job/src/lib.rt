@@ -52,7 +52,7 @@ fn shape_refusal(b: &[u8]) -> Answer
     if b[4] != 1 {
         return Answer::JobVersion;
     }
-    let head = record::header_of(b);
+    let head = decoding::header_of(b);
     if !rules::header_ok(head) {
         return Answer::HeaderRange;
     }
@@ -70,7 +70,7 @@ pub fn read(b: &[u8]) -> Reading
     if answer::number(answer) != 0 {
         return refused(answer);
     }
-    let job = record::job_of(b);
+    let job = decoding::job_of(b);
     reading_of(rules::broken_rule(job), job)
 }
 
@@ -100,7 +100,7 @@ pub fn write(job: Job, out: &mut [u8]) -> Answer
     if answer::number(answer) != 0 {
         return answer;
     }
-    record::put_job(out, job);
+    encoding::put_job(out, job);
     answer
 }
 

@@ -1,4 +1,3 @@
 pub mod Ordering
 pub mod Upto
-pub mod Written
 pub mod Rated

@@ -9,7 +9,8 @@ use Rattle.answer.proofs.First.{first-none, first-found, first-next, short-foun
 use Rattle.fields.specs.Fields.{countOf}
 use Rattle.record.specs.Record.{decode}
 use Rattle.sizing.specs.Losses.{listOk, overAny}
-use Rattle.rating.specs.Calls.{rateLength, rateChecks, rateNo}
+use Rattle.rated_bytes.specs.RatedBytes.{rateLength}
+use Rattle.rating.specs.Calls.{rateChecks, rateNo}
 use Rattle.acceptance.specs.Acceptance.{inputNo}
 use Rattle.acceptance.proofs.Accepting.{input-stops, input-passes}
 

@@ -5,7 +5,6 @@ use mathlib.Core.List.{List, _++_}
 use Prim.Native.Nat.{ℕ, _+_, _≤_, _<_}
 use native.Mathlib.Omega.{arith}
 use lib.ListN.{getD}
-use Rattle.basis.specs.Range.{concatTo}
 use Rattle.basis.specs.Sections.{sizeOf}
 use Rattle.basis.proofs.Concat.{concat-ext}
 use Rattle.basis.proofs.Slots.{slots-in}
@@ -13,12 +12,12 @@ use Rattle.basis.proofs.Within.{Within}
 use Rattle.wire.specs.Wire.{bytesOf}
 use Rattle.fields.specs.declared.Job.{Job}
 use Rattle.fields.specs.Fields.{countOf}
-use Rattle.tree.specs.Tree.{Rooted}
-use Rattle.demand.proofs.Validity.{valid-count, valid-sections}
+use Rattle.demand.proofs.Validity.{valid-count, valid-sections, valid-rooted}
 use Rattle.heads.specs.Contracts.{Given}
 use Rattle.heads.proofs.Same.{required-same, pump-same, dictating-same}
 use Rattle.sizing.specs.Losses.{readingOf, lossesOf}
-use Rattle.rating.specs.Calls.{headsBytes, ratedBytes, rateBytes}
+use Rattle.rated_bytes.specs.RatedBytes.{headsBytes, resultBytes}
+use Rattle.rating.specs.Calls.{rateBytes}
 use Rattle.rating.specs.Contracts.{RatedAt, RatedJob}
 
 module _ (job : Job) (cat list : List ℕ) {v w : List ℕ} (rated : RatedAt job cat list v w) (few : countOf job ≤ 63) where
@@ -37,19 +36,6 @@ module _ (job : Job) (cat list : List ℕ) {v w : List ℕ} (rated : RatedAt job
   pub loss-small : (i : ℕ) → 0 < i → i ≤ countOf job → getD w i 0 ≤ 4259775
   loss-small i a h = rw (loss-at i a h) (rated .small i a (omega arith) .loss)
 
-  pub result-is : Rooted job → 0 < countOf job →
-      headsBytes job (λ i. getD w i 0) ++ concatTo (countOf job) (λ i. bytesOf 2 (getD v i 0) ++ bytesOf 4 (getD w i 0)) ≡ rateBytes job cat list
-  unfolding rateBytes headsBytes ratedBytes
-  result-is r some =
-      rw (
-        required-same job r some (λ i. getD w i 0) (lossesOf job cat list) loss-at,
-        pump-same job r some (λ i. getD w i 0) (lossesOf job cat list) loss-at,
-        dictating-same job r some (λ i. getD w i 0) (lossesOf job cat list) loss-at,
-        concat-ext (countOf job) (λ i. bytesOf 2 (getD v i 0) ++ bytesOf 4 (getD w i 0))
-            (λ i. bytesOf 2 (readingOf job cat (sizeOf list i) i .velocity) ++ bytesOf 4 (lossesOf job cat list i))
-            (λ i a h. rw (velocity-at i a h, loss-at i a h)),
-      )
-
 -- what a job that is rated gives those that write it
 module _ {b cat list : List ℕ} {room : ℕ} {job : Job} {v w : List ℕ} (r : RatedJob b cat list room job v w) where
   pub rated-count : Within 1 63 (countOf job)
@@ -62,3 +48,18 @@ module _ {b cat list : List ℕ} {room : ℕ} {job : Job} {v w : List ℕ} (r : 
         sections = valid-sections (r .accepted .valid);
         top = loss-small job cat list (r .at) (rated-count .high);
       }
+
+  pub rated-result : resultBytes job (λ i. getD v i 0) (λ i. getD w i 0) ≡ rateBytes job cat list
+  unfolding rateBytes resultBytes headsBytes
+  rated-result =
+      let rooted = valid-rooted (r .accepted .valid) in
+      let some = rated-count .low in
+      let loss = loss-at job cat list (r .at) (rated-count .high) in
+      rw (
+        required-same job rooted some (λ i. getD w i 0) (lossesOf job cat list) loss,
+        pump-same job rooted some (λ i. getD w i 0) (lossesOf job cat list) loss,
+        dictating-same job rooted some (λ i. getD w i 0) (lossesOf job cat list) loss,
+        concat-ext (countOf job) (λ i. bytesOf 2 (getD v i 0) ++ bytesOf 4 (getD w i 0))
+            (λ i. bytesOf 2 (readingOf job cat (sizeOf list i) i .velocity) ++ bytesOf 4 (lossesOf job cat list i))
+            (λ i a h. rw (velocity-at job cat list (r .at) (rated-count .high) i a h, loss i a h)),
+      )

@@ -13,7 +13,7 @@ use Rattle.record.specs.Record.{decode}
 use Rattle.demand.specs.Demand.{Accepted}
 use Rattle.catalogue.specs.Contracts.{AcceptedCat}
 use Rattle.sizing.specs.Losses.{listOk, readingOf, lossesOf}
-use Rattle.rating.specs.Calls.{rateLength}
+use Rattle.rated_bytes.specs.RatedBytes.{rateLength}
 
 -- an accepted job, an accepted catalogue and a list that 12 lets pass
 pub record Rateable (j : Job) (c l : List ℕ) : Type 0 where

@@ -1,11 +1,11 @@
 // The rating call.
 use crate::refusal::Outcome;
 use crate::refusal::refused;
-use crate::result::put_result;
 use crate::sections::list_ok;
 use crate::sections::rate_sections;
 use acceptance::accept_both;
 use answer::Answer;
+use rated_bytes::put_result;
 ghost use mathlib.Core.Path.{_≡_};
 ghost use lib.ListN.{length};
 ghost use Rattle.answer.specs.Answer.{numberOf};

@@ -1,7 +1,6 @@
 // Rating: what a list of sizes gives an accepted job with an accepted catalogue.
 mod call;
 mod refusal;
-mod result;
 mod sections;
 
 pub use call::outcome;

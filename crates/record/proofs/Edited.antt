@@ -1,9 +1,9 @@
 -- A record in which one field's bytes are replaced has the same length, every other byte as it was, and the same fields but that one.
 -- Assumes nothing.
-use mathlib.Core.Path.{_≡_, sym, _∙_}
+use mathlib.Core.Path.{_≡_, refl, sym, _∙_}
 use mathlib.Core.Logic.{⊎-elim}
 use mathlib.Core.List.{List, [], append-nil}
-use Prim.Native.Nat.{ℕ, _+_, _-_, _*_, _^_, _≤_, _<_}
+use Prim.Native.Nat.{ℕ, _+_, _-_, _*_, _%_, _^_, _≤_, _<_}
 use native.Mathlib.Omega.{arith}
 use lib.ListN.{length, set}
 use lib.Seq.{getD-set-same, set-set}
@@ -140,37 +140,35 @@ module _ (b : List ℕ) (i : ℕ) (low : 0 < i) (high : i ≤ byteAt b 6) (few :
   unfolding decode
   section-in = slots-in 64 1 (byteAt b 6 + 1) blankSection (sectionAt b) i blankSection (omega arith) (omega arith) (omega arith)
 
-  pub edited-fixtures : (n : ℕ) → fixturesPlace i + 2 ≤ length b → n < 65536 →
-      decode (edited 2 b (fixturesPlace i) n) ≡ withSection (decode b) i (fitted (sectionOf (decode b) i) n (sectionOf (decode b) i .free))
+  -- bytes replaced at offset 2 or 8 of section i leave its other fields
+  fitted-changed : {o : ℕ} {e : List ℕ} → SameBut (placeOf i + o) 2 b e → o % 6 ≡ 2 → o ≤ 8 →
+      decode e ≡ withSection (decode b) i (fitted (sectionOf (decode b) i) (beAt 2 e (fixturesPlace i)) (beAt 2 e (freePlace i)))
   unfolding fitted sectionFrom
-  edited-fixtures n fits h =
-      let same = edited-same 2 b (fixturesPlace i) n fits in
+  fitted-changed same two most =
       section-changed same i low high few (omega arith) (omega arith) ∙
       rw (
         section-in,
         same .bytes (placeOf i) (λ c d. omega arith),
         same .bytes (placeOf i + 1) (λ c d. omega arith),
-        edited-field 2 b (fixturesPlace i) n fits h,
         field-kept same 2 (placeOf i + 4) (λ k l c d. omega arith),
         field-kept same 2 (placeOf i + 6) (λ k l c d. omega arith),
-        field-kept same 2 (placeOf i + 8) (λ k l c d. omega arith),
       )
+
+  pub edited-fixtures : (n : ℕ) → fixturesPlace i + 2 ≤ length b → n < 65536 →
+      decode (edited 2 b (fixturesPlace i) n) ≡ withSection (decode b) i (fitted (sectionOf (decode b) i) n (sectionOf (decode b) i .free))
+  unfolding sectionFrom
+  edited-fixtures n fits h =
+      let same = edited-same 2 b (fixturesPlace i) n fits in
+      fitted-changed same refl (omega arith) ∙
+      rw (edited-field 2 b (fixturesPlace i) n fits h, field-kept same 2 (freePlace i) (λ k l c d. omega arith), section-in)
 
   pub edited-free : (n : ℕ) → freePlace i + 2 ≤ length b → n < 65536 →
       decode (edited 2 b (freePlace i) n) ≡ withSection (decode b) i (fitted (sectionOf (decode b) i) (sectionOf (decode b) i .fixtures) n)
-  unfolding fitted sectionFrom
+  unfolding sectionFrom
   edited-free n fits h =
       let same = edited-same 2 b (freePlace i) n fits in
-      section-changed same i low high few (omega arith) (omega arith) ∙
-      rw (
-        section-in,
-        same .bytes (placeOf i) (λ c d. omega arith),
-        same .bytes (placeOf i + 1) (λ c d. omega arith),
-        field-kept same 2 (placeOf i + 2) (λ k l c d. omega arith),
-        field-kept same 2 (placeOf i + 4) (λ k l c d. omega arith),
-        field-kept same 2 (placeOf i + 6) (λ k l c d. omega arith),
-        edited-field 2 b (freePlace i) n fits h,
-      )
+      fitted-changed same refl (omega arith) ∙
+      rw (edited-field 2 b (freePlace i) n fits h, field-kept same 2 (fixturesPlace i) (λ k l c d. omega arith), section-in)
 
 -- both, one after the other
 pub edited-end : (b : List ℕ) (i : ℕ) → 0 < i → i ≤ byteAt b 6 → byteAt b 6 ≤ 63 → (fixtures free : ℕ) →

@@ -7,7 +7,6 @@ use lib.ListN.{length, set}
 use Rattle.basis.specs.Stored.{stored}
 use Rattle.wire.specs.Wire.{byteAt, bytesOf}
 use Rattle.fields.specs.declared.Section.{Section}
-use Rattle.fields.specs.declared.Header.{Header}
 use Rattle.fields.specs.declared.Job.{Job}
 use Rattle.record.specs.Record.{placeOf}
 

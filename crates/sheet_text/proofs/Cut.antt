@@ -5,12 +5,15 @@ use mathlib.Core.Logic.{⊎-elim}
 use mathlib.Core.List.{List, []}
 use Prim.Native.Nat.{ℕ, _-_, _≤_, _<_, min}
 use native.Mathlib.Omega.{arith}
-use lib.ListN.{length, take, drop, length-drop}
+use lib.ListN.{length, take, drop, length-drop, length-append}
 use lib.Seq.{take-all}
 use borrow.Author.Tests.{lt-ltb, le-ltb}
+use Rattle.basis.specs.Stored.{stored}
 use Rattle.basis.proofs.Split.{lt-or-ge}
+use Rattle.basis.proofs.Stored.{stored-front}
 use Rattle.wire.specs.Wire.{beAt}
-use Rattle.sheet_text.specs.Sheet.{readOf, recordEnd, recordOf, afterRecord, textOf, sheetText, writtenText}
+use Rattle.sheet_text.specs.Sheet.{readOf, recordEnd, recordOf, afterRecord, sheetText, writtenText}
+use Rattle.rated_text.specs.RatedText.{textOf}
 
 -- what stands from a place to the end
 to-end : (l : List ℕ) (k : ℕ) → take (length l - k) (drop k l) ≡ drop k l
@@ -55,3 +58,7 @@ module _ (room : ℕ) (l : List ℕ) where
   pub written-long : 4096 ≤ room → writtenText room l ≡ sheetText l
   unfolding writtenText
   written-long h = rw (le-ltb room 4096 h)
+
+-- a text that stands at the front of a buffer lies within it
+pub front-within : (before x : List ℕ) {now : List ℕ} {n : ℕ} → (n ≡ length x) × (now ≡ stored before 0 x) → n ≤ length now
+front-within before x e = rw (e .0, e .1, stored-front before x, length-append x (drop (length x) before)) (omega arith)

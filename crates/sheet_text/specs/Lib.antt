@@ -1,3 +1,1 @@
-pub mod Text
 pub mod Sheet
-pub mod Pieces

@@ -1,13 +1,13 @@
 // The input cut into job, catalogue and size list, and the sheet of the three.
-use crate::lines::put_refused;
-use crate::rated::put_rated;
 use numbers::wide32;
+use rated_text::put_text;
 ghost use mathlib.Core.Path.{_≡_};
 ghost use Prim.Native.Nat.{_≤_, min};
 ghost use lib.ListN.{length};
 ghost use Rattle.basis.specs.Stored.{stored};
-ghost use Rattle.sheet_text.specs.Sheet.{recordEnd, recordOf, afterRecord, textOf, writtenText};
-ghost use Rattle.sheet_text.specs.Pieces.{Wrote};
+ghost use Rattle.text.specs.Pieces.{Wrote};
+ghost use Rattle.rated_text.specs.RatedText.{textOf};
+ghost use Rattle.sheet_text.specs.Sheet.{recordEnd, recordOf, afterRecord, writtenText};
 
 fn least(a: usize, b: usize) -> usize
     ensures { λ r. ⌜ r ≡ min a b ⌝ }
@@ -24,23 +24,6 @@ fn record_end(s: &[u8]) -> usize
     }
     let stated = wide32(wire::be32(s, 0));
     least(stated, s.len())
-}
-
-// A rating's lines, or the line of a refusal. Nothing is lent for a result, so it is rated with room for the longest, 9 + 6 × 63 bytes.
-fn put_text(b: &[u8], cat: &[u8], list: &[u8], out: &mut [u8]) -> usize
-    requires { ⌜ 4096 ≤ length (now out) ⌝ }
-    ensures { λ r. ⌜ Wrote 4096 (now (out .entry)) (now (out .exit)) 0 r (textOf (now (b .entry)) (now (cat .entry)) (now (list .entry))) ⌝ }
-{
-    let found = rating::outcome(b, cat, list, 387);
-    let answer = found.answer;
-    let number = answer::number(answer);
-    if number != 0 {
-        return put_refused(out, 0, number);
-    }
-    let job = found.job;
-    let velocities = found.velocities;
-    let losses = found.losses;
-    put_rated(out, job, velocities, losses)
 }
 
 // The sheet of job, catalogue and size list, one after another.

@@ -11,8 +11,6 @@ use Rattle.basis.proofs.Part.{part-below}
 use Rattle.basis.proofs.Split.{either}
 use Rattle.wire.specs.Wire.{byteAt}
 use Rattle.fields.specs.declared.Job.{Job}
-use Rattle.fields.specs.Fields.{sectionOf}
-use Rattle.demand.specs.Demand.{sectionFlow}
 use Rattle.catalogue.specs.declared.reading.SizeAtFlow.{SizeAtFlow}
 use Rattle.catalogue.specs.Layout.{sizesOf, rowsOf, sizeFrom, partOf}
 use Rattle.catalogue.specs.Reading.{readRows}
@@ -49,12 +47,6 @@ module _ (r : SizeAtFlow) (limit decimetres tenths : ℕ) where
     tried-under h = rw (e, le-ltb limit (r .velocity) h)
 
 module _ (job : Job) (cat : List ℕ) (s i : ℕ) where
-  -- at the section's own flow
-  pub tried-at : (q : ℕ) → q ≡ sectionFlow job i →
-      triedOf (readRows (partOf cat s) (rowsOf cat) q) (job .header .limit) (sectionOf job i .decimetres) (job .header .tenths) ≡ triedAt job cat s i
-  unfolding readingOf
-  tried-at q e = rw e
-
   pub tried-over : overAt job cat s i ≡ true → triedAt job cat s i ≡ overTried
   unfolding triedOf overAt
   tried-over e = rw e

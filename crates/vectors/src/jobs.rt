@@ -36,9 +36,9 @@ fn job_of(raw: &[u8]) -> Job
 {
     let mut record = [0u8; 670];
     wire::put(&mut record, 5, raw);
-    let head = record::header_of(&record);
+    let head = decoding::header_of(&record);
     record[6] = 63;
-    let all = record::job_of(&record);
+    let all = decoding::job_of(&record);
     let residents = all.residents;
     let sections = all.sections;
     Job {

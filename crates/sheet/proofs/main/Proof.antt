@@ -3,7 +3,7 @@
 use mathlib.Core.Path.{sym}
 use borrow.Author.Needs.{needs}
 use lib.Seq.{length-take-le}
-use Rattle.sheet_text.proofs.Pieces.{front-within}
+use Rattle.sheet_text.proofs.Cut.{front-within}
 use Rattle.sheet.proofs.main.Statement.{statement}
 use Rattle.sheet.proofs.main.Tie as tie
 

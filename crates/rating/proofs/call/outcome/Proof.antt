@@ -15,15 +15,15 @@ use Rattle.catalogue.specs.Contracts.{AcceptedCat}
 use Rattle.catalogue.proofs.ShapeBounds.{shape-in}
 use Rattle.sizing.specs.Losses.{listOk, overAny}
 use Rattle.acceptance.specs.Acceptance.{inputNo}
-use Rattle.rating.specs.Calls.{rateLength}
+use Rattle.rated_bytes.specs.RatedBytes.{rateLength}
 use Rattle.acceptance.proofs.Accepting.{input-fields, input-accepted, input-listed}
 use Rattle.rating.proofs.Ordering.{rate-inputs, rate-list, rate-short, rate-over, rate-done}
 use Rattle.rating.proofs.call.outcome.Statement.{statement}
 use Rattle.rating.proofs.call.outcome.Tie as tie
 
 -- a refusal has the number that was found, which is not 0, and is blank
-refusal : {A B : Type 0} {r n m : ℕ} → r ≡ n → B → n ≡ m → (n ≡ 0 → ⊥) → (r ≡ m) × ((r ≡ 0 → A) × ((r ≡ 0 → ⊥) → B))
-refusal e b f k = (e ∙ f, (λ z. absurd (k (sym e ∙ z)), λ h. b))
+refusal : {A B : Type 0} {r m : ℕ} (n : ℕ) → r ≡ n → B → n ≡ m → (n ≡ 0 → ⊥) → (r ≡ m) × ((r ≡ 0 → A) × ((r ≡ 0 → ⊥) → B))
+refusal n e b f k = (e ∙ f, (λ z. absurd (k (sym e ∙ z)), λ h. b))
 
 -- 1 to 11
 found : (c : tie.After-number) → c .number .result ≡ inputNo (c .before .before .before .before .before .args .b .now) (c .before .before .before .before .before .args .cat .now)
@@ -32,7 +32,7 @@ found c = c .number .ensures ∙ c .before .accept-both .ensures .0
 returns : tie.Need-returns
 returns c =
     let one = c .before in
-    refusal (ap numberOf (c .refused .ensures .0)) (c .refused .ensures .1)
+    refusal _ (ap numberOf (c .refused .ensures .0)) (c .refused .ensures .1)
     (one .before .before .accept-both .ensures .0 ∙ sym (rate-inputs _ _ _ _ (λ e. one .if1 .taken (found (one .before) ∙ e))))
     (λ e. one .if1 .taken (one .before .number .ensures ∙ e))
 
@@ -60,8 +60,7 @@ naming c = rw (fields (c .before .before)) at (c .list-ok .ensures)
 returns-2 : tie.Need-returns-2
 returns-2 c =
     let two = c .before in
-    let number : numberOf (c .refused2 .result .answer) ≡ 12 = ap numberOf (c .refused2 .ensures .0) in
-    refusal number (c .refused2 .ensures .1)
+    refusal 12 (ap numberOf (c .refused2 .ensures .0)) (c .refused2 .ensures .1)
     (sym (rate-list _ _ _ _ (passed (two .before .before .before)) (sym (naming (two .before)) ∙ not-true (two .before .list-ok .result) (two .if2 .taken))))
     (λ e. omega arith)
 
@@ -78,8 +77,7 @@ returns-3 : tie.Need-returns-3
 returns-3 c =
     let two = c .before .before .before in
     let one = two .before .before .before in
-    let number : numberOf (c .refused3 .result .answer) ≡ 14 = ap numberOf (c .refused3 .ensures .0) in
-    refusal number (c .refused3 .ensures .1)
+    refusal 14 (ap numberOf (c .refused3 .ensures .0)) (c .refused3 .ensures .1)
     (sym (rate-short _ _ _ _ (passed one) (named two) (rw (← count one) (omega arith))))
     (λ e. omega arith)
 
@@ -106,8 +104,7 @@ returns-4 c =
     let three = four .before .before in
     let two = three .before .before in
     let one = two .before .before .before in
-    let number : numberOf (c .refused4 .result .answer) ≡ 13 = ap numberOf (c .refused4 .ensures .0) in
-    refusal number (c .refused4 .ensures .1)
+    refusal 13 (ap numberOf (c .refused4 .ensures .0)) (c .refused4 .ensures .1)
     (sym (rate-over _ _ _ _ (passed one) (named two) (room three) (sym (over (four .before)) ∙ four .if4 .taken)))
     (λ e. omega arith)
 

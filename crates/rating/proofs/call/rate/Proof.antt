@@ -5,9 +5,8 @@ use borrow.Author.Needs.{needs}
 use borrow.Author.Tests.{eq-eqb, ne-eqb}
 use lib.ListN.{length}
 use Rattle.answer.specs.Answer.{numberOf}
-use Rattle.demand.proofs.Validity.{valid-rooted}
 use Rattle.rating.specs.Contracts.{RatedJob}
-use Rattle.rating.proofs.Rated.{velocity-thin, result-is, rated-count, rated-given}
+use Rattle.rating.proofs.Rated.{velocity-thin, rated-count, rated-given, rated-result}
 use Rattle.rating.proofs.call.rate.Statement.{statement}
 use Rattle.rating.proofs.call.rate.Tie as tie
 
@@ -37,11 +36,9 @@ returns-2 : tie.Need-returns-2
 returns-2 c =
     let put = c .before .before in
     let one = put .before .before .before .before .before in
-    let r = done one in
-    let size = rated-count r in
-    let whole = result-is _ _ _ (r .at) (size .high) (valid-rooted (r .accepted .valid)) (size .low) in (
+    let r = done one in (
       one .before .before .outcome .ensures .0,
-      put .put-result .ensures ∙ rw (whole, r .fields, eq-eqb (numberOf (one .before .before .outcome .result .answer)) 0 (none one)),
+      put .put-result .ensures ∙ rw (rated-result r, r .fields, eq-eqb (numberOf (one .before .before .outcome .result .answer)) 0 (none one)),
     )
 
 pub rate-spec : {M : Type 1} → statement M

@@ -1,25 +1,23 @@
 -- `rating::sections::rate_sections` meets its contract.
 -- Assumes nothing.
 use mathlib.Core.Path.{_≡_, refl, sym, ap, _∙_}
-use Prim.Native.Nat.{ℕ, _+_, _-_, _≤_, _<_}
+use Prim.Native.Nat.{_+_, _-_, _≤_, _<_}
 use native.Mathlib.Omega.{arith}
 use borrow.Author.Needs.{needs}
-use lib.ListN.{length}
+use lib.ListN.{getD}
 use Rattle.basis.specs.Sections.{sizeOf}
 use Rattle.basis.proofs.Bools.{apart}
 use Rattle.basis.proofs.Slots.{slots-in}
-use Rattle.basis.proofs.Within.{Within}
 use Rattle.fields.specs.Fields.{countOf}
 use Rattle.rules.proofs.HeaderBounds.{header-in}
 use Rattle.rules.proofs.Kept.{sections-in}
 use Rattle.demand.specs.Demand.{sectionFlow}
 use Rattle.demand.proofs.Validity.{valid-count, valid-sections}
-use Rattle.catalogue.specs.Layout.{sizesOf}
 use Rattle.sizing.specs.declared.Tried.{Tried}
-use Rattle.sizing.specs.Losses.{overAt}
+use Rattle.sizing.specs.Losses.{readingOf, overAt}
 use Rattle.sizing.specs.Contracts.{triedAt}
 use Rattle.sizing.proofs.Named.{list-long, list-names}
-use Rattle.sizing.proofs.Trying.{tried-at, tried-not, tried-tells}
+use Rattle.sizing.proofs.Trying.{tried-not, tried-tells}
 use Rattle.rating.proofs.Upto.{Upto, upto-start, upto-more, upto-over, upto-end}
 use Rattle.rating.proofs.sections.rate_sections.Statement.{statement}
 use Rattle.rating.proofs.sections.rate_sections.Tie as tie
@@ -31,28 +29,20 @@ Inv-loop cat list job count limit tenths flows velocities₀ losses₀ i₀ velo
 abbrev μ-loop : tie.MeasureT-loop
 μ-loop cat list job count limit tenths flows velocities₀ losses₀ i₀ velocities losses i = countOf job + 1 - i
 
--- the count, and the size that the list names for section i
 few : (c : tie.Start Inv-loop μ-loop) → countOf (c .args .t1) ≤ 63
 few c = valid-count (c .pre .job .valid) .high
 
-long : (c : tie.Start Inv-loop μ-loop) → length (c .args .list .now) ≡ countOf (c .args .t1)
-long c = list-long (c .args .t1) (c .args .cat .now) (c .args .list .now) (c .pre .list)
-
-named : (c : tie.Start Inv-loop μ-loop) → (i : ℕ) → 0 < i → i ≤ countOf (c .args .t1) → Within 1 (sizesOf (c .args .cat .now)) (sizeOf (c .args .list .now) i)
-named c i a h = list-names (c .args .t1) (c .args .cat .now) (c .args .list .now) (c .pre .list) i a h
-
-loop-holds : tie.Need-loop-holds Inv-loop μ-loop
-loop-holds c = (omega arith, omega arith, upto-start _ _ _)
-
 shared-slice-read-wide8 : tie.Need-shared-slice-read-wide8 Inv-loop μ-loop
-shared-slice-read-wide8 c = let start = c .before .before .before .before .before .before in omega (arith, long start)
+shared-slice-read-wide8 c =
+    let start = c .before .before .before .before .before .before in
+    omega (arith, list-long (start .args .t1) (start .args .cat .now) (start .args .list .now) (start .pre .list))
 
 try-size-requires : tie.Need-try-size-requires Inv-loop μ-loop
 try-size-requires c κs =
     let at = c .before .before .before in
     let start = at .before .before .before .before in
     let i = at .loop .i in
-    let s = named start i (omega arith) (omega arith) in
+    let s = list-names (start .args .t1) (start .args .cat .now) (start .args .list .now) (start .pre .list) i (omega arith) (omega arith) in
     rw (c .wide8 .ensures .0) (
       start .pre .cat,
       (s .low, s .high),
@@ -67,12 +57,15 @@ tried : (c : tie.After-try-size Inv-loop μ-loop) →
     let at = c .before .before .before .before in
     let start = at .before .before .before .before in
     c .try-size .result ≡ triedAt (start .args .t1) (start .args .cat .now) (sizeOf (start .args .list .now) (at .loop .i)) (at .loop .i)
+unfolding readingOf
 tried c =
     let at = c .before .before .before .before in
     let start = at .before .before .before .before in
+    let i = at .loop .i in
     let n = few start in
-    c .try-size .ensures .0 ∙
-    rw (c .before .wide8 .ensures .0) (tried-at _ _ _ _ _ (rw (at .before .flows .ensures) (slots-in 64 1 (countOf (start .args .t1) + 1) 0 (sectionFlow (start .args .t1)) (at .loop .i) 0 (omega arith) (omega arith) (omega arith))))
+    let flow : getD (at .before .flows .result) i 0 ≡ sectionFlow (start .args .t1) i =
+    rw (at .before .flows .ensures) (slots-in 64 1 (countOf (start .args .t1) + 1) 0 (sectionFlow (start .args .t1)) i 0 (omega arith) (omega arith) (omega arith)) in
+    rw (c .before .wide8 .ensures .0, flow) at (c .try-size .ensures .0)
 
 -- the place of section i is within 64
 place : (c : tie.In-loop Inv-loop μ-loop) → c .before .loop .i < 64
@@ -114,7 +107,7 @@ returns-2 c =
 pub rate-sections-spec : {M : Type 1} → statement M
 rate-sections-spec =
     tie.close
-    (tie.spec Inv-loop μ-loop (λ c. search needs) (λ c κs. search needs) loop-holds (λ c. search needs)
+    (tie.spec Inv-loop μ-loop (λ c. search needs) (λ c κs. search needs) (λ c. (omega arith, omega arith, upto-start _ _ _)) (λ c. search needs)
     shared-slice-read-wide8 (λ c κs. search needs) (λ c. omega (arith, place (c .before .before))) (λ c. place (c .before .before))
     (λ c. omega (arith, place (c .before .before))) (λ c. place (c .before .before)) try-size-requires returns
     (λ c. omega (arith, place (c .before .before .before .before)))

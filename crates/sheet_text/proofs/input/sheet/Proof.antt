@@ -7,7 +7,6 @@ use borrow.Author.Needs.{needs}
 use lib.ListN.{length}
 use lib.Seq.{length-take-le}
 use Rattle.basis.proofs.Stored.{stored-none}
-use Rattle.sheet_text.proofs.Pieces.{wrote-as}
 use Rattle.sheet_text.proofs.Cut.{parts-sheet, written-short, written-long}
 use Rattle.sheet_text.proofs.input.sheet.Statement.{statement}
 use Rattle.sheet_text.proofs.input.sheet.Tie as tie
@@ -24,7 +23,7 @@ returns-2 c =
     let cut = put .before .before .before in
     let start = cut .before .before .before .before in
     let n : cut .least .result ≡ min (length (start .args .input .now)) 65536 = cut .least .ensures in
-    let p = wrote-as (rw n at (put .put-parts .ensures)) (parts-sheet (start .args .input .now)) in
+    let p = rw (n, parts-sheet (start .args .input .now)) at (put .put-parts .ensures) in
     rw (written-long (length (start .args .out .now)) (start .args .input .now) (omega arith)) (omega (arith, p .place), p .text)
 
 pub sheet-spec : {M : Type 1} → statement M
