@@ -1,8 +1,5 @@
 -- `search::choose` meets its contract: what is found in the pruned tables holds of those that were given.
 -- Assumes nothing.
-use mathlib.Core.Path.{_≡_}
-use mathlib.Core.Bool.{true}
-use native.Mathlib.Omega.{arith}
 use borrow.Author.Needs.{needs}
 use borrow.Author.Tests.{not-true, not-false}
 use Rattle.basis.proofs.Bools.{apart}
@@ -11,14 +8,6 @@ use Rattle.pruning.proofs.Keeping.{keeps-found, keeps-none}
 use Rattle.pruning.proofs.Trims.{sound-like}
 use Rattle.search.proofs.choose.Statement.{statement}
 use Rattle.search.proofs.choose.Tie as tie
-
-prune-requires : tie.Need-prune-requires
-prune-requires c κs = let b = c .before .before .before in (b .pre .0, b .pre .1 .0)
-
-returns : tie.Need-returns
-returns c =
-    let k = c .before .before .before in
-    ((λ e. k .prune .ensures .0 (not-true (k .prune .result .some) (c .before .if1 .taken))), λ e. absurd (apart e (c .nothing .ensures)))
 
 -- the pruned tables
 module _ (c : tie.Else1) where
@@ -47,4 +36,9 @@ returns-2 c =
     ((λ e. keeps-none (b d .args .head) (pruned d .keeps) (f .0 e)), λ e. keeps-found (b d .args .head) (pruned d .keeps) (f .1 e))
 
 pub choose-spec : {M : Type 1} → statement M
-choose-spec = tie.close (tie.spec prune-requires (λ c κs. search needs) returns cheapest-list-requires (λ c. search needs) returns-2)
+choose-spec =
+    tie.close
+    (tie.spec (λ c κs. let b = c .before .before .before in (b .pre .0, b .pre .1 .0)) (λ c κs. search needs)
+    (λ c. let k = c .before .before .before in
+    ((λ e. k .prune .ensures .0 (not-true (k .prune .result .some) (c .before .if1 .taken))), λ e. absurd (apart e (c .nothing .ensures))))
+    cheapest-list-requires (λ c. search needs) returns-2)
