@@ -1,7 +1,7 @@
 -- `rows::raise::bests` meets its contract: after t turns each head has the best of the first t sizes.
 -- Assumes nothing.
 use mathlib.Core.Path.{_≡_}
-use Prim.Native.Nat.{_+_, _-_, _≤_}
+use Prim.Native.Nat.{_-_, _≤_}
 use native.Mathlib.Omega.{arith}
 use Rattle.rows.specs.Contracts.{optionsOf, Lowest, Flat}
 use Rattle.rows.proofs.Bests.{lowest-none, flat-none, offerable-less}
