@@ -2,6 +2,7 @@
 -- Assumes nothing.
 use borrow.Author.Needs.{needs}
 use borrow.Author.Tests.{not-true, not-false}
+use lib.ListN.{getD}
 use Rattle.basis.proofs.Bools.{apart}
 use Rattle.pruning.specs.Contracts.{Pruned}
 use Rattle.pruning.proofs.Keeping.{sound-like, keeps-found, keeps-none}
@@ -27,7 +28,9 @@ choose-spec =
     (tie.spec (λ c κs. let b = c .before .before .before in (b .pre .0, b .pre .1 .0)) (λ c κs. search needs)
     (λ c. let k = c .before .before .before in
     ((λ e. k .prune .ensures .0 (not-true (k .prune .result .some) (c .before .if1 .taken))), λ e. absurd (apart e (c .nothing .ensures))))
-    (λ c κs. let d = c .before .before .before .before .before in ((sound-like (b d .pre .0), pruned d .pump), b d .pre .1)) (λ c. search needs)
+    (λ c κs. let d = c .before .before .before .before .before in
+    ((sound-like (b d .pre .0) {need = λ s. getD (k d .prune .result .needs) s 0}, pruned d .pump), b d .pre .1))
+    (λ c. search needs)
     (λ c. let f = c .before .before .cheapest-list .ensures in
     let d = c .before .before .before .before .before .before .before .before in
     ((λ e. keeps-none (b d .args .head) (pruned d .keeps) (f .0 e)), λ e. keeps-found (b d .args .head) (pruned d .keeps) (f .1 e))))
