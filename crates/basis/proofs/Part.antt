@@ -6,7 +6,7 @@ use Prim.Native.Nat.{ℕ, suc, _+_, _≤_, _<_}
 use native.Mathlib.Omega.{arith}
 use native.Mathlib.Numerals.{add-one}
 use lib.ListN.{length, drop, getD, length-take, length-drop, List·getD-eq-default}
-use lib.Seq.{take-add, drop-drop, drop-cons, take-length, take-at, take-append-le, drop-append-le, drop-append-add, getD-take, getD-drop}
+use lib.Seq.{take-add, drop-drop, drop-cons, take-length, take-at, drop-append-add, getD-take, getD-drop}
 use mathlib.Core.Logic.{⊎-elim}
 use Rattle.basis.specs.Part.{part}
 use Rattle.basis.proofs.Split.{lt-or-ge}
@@ -35,10 +35,6 @@ part-front x y n e = take-at x y n e
 
 pub part-right : (x y : List ℕ) (i n : ℕ) → part (x ++ y) (length x + i) n ≡ part y i n
 part-right x y i n = rw (drop-append-add x y i)
-
-pub part-left : (x y : List ℕ) (i n : ℕ) → i + n ≤ length x → part (x ++ y) i n ≡ part x i n
-part-left x y i n h =
-    rw (drop-append-le i x y (omega arith)) (take-append-le n (drop i x) y (rw (length-drop i x) (omega arith)))
 
 -- a bound on every place of a list, past its end too, holds of a part
 pub part-below : (l : List ℕ) (i n b : ℕ) → 0 < b → ((k : ℕ) → getD l k 0 < b) → (k : ℕ) → getD (part l i n) k 0 < b

@@ -6,8 +6,8 @@ use Prim.Native.Nat.{ℕ, _+_, _-_, _≤_, _<_}
 use native.Mathlib.Omega.{arith}
 use native.Mathlib.Numerals.{add-one}
 use native.Mathlib.Nat.{add-zero}
-use lib.ListN.{length, take, drop, getD, set, length-append, length-drop, take-append-drop, List·getD-append}
-use lib.Seq.{length-take-le, take-at, drop-append-add, drop-drop, set-split, getD-take, getD-drop, getD-append-add}
+use lib.ListN.{length, take, drop, getD, set, length-append, take-append-drop, List·getD-append}
+use lib.Seq.{length-take-le, take-at, drop-append-add, drop-drop, set-split, getD-take, getD-drop, getD-append-add, length-sets, sets-eq}
 use Rattle.basis.specs.Stored.{stored}
 
 -- the list as what stands before the end of the run, and what stands after it
@@ -19,13 +19,7 @@ front-length : (l : List ℕ) (i : ℕ) (x : List ℕ) → i ≤ length l → le
 front-length l i x h = rw (length-append (take i l) x, length-take-le i l h)
 
 pub stored-length : (l : List ℕ) (i : ℕ) (x : List ℕ) → i + length x ≤ length l → length (stored l i x) ≡ length l
-stored-length l i x h =
-    rw (
-      stored-split l i x,
-      length-append (take i l ++ x) (drop (i + length x) l),
-      front-length l i x (omega arith),
-      length-drop (i + length x) l,
-    ) (omega arith)
+stored-length l i x h = rw (stored-split l i x, ← sets-eq x l i h) (length-sets l i x)
 
 pub stored-none : (l : List ℕ) (i : ℕ) → stored l i [] ≡ l
 unfolding stored

@@ -15,7 +15,8 @@ use Rattle.catalogue.specs.declared.reading.SizeAtFlow.{SizeAtFlow}
 use Rattle.catalogue.specs.Layout.{flowAt, velocityAt, slopeAt}
 use Rattle.catalogue.specs.Reading.{between, servesAt, readRows}
 use Rattle.catalogue.specs.Contracts.{Rows, Above}
-use Rattle.catalogue.proofs.Rising.{Rises, rises, flows-rise}
+use Rattle.catalogue.proofs.RowBounds.{Rises}
+use Rattle.catalogue.proofs.Rising.{rises, flows-rise}
 use Rattle.catalogue.proofs.Lines.{Rising, rising-le, between-first, between-line, between-high}
 
 module _ (rows : List ℕ) (n q : ℕ) where

@@ -20,10 +20,11 @@ pub record RowIn (rows : List ℕ) (k : ℕ) : Type 0 where
   pub velocity : 1 ≤ velocityAt rows k
   pub slope : 1 ≤ slopeAt rows k
 
-pub record RiseIn (rows : List ℕ) (k : ℕ) : Type 0 where
-  pub flow : flowAt rows (k - 1) < flowAt rows k
-  pub velocity : velocityAt rows (k - 1) ≤ velocityAt rows k
-  pub slope : slopeAt rows (k - 1) ≤ slopeAt rows k
+-- row i before row j
+pub record Rises (rows : List ℕ) (i j : ℕ) : Type 0 where
+  pub flow : flowAt rows i < flowAt rows j
+  pub velocity : velocityAt rows i ≤ velocityAt rows j
+  pub slope : slopeAt rows i ≤ slopeAt rows j
 
 module _ (rows : List ℕ) (k : ℕ) where
   pub row-in : rowOk rows k ≡ true → RowIn rows k
@@ -44,7 +45,7 @@ module _ (rows : List ℕ) (k : ℕ) where
   unfolding rowOk
   row-last f v = rw (in-within 1 1000000 (flowAt rows k) f, le-leb 1 (velocityAt rows k) v)
 
-  pub rise-in : risesAt rows k ≡ true → RiseIn rows k
+  pub rise-in : risesAt rows k ≡ true → Rises rows (k - 1) k
   unfolding risesAt
   rise-in e =
       let e₁ = right (ltb (flowAt rows (k - 1)) (flowAt rows k)) _ e in
@@ -54,7 +55,7 @@ module _ (rows : List ℕ) (k : ℕ) where
         slope = leb-true (slopeAt rows (k - 1)) (slopeAt rows k) (right (leb (velocityAt rows (k - 1)) (velocityAt rows k)) _ e₁);
       }
 
-  pub rise-refused : (RiseIn rows k → ⊥) → false ≡ risesAt rows k
+  pub rise-refused : (Rises rows (k - 1) k → ⊥) → false ≡ risesAt rows k
   rise-refused n = sym (never (risesAt rows k) (λ e. n (rise-in e)))
 
   pub rise-last :

@@ -3,7 +3,7 @@
 use mathlib.Core.Path.{_≡_, refl, _∙_}
 use mathlib.Core.Logic.{inl, inr}
 use mathlib.Core.List.{List, _++_}
-use Prim.Native.Nat.{ℕ, _≤_}
+use Prim.Native.Nat.{ℕ}
 use native.Mathlib.Omega.{arith}
 use lib.ListN.{length}
 use Rattle.basis.specs.Stored.{stored}
@@ -12,7 +12,7 @@ use Rattle.record.specs.Record.{decode}
 use Rattle.fields.specs.declared.Job.{Job}
 use Rattle.demand.specs.Demand.{Valid}
 use Rattle.nets.specs.Net.{Net, Found, None}
-use Rattle.choosing.specs.Suitable.{SuitableAt, Suitable, costOf}
+use Rattle.choosing.specs.Suitable.{SuitableAt, Suitable}
 use Rattle.choosing.specs.Calls.{chooseNo, chooseBytes, Chosen}
 use Rattle.choosing.specs.Contracts.{headFor, TreeOf, Least}
 use Rattle.choosing.proofs.Bridge.{suits-net, net-suits, cost-net}

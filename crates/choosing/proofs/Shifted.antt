@@ -1,10 +1,10 @@
 -- The head at an end, signed as document 01 has it and shifted by 1,000 as the search has it.
 -- Assumes nothing.
-use mathlib.Core.Path.{_≡_, refl, sym, ap, _∙_}
+use mathlib.Core.Path.{_≡_, refl, ap, _∙_}
 use mathlib.Core.Logic.{⊎-elim}
-use mathlib.Core.Bool.{true, false}
+use mathlib.Core.Bool.{true}
 use Prim.{tt}
-use Prim.Native.Nat.{ℕ, zero, suc, _+_, _-_, _≤_, _<_}
+use Prim.Native.Nat.{ℕ, suc, _+_, _-_, _≤_, _<_}
 use native.Mathlib.Omega.{arith}
 use lib.Dec.{T, leb}
 use lib.IntN.{ℤ, pos, negsuc, natAbs, subℕ, _+ℤ_}

@@ -1,17 +1,17 @@
 -- The tables that the code fills are a tree drawn from the job and the catalogue, and one that the search takes.
 -- Assumes nothing.
-use mathlib.Core.Path.{_≡_, refl, sym, _∙_}
+use mathlib.Core.Path.{_≡_, refl, _∙_}
 use mathlib.Core.Logic.{⊎-elim}
 use mathlib.Core.Bool.{true, false, not}
 use mathlib.Core.List.{List}
 use Prim.Native.Nat.{ℕ, _+_, _*_, _≤_, _<_}
 use native.Mathlib.Omega.{arith}
-use borrow.Author.Tests.{lt-ltb, le-ltb}
+use borrow.Author.Tests.{lt-ltb}
 use lib.Dec.{ltb}
 use lib.ListN.{getD}
 use Rattle.basis.proofs.Split.{either}
 use Rattle.fields.specs.declared.Job.{Job}
-use Rattle.fields.specs.Fields.{countOf, sectionOf}
+use Rattle.fields.specs.Fields.{countOf}
 use Rattle.wire.specs.Wire.{byteAt}
 use Rattle.demand.specs.Demand.{Accepted}
 use Rattle.demand.proofs.Validity.{valid-count, valid-rooted}

@@ -20,8 +20,8 @@ use Rattle.rules.proofs.Elevation.{elevation-small}
 use Rattle.heads.specs.Heads.{reachOf, greatestTo, requiredOf, dictatingOf}
 use Rattle.heads.specs.Contracts.{Given}
 use Rattle.heads.proofs.Signed.{add-mag}
-use Rattle.heads.proofs.Loss.{path-top, path-held}
-use Rattle.heads.proofs.Lowest.{lowest-top}
+use Rattle.heads.proofs.Loss.{path-within, path-held}
+use Rattle.heads.proofs.Lowest.{lowest-within}
 use Rattle.heads.proofs.Maximum.{Reached, greatest-reached}
 
 module _ {job : Job} {losses : List ℕ} (g : Given job losses) where
@@ -32,7 +32,7 @@ module _ {job : Job} {losses : List ℕ} (g : Given job losses) where
   given-rooted = rooted-of job (omega (arith, given-head .sections .high)) (g .sections)
 
   pub path-small : (i : ℕ) → i ≤ countOf job → pathOf (parentOf job) (λ i. getD losses i 0) i ≤ 268365825
-  path-small i k = omega (arith, path-top job given-rooted (λ i. getD losses i 0) (g .top) i k, given-rooted .few)
+  path-small i k = omega (arith, path-within job given-rooted (λ i. getD losses i 0) (g .top) i k, given-rooted .few)
 
   pub held-small : (paths : List ℕ) → paths ≡ slots 64 1 (countOf job + 1) 0 (pathOf (parentOf job) (λ i. getD losses i 0)) →
       (i : ℕ) → i ≤ countOf job → getD paths i 0 ≤ 268365825
@@ -58,4 +58,4 @@ module _ {job : Job} {losses : List ℕ} (g : Given job losses) where
 
   pub dictating-small : (loss : ℕ → ℕ) → dictatingOf job loss ≤ 63
   unfolding dictatingOf
-  dictating-small loss = le-trans (lowest-top (countOf job) _) (given-head .sections .high)
+  dictating-small loss = le-trans (lowest-within (countOf job) _) (given-head .sections .high)

@@ -42,8 +42,8 @@ module _ (job : Job) (r : Rooted job) where
   path-more loss held i e h k =
       rw (path-next loss held i e h k, e) (slots-more 64 1 i 0 (pathOf (parentOf job) loss) h (omega (arith, r .few)))
 
-  pub path-top : (loss : ℕ → ℕ) → ((i : ℕ) → 0 < i → i ≤ countOf job → loss i ≤ 4259775) →
+  pub path-within : (loss : ℕ → ℕ) → ((i : ℕ) → 0 < i → i ≤ countOf job → loss i ≤ 4259775) →
       (i : ℕ) → i ≤ countOf job → pathOf (parentOf job) loss i ≤ i * 4259775
-  path-top loss t =
+  path-within loss t =
       by-parent parent-lower (λ i. pathOf (parentOf job) loss i ≤ i * 4259775) (omega (arith, path-pump (parentOf job) loss))
       (λ i h k up. omega (arith, t i h k, parent-lower i h k, path-step parent-lower loss i h k))

@@ -23,11 +23,11 @@ unfolding lowestTo
 lowest-more n test = refl
 
 -- at most n, passing or not
-pub lowest-top : (n : ℕ) (test : ℕ → Bool) → lowestTo n test ≤ n
+pub lowest-within : (n : ℕ) (test : ℕ → Bool) → lowestTo n test ≤ n
 unfolding lowestTo
-lowest-top zero test = omega arith
-lowest-top (suc n) test =
-    let below : lowestTo n test ≤ n = lowest-top n test in
+lowest-within zero test = omega arith
+lowest-within (suc n) test =
+    let below : lowestTo n test ≤ n = lowest-within n test in
     ⊎-elim
     (λ (a : anyTo n test ≡ true). rw a (omega arith))
     (λ (a : anyTo n test ≡ false).
@@ -49,8 +49,8 @@ lowest-is (suc n) test t h k e =
     let l : Lowest n test (lowestTo n test) = lowest-is n test (f .place) (f .low) (f .high) (f .holds) in
     rw a (record { low = l .low; high = omega (arith, l .high); holds = l .holds; first = l .first }))
     (λ a.
-    let top : t ≡ suc n = ⊎-elim (λ q. q) (λ l. absurd (apart (any-true n t test h (omega arith) e) a)) (eq-or-lt-of-le k) in
-    let e′ : test (suc n) ≡ true = rw top at e in
+    let last : t ≡ suc n = ⊎-elim (λ q. q) (λ l. absurd (apart (any-true n t test h (omega arith) e) a)) (eq-or-lt-of-le k) in
+    let e′ : test (suc n) ≡ true = rw last at e in
     rw (a, e′) (record { low = omega arith; high = omega arith; holds = e′; first = λ j p q. any-at n test a j p (omega arith) }))
     (either (anyTo n test)))
 

@@ -40,7 +40,7 @@ cut-same a x l u v b m =
     (lt-or-ge x u)
 
 -- b is the head at the pump, one of those for which `high` is enough
-module _ (N : Net) (lower : (s : ℕ) → 0 < s → s ≤ N .sections → N .parent s < s) (a : ℕ) (high : ℕ → ℕ) (usable : Usable N a high) (b : ℕ) (most : b ≤ a) where
+module _ {N : Net} {a : ℕ} {high : ℕ → ℕ} (lower : (s : ℕ) → 0 < s → s ≤ N .sections → N .parent s < s) (usable : Usable N a high) (b : ℕ) (most : b ≤ a) where
   -- the heads that a list leaves, as far as they can be used
   abbrev headsOf : List ℕ → ℕ → ℕ
   headsOf z s = min (b - pathIn N (sizeOf z) s) (high s)
@@ -115,18 +115,18 @@ module _ (N : Net) (lower : (s : ℕ) → 0 < s → s ≤ N .sections → N .par
         }
 
 -- 63 costs stay below the mark
-pub none-suits : (N : Net) → Sound N → (a : ℕ) (high : ℕ → ℕ) → Usable N a high → (b : ℕ) → b ≤ a → mark ≤ cell (planOf N high) 0 0 (min b (high 0)) → None N b
+pub none-suits : {N : Net} {a : ℕ} {high : ℕ → ℕ} → Sound N → Usable N a high → (b : ℕ) → b ≤ a → mark ≤ cell (planOf N high) 0 0 (min b (high 0)) → None N b
 unfolding costIn
-none-suits N sound a high usable b l m =
+none-suits {N} sound usable b l m =
     record {
       none = λ y u. omega (
         arith,
         sound .few,
-        cost-at-least N (sound .lower) a high usable b l y u,
+        cost-at-least (sound .lower) usable b l y u,
         sum-le (N .sections) 50000000 (λ s. N .cost s (sizeOf y s)) (λ s p l. sound .cheap s (sizeOf y s) p l (u .sized s p l .0) (u .sized s p l .1)),
       );
     }
 
 -- at the greatest head the state at the pump is the most that its end can use
-pub pump-most : (N : Net) (a : ℕ) (high : ℕ → ℕ) → Usable N a high → min a (high 0) ≡ high 0
-pump-most N a high usable = omega (arith, usable .most 0 (omega arith))
+pub pump-most : {N : Net} {a : ℕ} {high : ℕ → ℕ} → Usable N a high → min a (high 0) ≡ high 0
+pump-most usable = omega (arith, usable .most 0 (omega arith))

@@ -1,13 +1,13 @@
 -- A net with fewer sizes and greater needs that keeps what counts.
 -- Assumes nothing.
-use mathlib.Core.Path.{_≡_, refl, sym, _∙_}
+use mathlib.Core.Path.{_≡_, refl, sym, ap, _∙_}
 use mathlib.Core.Logic.{⊎-elim}
-use mathlib.Core.Bool.{Bool, true, false}
+use mathlib.Core.Bool.{true}
 use mathlib.Core.List.{List}
-use Prim.Native.Nat.{ℕ, _+_, _-_, _*_, _≤_, _<_, max}
+use Prim.Native.Nat.{ℕ, _+_, _-_, _≤_, _<_, max}
 use native.Mathlib.Omega.{arith}
 use lib.Dec.{ltb}
-use lib.ListN.{length, getD, set, length-set}
+use lib.ListN.{length, set, length-set}
 use lib.Seq.{getD-set-same, getD-set-other}
 use borrow.Author.Tests.{lt-ltb, ltb-true}
 use Rattle.basis.specs.Sections.{sizeOf}
@@ -16,7 +16,7 @@ use Rattle.basis.proofs.Sum.{sum-mono}
 use Rattle.basis.proofs.Split.{eq-or-ne}
 use Rattle.nets.specs.Net.{Net, lossIn, pathIn, Suits, costIn, headIn, Found, None}
 use Rattle.pruning.specs.Keeps.{Keeps}
-use Rattle.nets.specs.Tables.{top, netOf, Sound}
+use Rattle.nets.specs.Tables.{top, Sound}
 use Rattle.nets.proofs.Heads.{head-bound, head-least, suits-head}
 
 module _ (a : ℕ) where
@@ -101,82 +101,94 @@ keeps-by a lower lower′ same other =
       forth = λ z u. let st = other z u .1 in (other z u .0, stands-suits lower st a u, stands-cost lower st, stands-head lower st);
     }
 
--- a list stands for itself in tables with other needs and losses where it is allowed, loses no more and asks the pump for no more
-stands-self : (sections sizes : ℕ) (parents costs needs losses needs′ losses′ z : List ℕ) →
-    let N = netOf sections sizes parents needs losses costs in
-    let M = netOf sections sizes parents needs′ losses′ costs in
-    length z ≡ sections → ((s : ℕ) → 0 < s → s ≤ sections → (0 < sizeOf z s) × (sizeOf z s ≤ sizes)) →
-    ((s : ℕ) → 0 < s → s ≤ sections → M .allowed s (sizeOf z s) ≡ true) →
-    ((s : ℕ) → 0 < s → s ≤ sections → M .loss s (sizeOf z s) ≤ N .loss s (sizeOf z s)) →
-    ((s : ℕ) → 0 < s → s ≤ sections → pathIn N (sizeOf z) s + M .need s ≤ headIn N z) → Stands N M z z
-stands-self sections sizes parents costs needs losses needs′ losses′ z l r f h k =
-    record { count = refl; up = λ s. refl; long = l; sized = r; fine = f; short = h; cheap = λ s p b. omega arith; asks = k }
+-- the net with other needs and losses
+abbrev pub like : Net → (ℕ → ℕ) → (ℕ → ℕ → ℕ) → Net
+like N need loss =
+    record {
+      sections = N .sections;
+      sizes = N .sizes;
+      parent = N .parent;
+      need = need;
+      allowed = λ s t. ltb (loss s t) top;
+      loss = loss;
+      cost = N .cost;
+    }
 
-module _ (sections sizes : ℕ) (parents needs losses costs : List ℕ) (a : ℕ) (sound : Sound (netOf sections sizes parents needs losses costs)) where
+module _ {N : Net} (sound : Sound N) {need : ℕ → ℕ} {loss : ℕ → ℕ → ℕ} where
+  pub sound-like : Sound (like N need loss)
+  sound-like = record { few = sound .few; sizes = sound .sizes; lower = sound .lower; cheap = sound .cheap; marked = λ s t. refl }
+
+  -- a list that N allows, and that loses as much in both, stands for itself where it asks the pump for no more
+  module _ {z : List ℕ} (long : length z ≡ N .sections) (sized : (s : ℕ) → 0 < s → s ≤ N .sections → (0 < sizeOf z s) × (sizeOf z s ≤ N .sizes))
+      (same : (s : ℕ) → 0 < s → s ≤ N .sections → (N .allowed s (sizeOf z s) ≡ true) × (loss s (sizeOf z s) ≡ N .loss s (sizeOf z s))) where
+    stands-self : ((s : ℕ) → 0 < s → s ≤ N .sections → pathIn N (sizeOf z) s + need s ≤ headIn N z) → Stands N (like N need loss) z z
+    stands-self asks =
+        record {
+          count = refl;
+          up = λ s. refl;
+          long = long;
+          sized = sized;
+          fine = λ s p l. rw (same s p l .1) (sym (sound .marked s (sizeOf z s)) ∙ same s p l .0);
+          short = λ s p l. omega (arith, same s p l .1);
+          cheap = λ s p l. omega arith;
+          asks = asks;
+        }
+
+    stands-back : ((s : ℕ) → 0 < s → s ≤ N .sections → pathIn (like N need loss) (sizeOf z) s + N .need s ≤ headIn (like N need loss) z) → Stands (like N need loss) N z z
+    stands-back asks =
+        record {
+          count = refl;
+          up = λ s. refl;
+          long = long;
+          sized = sized;
+          fine = λ s p l. same s p l .0;
+          short = λ s p l. omega (arith, same s p l .1);
+          cheap = λ s p l. omega arith;
+          asks = asks;
+        }
+
+module _ {N : Net} (sound : Sound N) (a : ℕ) where
   -- size t of section s is taken out
-  module _ (long : length losses ≡ 832) (s t : ℕ) (low : 0 < s) (high : s ≤ sections) (sl : 0 < t) (sh : t ≤ sizes) where
-    abbrev less : List ℕ
-    less = set losses (s * 13 + t) top
-
-    abbrev N : Net
-    N = netOf sections sizes parents needs losses costs
-
+  module _ (s t : ℕ) (low : 0 < s) (high : s ≤ N .sections) {loss : ℕ → ℕ → ℕ} (out : loss s t ≡ top)
+      (others : (j u : ℕ) → u ≤ N .sizes → (j ≡ s → u ≡ t → ⊥) → loss j u ≡ N .loss j u) where
     abbrev M : Net
-    M = netOf sections sizes parents needs less costs
-
-    -- a size that is left is as it was
-    left-as : (i : ℕ) → ltb (getD less i 0) top ≡ true → getD less i 0 ≡ getD losses i 0
-    left-as i b =
-        ⊎-elim
-        (λ (e : i ≡ s * 13 + t).
-        let v : getD less i 0 ≡ top = rw e (getD-set-same losses (s * 13 + t) top 0 (omega (arith, sound .few, sound .sizes))) in
-        absurd (omega (arith, ltb-true (getD less i 0) top b)))
-        (λ n. getD-set-other losses (s * 13 + t) i top 0 n)
-        (eq-or-ne i (s * 13 + t))
-
-    -- all others are left
-    others : (j u : ℕ) → u ≤ sizes → (j ≡ s → u ≡ t → ⊥) → getD less (j * 13 + u) 0 ≡ getD losses (j * 13 + u) 0
-    others j u b n =
-        getD-set-other losses (s * 13 + t) (j * 13 + u) top 0
-        (λ e. n (omega (arith, sound .sizes)) (omega (arith, sound .sizes)))
+    M = like N (N .need) loss
 
     drop-back : (z : List ℕ) → Suits M a z → Stands N M z z × Stands M N z z
     drop-back z u =
-        let e : (j : ℕ) → 0 < j → j ≤ sections → getD less (j * 13 + sizeOf z j) 0 ≡ getD losses (j * 13 + sizeOf z j) 0 =
-        λ j p l. left-as (j * 13 + sizeOf z j) (u .allowed j p l) in (
-          stands-self sections sizes parents costs needs losses needs less z (u .long) (u .sized) (u .allowed) (λ j p l. omega (arith, e j p l)) (head-bound N z),
-          stands-self sections sizes parents costs needs less needs losses z (u .long) (u .sized) (λ j p l. rw (← e j p l) (u .allowed j p l)) (λ j p l. omega (arith, e j p l)) (head-bound M z),
-        )
+        let same : (j : ℕ) → 0 < j → j ≤ N .sections → (N .allowed j (sizeOf z j) ≡ true) × (loss j (sizeOf z j) ≡ N .loss j (sizeOf z j)) =
+        λ j p l.
+        let e = others j (sizeOf z j) (u .sized j p l .1)
+        (λ m n. let v : loss j (sizeOf z j) ≡ top = rw (n, m) out in omega (arith, ltb-true (loss j (sizeOf z j)) top (u .allowed j p l))) in
+        (sound .marked j (sizeOf z j) ∙ rw e at (u .allowed j p l), e) in
+        (stands-self sound (u .long) (u .sized) same (head-bound N z), stands-back sound (u .long) (u .sized) same (head-bound M z))
 
     -- a list without it stands for itself
     drop-same : (z : List ℕ) → Suits N a z → (sizeOf z s ≡ t → ⊥) → Stands N M z z
     drop-same z u n =
-        let e : (j : ℕ) → 0 < j → j ≤ sections → getD less (j * 13 + sizeOf z j) 0 ≡ getD losses (j * 13 + sizeOf z j) 0 =
-        λ j p l. others j (sizeOf z j) (u .sized j p l .1) (λ i k. n (rw i at k)) in
-        stands-self sections sizes parents costs needs losses needs less z (u .long) (u .sized) (λ j p l. rw (e j p l) (u .allowed j p l)) (λ j p l. omega (arith, e j p l)) (head-bound N z)
+        stands-self sound (u .long) (u .sized)
+        (λ j p l. (u .allowed j p l, others j (sizeOf z j) (u .sized j p l .1) (λ i k. n (rw i at k)))) (head-bound N z)
 
     -- too long: no list that suits has it
-    pub keeps-long : a < getD losses (s * 13 + t) 0 + getD needs s 0 → Keeps a N M
+    pub keeps-long : a < N .loss s t + N .need s → Keeps a N M
     keeps-long b =
         keeps-by a (sound .lower) (sound .lower) drop-back
-        (λ z u. (z, drop-same z u (λ e. omega (arith, rw e at (path-step (sound .lower) (lossIn N (sizeOf z)) s low high), u .met s low high))))
+        (λ z u. (z, drop-same z u (λ e. omega (arith, ap (N .loss s) e, path-step (sound .lower) (lossIn N (sizeOf z)) s low high, u .met s low high))))
 
     -- no better than size k: that takes its place
-    module _ (k : ℕ) (kl : 0 < k) (kh : k ≤ sizes) (ne : k ≡ t → ⊥) (real : getD losses (s * 13 + k) 0 < top)
-        (short : getD losses (s * 13 + k) 0 ≤ getD losses (s * 13 + t) 0) (cheap : getD costs (s * 13 + k) 0 ≤ getD costs (s * 13 + t) 0) where
+    module _ (k : ℕ) (kl : 0 < k) (kh : k ≤ N .sizes) (ne : k ≡ t → ⊥) (real : N .loss s k < top) (short : N .loss s k ≤ N .loss s t)
+        (cheap : N .cost s k ≤ N .cost s t) where
       module _ (z : List ℕ) (u : Suits N a z) (e : sizeOf z s ≡ t) where
         abbrev y : List ℕ
         y = set z (s - 1) k
 
-        here : sizeOf y s ≡ k
-        here = getD-set-same z (s - 1) k 0 (omega (arith, u .long))
-
-        there : (j : ℕ) → 0 < j → (j ≡ s → ⊥) → sizeOf y j ≡ sizeOf z j
-        there j p n = getD-set-other z (s - 1) (j - 1) k 0 (λ i. n (omega arith))
-
         -- at s, and at the others
-        at-each : (P : ℕ → ℕ → Type 0) → P s k → ((j : ℕ) → 0 < j → j ≤ sections → (j ≡ s → ⊥) → P j (sizeOf z j)) → (j : ℕ) → 0 < j → j ≤ sections → P j (sizeOf y j)
-        at-each P h r j p l = ⊎-elim (λ i. rw i (rw here h)) (λ n. rw (there j p n) (r j p l n)) (eq-or-ne j s)
+        at-each : (P : ℕ → ℕ → Type 0) → P s k → ((j : ℕ) → 0 < j → j ≤ N .sections → (j ≡ s → ⊥) → P j (sizeOf z j)) → (j : ℕ) → 0 < j → j ≤ N .sections → P j (sizeOf y j)
+        at-each P h r j p l =
+            ⊎-elim
+            (λ (i : j ≡ s). rw i (rw (getD-set-same z (s - 1) k 0 (omega (arith, u .long))) h))
+            (λ n. rw (getD-set-other z (s - 1) (j - 1) k 0 (λ i. n (omega arith))) (r j p l n))
+            (eq-or-ne j s)
 
         drop-other : Stands N M z y
         drop-other =
@@ -184,9 +196,9 @@ module _ (sections sizes : ℕ) (parents needs losses costs : List ℕ) (a : ℕ
               count = refl;
               up = λ s. refl;
               long = length-set z (s - 1) k ∙ u .long;
-              sized = at-each (λ j v. (0 < v) × (v ≤ sizes)) (kl, kh) (λ j p l n. u .sized j p l);
+              sized = at-each (λ j v. (0 < v) × (v ≤ N .sizes)) (kl, kh) (λ j p l n. u .sized j p l);
               fine = at-each (λ j v. M .allowed j v ≡ true) (rw (others s k kh (λ i. ne)) (lt-ltb _ _ real))
-                  (λ j p l n. rw (others j (sizeOf z j) (u .sized j p l .1) (λ i. absurd (n i))) (u .allowed j p l));
+                  (λ j p l n. rw (others j (sizeOf z j) (u .sized j p l .1) (λ i. absurd (n i))) (sym (sound .marked j (sizeOf z j)) ∙ u .allowed j p l));
               short = at-each (λ j v. M .loss j v ≤ N .loss j (sizeOf z j)) (rw e (omega (arith, others s k kh (λ i. ne))))
                   (λ j p l n. omega (arith, others j (sizeOf z j) (u .sized j p l .1) (λ i. absurd (n i))));
               cheap = at-each (λ j v. M .cost j v ≤ N .cost j (sizeOf z j)) (rw e cheap) (λ j p l n. omega arith);
@@ -198,61 +210,38 @@ module _ (sections sizes : ℕ) (parents needs losses costs : List ℕ) (a : ℕ
           keeps-by a (sound .lower) (sound .lower) drop-back
           (λ z u. ⊎-elim (λ e. (set z (s - 1) k, drop-other z u e)) (λ n. (z, drop-same z u n)) (eq-or-ne (sizeOf z s) t))
 
-  -- the need of an end is set to v: it is raised to no more than what each list asks of the pump, or the end is the pump's
-  module _ (long : length needs ≡ 64) (p v : ℕ) (high : p ≤ sections) (rise : 0 < p → getD needs p 0 ≤ v) where
-    abbrev now : Net
-    now = netOf sections sizes parents needs losses costs
+  -- the needs are raised to no more than what each list asks of the pump
+  keeps-need : {need : ℕ → ℕ} → ((j : ℕ) → 0 < j → j ≤ N .sections → N .need j ≤ need j) →
+      ((z : List ℕ) → ((s : ℕ) → 0 < s → s ≤ N .sections → (0 < sizeOf z s) × (sizeOf z s ≤ N .sizes)) →
+      (j : ℕ) → 0 < j → j ≤ N .sections → pathIn N (sizeOf z) j + need j ≤ headIn N z) → Keeps a N (like N need (N .loss))
+  keeps-need {need} rise asked =
+      keeps-by a (sound .lower) (sound .lower)
+      (λ z u.
+      let same : (j : ℕ) → 0 < j → j ≤ N .sections → (N .allowed j (sizeOf z j) ≡ true) × (N .loss j (sizeOf z j) ≡ N .loss j (sizeOf z j)) =
+      λ j p l. (sound .marked j (sizeOf z j) ∙ u .allowed j p l, refl) in (
+        stands-self sound (u .long) (u .sized) same (asked z (u .sized)),
+        stands-back sound (u .long) (u .sized) same (λ j p l. omega (arith, rise j p l, head-bound (like N need (N .loss)) z j p l)),
+      ))
+      (λ z u. (z, stands-self sound (u .long) (u .sized) (λ j p l. (u .allowed j p l, refl)) (asked z (u .sized))))
 
-    abbrev then : Net
-    then = netOf sections sizes parents (set needs p v) losses costs
+  -- the need of one end is set
+  module _ {need : ℕ → ℕ} (p : ℕ) (others : (j : ℕ) → (j ≡ p → ⊥) → need j ≡ N .need j) where
+    -- the pump's end has no need
+    pub keeps-pump : p ≡ 0 → Keeps a N (like N need (N .loss))
+    keeps-pump e =
+        keeps-need (λ j b l. omega (arith, others j (λ i. omega arith))) (λ z r j b l. rw (others j (λ i. omega arith)) (head-bound N z j b l))
 
-    here-need : getD (set needs p v) p 0 ≡ v
-    here-need = getD-set-same needs p v 0 (omega (arith, sound .few))
-
-    there-need : (j : ℕ) → (j ≡ p → ⊥) → getD (set needs p v) j 0 ≡ getD needs j 0
-    there-need j n = getD-set-other needs p j v 0 n
-
-    module _ (asked : (z : List ℕ) → ((s : ℕ) → 0 < s → s ≤ sections → (0 < sizeOf z s) × (sizeOf z s ≤ sizes)) → 0 < p →
-        pathIn now (sizeOf z) p + v ≤ headIn now z) where
-      module _ (z : List ℕ) (l : length z ≡ sections) (r : (s : ℕ) → 0 < s → s ≤ sections → (0 < sizeOf z s) × (sizeOf z s ≤ sizes))
-          (f : (s : ℕ) → 0 < s → s ≤ sections → now .allowed s (sizeOf z s) ≡ true) where
-        need-up : Stands now then z z
-        need-up =
-            stands-self sections sizes parents costs needs losses (set needs p v) losses z l r f (λ j a b. omega arith)
-            (λ j a b.
-            ⊎-elim
-            (λ e. rw e (rw here-need (asked z r (omega arith))))
-            (λ n. rw (there-need j n) (head-bound now z j a b))
-            (eq-or-ne j p))
-
-        need-down : Stands then now z z
-        need-down =
-            stands-self sections sizes parents costs (set needs p v) losses needs losses z l r f (λ j a b. omega arith)
-            (λ j a b.
-            ⊎-elim
-            (λ e.
-            let k : getD needs j 0 ≤ getD (set needs p v) j 0 = rw e (rw here-need (rise (omega arith))) in
-            omega (arith, head-bound then z j a b))
-            (λ n. omega (arith, there-need j n, head-bound then z j a b))
-            (eq-or-ne j p))
-
-      keeps-need : Keeps a now then
-      keeps-need =
-          keeps-by a (sound .lower) (sound .lower) (λ z u. (need-up z (u .long) (u .sized) (u .allowed), need-down z (u .long) (u .sized) (u .allowed)))
-          (λ z u. (z, need-up z (u .long) (u .sized) (u .allowed)))
-
-  -- the pump's end has no need
-  pub keeps-pump : length needs ≡ 64 → Keeps a (netOf sections sizes parents needs losses costs) (netOf sections sizes parents (set needs 0 0) losses costs)
-  keeps-pump long = keeps-need long 0 0 (omega arith) (λ p. absurd (omega arith)) (λ z r p. absurd (omega arith))
-
-  -- a section's end needs no less than what the one below needs and the least that is lost on the way there
-  pub keeps-raised : length needs ≡ 64 → (s p v least : ℕ) → 0 < s → s ≤ sections → p ≡ getD parents s 0 →
-      ((t : ℕ) → 0 < t → t ≤ sizes → least ≤ getD losses (s * 13 + t) 0) → v ≡ max (getD needs p 0) (getD needs s 0 + least) →
-      Keeps a (netOf sections sizes parents needs losses costs) (netOf sections sizes parents (set needs p v) losses costs)
-  keeps-raised long s p v least low high ep all ev =
-      let q = sound .lower s low high in
-      keeps-need long p v (omega arith) (λ b. omega arith)
-      (λ z r b.
-      let N : Net = netOf sections sizes parents needs losses costs in
-      let st : pathIn N (sizeOf z) s ≡ N .loss s (sizeOf z s) + pathIn N (sizeOf z) p = rw ep (path-step (sound .lower) (lossIn N (sizeOf z)) s low high) in
-      omega (arith, st, all (sizeOf z s) (r s low high .0) (r s low high .1), head-bound N z s low high, head-bound N z p b (omega arith)))
+    -- a section's end needs no less than what the one below needs and the least that is lost on the way there
+    pub keeps-raised : (s least : ℕ) → 0 < s → s ≤ N .sections → p ≡ N .parent s → ((t : ℕ) → 0 < t → t ≤ N .sizes → least ≤ N .loss s t) →
+        need p ≡ max (N .need p) (N .need s + least) → Keeps a N (like N need (N .loss))
+    keeps-raised s least low high ep all is =
+        keeps-need
+        (λ j b l. ⊎-elim (λ (e : j ≡ p). rw e (omega (arith, is))) (λ n. omega (arith, others j n)) (eq-or-ne j p))
+        (λ z r j b l.
+        ⊎-elim
+        (λ (e : j ≡ p).
+        let st : pathIn N (sizeOf z) s ≡ N .loss s (sizeOf z s) + pathIn N (sizeOf z) p = rw ep (path-step (sound .lower) (lossIn N (sizeOf z)) s low high) in
+        let own : pathIn N (sizeOf z) p + N .need p ≤ headIn N z = rw e at (head-bound N z j b l) in
+        rw e (omega (arith, st, is, own, all (sizeOf z s) (r s low high .0) (r s low high .1), head-bound N z s low high)))
+        (λ n. rw (others j n) (head-bound N z j b l))
+        (eq-or-ne j p))

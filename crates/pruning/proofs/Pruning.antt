@@ -15,11 +15,10 @@ use Rattle.nets.specs.Net.{Net, lossIn, pathIn, None}
 use Rattle.pruning.specs.Keeps.{Keeps}
 use Rattle.nets.specs.Tables.{top, netOf, Sound}
 use Rattle.pruning.specs.Contracts.{Trimmed, Pruned}
-use Rattle.pruning.proofs.Keeping.{keeps-self, keeps-then, keeps-none, keeps-pump, keeps-raised}
+use Rattle.pruning.proofs.Keeping.{keeps-self, keeps-then, keeps-none, sound-like, keeps-raised}
 use Rattle.nets.proofs.Heads.{head-bound}
-use Rattle.pruning.proofs.Trims.{sound-like}
 
-module _ (sections sizes : ℕ) (parents needs losses costs : List ℕ) (a : ℕ) (sound : Sound (netOf sections sizes parents needs losses costs)) where
+module _ {sections sizes : ℕ} {parents needs losses costs : List ℕ} {a : ℕ} where
   pub pruned-none : length needs ≡ 64 → length losses ≡ 832 → getD needs 0 0 ≡ 0 → Pruned sections sizes parents needs losses costs a needs losses
   pruned-none n l b =
       record {
@@ -30,23 +29,22 @@ module _ (sections sizes : ℕ) (parents needs losses costs : List ℕ) (a : ℕ
         asked = λ y u. omega arith;
       }
 
-  -- the pump's end has no need
-  pub pruned-pump : length needs ≡ 64 → (needs′ losses′ : List ℕ) → Pruned sections sizes parents (set needs 0 0) losses costs a needs′ losses′ →
+  -- after a first step
+  pub pruned-first : {first needs′ losses′ : List ℕ} → Pruned sections sizes parents first losses costs a needs′ losses′ →
+      Keeps a (netOf sections sizes parents needs losses costs) (netOf sections sizes parents first losses costs) →
       Pruned sections sizes parents needs losses costs a needs′ losses′
-  pruned-pump n needs′ losses′ st =
+  pruned-first st k =
       record {
         needs-long = st .needs-long;
         losses-long = st .losses-long;
-        keeps = keeps-then a (keeps-pump sections sizes parents needs losses costs a sound n) (st .keeps);
+        keeps = keeps-then a k (st .keeps);
         pump = st .pump;
         asked = st .asked;
       }
 
-  pub none-pump : length needs ≡ 64 → None (netOf sections sizes parents (set needs 0 0) losses costs) a → None (netOf sections sizes parents needs losses costs) a
-  none-pump n e = keeps-none a (keeps-pump sections sizes parents needs losses costs a sound n) e
-
   -- section s has been trimmed, and no size loses less than `least`
-  module _ (needs′ losses′ losses″ : List ℕ) (s least : ℕ) (low : 0 < s) (high : s ≤ sections) (st : Pruned sections sizes parents needs losses costs a needs′ losses′)
+  module _ {needs′ losses′ : List ℕ} (st : Pruned sections sizes parents needs losses costs a needs′ losses′)
+      (sound : Sound (netOf sections sizes parents needs losses costs)) (losses″ : List ℕ) (s least : ℕ) (low : 0 < s) (high : s ≤ sections)
       (k : Keeps a (netOf sections sizes parents needs′ losses′ costs) (netOf sections sizes parents needs′ losses″ costs))
       (t : Trimmed (netOf sections sizes parents needs′ losses″ costs) a s least) where
     pub pruned-stop : least ≡ top → None (netOf sections sizes parents needs losses costs) a
@@ -61,15 +59,15 @@ module _ (sections sizes : ℕ) (parents needs losses costs : List ℕ) (a : ℕ
               );
         })
 
-    pub pruned-more : (p v : ℕ) → length losses″ ≡ 832 → (least ≡ top → ⊥) → p ≡ getD parents s 0 → v ≡ max (getD needs′ p 0) (getD needs′ s 0 + least) →
+    pub pruned-more : (p : ℕ) {v : ℕ} → length losses″ ≡ 832 → (least ≡ top → ⊥) → p ≡ getD parents s 0 → v ≡ max (getD needs′ p 0) (getD needs′ s 0 + least) →
         Pruned sections sizes parents needs losses costs a (set needs′ p v) losses″
-    pruned-more p v l n ep ev =
+    pruned-more p {v} l n ep ev =
         let lower = sound .lower s low high in
         let here : getD (set needs′ p v) p 0 ≡ v = getD-set-same needs′ p v 0 (omega (arith, st .needs-long, sound .few)) in
         let M : Net = netOf sections sizes parents needs′ losses″ costs in
+        let ok : Sound M = sound-like sound in
         let raised : Keeps a M (netOf sections sizes parents (set needs′ p v) losses″ costs) =
-        keeps-raised sections sizes parents needs′ losses″ costs a (sound-like sections sizes parents needs needs′ losses losses″ costs sound) (st .needs-long) s p v least
-        low high ep (t .each) ev in
+        keeps-raised ok a p (λ j i. getD-set-other needs′ p j v 0 i) s least low high ep (t .each) (here ∙ ev) in
         record {
           needs-long = length-set needs′ p v ∙ st .needs-long;
           losses-long = l;

@@ -8,17 +8,16 @@ use Prim.Native.Nat.{ℕ, zero, suc, _+_, _-_, _*_, _≤_, _<_, min}
 use native.Mathlib.Nat.{mul-le-mul, mul-le-mul-right, suc-mul, eq-zero-or-pos}
 use native.Mathlib.Omega.{arith}
 use lib.Dec.{leb, ltb}
-use lib.ListN.{length, getD, set, replicate, length-set, length-replicate, getD-replicate}
+use lib.ListN.{getD, set, replicate, length-set, length-replicate, getD-replicate}
 use lib.Seq.{getD-set-same, getD-set-other}
 use borrow.Author.Tests.{leb-true, lt-ltb}
 use Rattle.basis.proofs.Split.{either, lt-or-ge, eq-or-ne}
 use Rattle.basis.proofs.Bools.{apart, same, right}
 use Rattle.nets.specs.Net.{Net}
-use Rattle.nets.specs.Tables.{top, netOf}
+use Rattle.nets.specs.Tables.{top}
 use Rattle.plan.specs.Plan.{mark, leastTo, option, cell, planOf}
 use Rattle.cells.specs.Cells.{cellAt}
-use Rattle.rows.specs.declared.raise.Row.{Row}
-use Rattle.rows.specs.Contracts.{optionAt, rowAt, rowOf, optionsOf, Moderate, Offerable, Fillable, Filling, Holds}
+use Rattle.rows.specs.Contracts.{optionAt, rowAt, Moderate, Fillable, Filling, Holds}
 use Rattle.cells.specs.Contracts.{Filled, standing}
 use Rattle.plan.proofs.Least.{least-ext}
 use Rattle.plan.proofs.Falling.{cell-falls}
@@ -35,19 +34,19 @@ pub row-small : (p a : ℕ) → p < 64 → a ≤ 7000 → p * (a + 1) ≤ 441063
 row-small p a b l = mul-le-mul {n₁ = p} {m₁ = a + 1} {n₂ = 63} {m₂ = 7001} (omega arith) (omega arith)
 
 -- after no section
-pub filling-none : (N : Net) (a : ℕ) (high : ℕ → ℕ) (ws : List ℕ) → N .sections ≤ 63 → Filling N a high ws (replicate 64 false) (N .sections)
-filling-none N a high ws few =
-    let no : (p : ℕ) → p ≤ N .sections → getD (replicate 64 false) p false ≡ false = λ p l. getD-replicate 64 p false false (omega arith) in
+pub filling-none : {N : Net} {a : ℕ} {high : ℕ → ℕ} {ws : List ℕ} → N .sections ≤ 63 → Filling N a high ws (replicate 64 false) (N .sections)
+filling-none {N} {a} {high} few =
     record {
       long = length-replicate 64 false;
-      at = λ p h l e. absurd (apart e (no p l));
+      at = λ p h l e. absurd (apart e (getD-replicate 64 p false false (omega arith)));
       new = λ p h l e. cell-last (planOf N high) p h;
       done = λ p l m. absurd (omega arith);
     }
 
 -- the pump's row is the first
-pub pump-cell : (N : Net) (a : ℕ) (high : ℕ → ℕ) (ws : List ℕ) → N .need 0 ≤ high 0 → Holds N a high ws → cellAt ws (high 0) ≡ cell (planOf N high) 0 0 (high 0)
-pump-cell N a high ws n hold = let e : high 0 ≡ 0 * (a + 1) + high 0 = omega arith in ap (cellAt ws) e ∙ hold .at 0 (high 0) (omega arith) n (omega arith)
+pub pump-cell : {N : Net} {a : ℕ} {high : ℕ → ℕ} {ws : List ℕ} → Holds N a high ws → N .need 0 ≤ high 0 → cellAt ws (high 0) ≡ cell (planOf N high) 0 0 (high 0)
+pump-cell {N} {a} {high} {ws} hold n =
+    let e : high 0 ≡ 0 * (a + 1) + high 0 = omega arith in ap (cellAt ws) e ∙ hold .at 0 (high 0) (omega arith) n (omega arith)
 
 -- at a head below the mark the need alone says whether a size will do
 marked-fits : (l need h : ℕ) → h < top → (ltb l top && leb (l + need) h) ≡ leb (l + need) h
@@ -56,15 +55,14 @@ marked-fits l need h b =
     (λ e. right (ltb l top) (leb (l + need) h) e)
     (λ e. rw (lt-ltb l top (omega (arith, leb-true (l + need) h e)), e))
 
--- two rows
-module _ (w : ℕ) (ws ws′ : List ℕ) (q need end : ℕ) (f : ℕ → ℕ) (inside : end ≤ w) (r : Filled ws ws′ (q * w) need end f) where
-  -- the others are as they were
-  row-kept : (p h : ℕ) → h < w → (p ≡ q → ⊥) → cellAt ws′ (p * w + h) ≡ cellAt ws (p * w + h)
-  row-kept p h b n =
-      ⊎-elim
-      (λ m. r .below (p * w + h) (omega (arith, rows-apart p q w m)))
-      (λ m. r .above (p * w + h) (omega (arith, rows-apart q p w (omega arith))))
-      (lt-or-ge p q)
+-- a row is written: the others are as they were
+row-kept : (w q : ℕ) {ws ws′ : List ℕ} {need end : ℕ} {f : ℕ → ℕ} → Filled ws ws′ (q * w) need end f → end ≤ w →
+    (p h : ℕ) → h < w → (p ≡ q → ⊥) → cellAt ws′ (p * w + h) ≡ cellAt ws (p * w + h)
+row-kept w q r inside p h b n =
+    ⊎-elim
+    (λ m. r .below (p * w + h) (omega (arith, rows-apart p q w m)))
+    (λ m. r .above (p * w + h) (omega (arith, rows-apart q p w (omega arith))))
+    (lt-or-ge p q)
 
 module _ {N : Net} {a : ℕ} {high : ℕ → ℕ} {room : ℕ} (ok : Fillable N a high room) where
   -- the option of a size, where the section's row holds what the plan says
@@ -83,17 +81,18 @@ module _ {N : Net} {a : ℕ} {high : ℕ → ℕ} {room : ℕ} (ok : Fillable N 
   least-row ws s h l b row = least-ext (N .sizes) _ _ (λ t p m. option-row ws s h l b row t)
 
   -- what stands in a row is what the plan says
-  stands : (ws : List ℕ) (begun : List Bool) (s p h : ℕ) → Filling N a high ws begun s → p ≤ N .sections → N .need p ≤ h → h ≤ high p →
+  stands : {ws : List ℕ} {begun : List Bool} {s : ℕ} → Filling N a high ws begun s → (p h : ℕ) → p ≤ N .sections → N .need p ≤ h → h ≤ high p →
       standing (getD begun p false) ws (p * (a + 1)) h ≡ cell (planOf N high) s p h
-  stands ws begun s p h fill l n b =
+  stands {ws} {begun} fill p h l n b =
       ⊎-elim
       (λ e. rw e (fill .at p h l e n b))
       (λ e. rw e (sym (fill .new p h l e)))
       (either (getD begun p false))
 
   -- row p is written, with what the plan says after the sections above s′
-  module _ (ws ws′ : List ℕ) (begun : List Bool) (s s′ p : ℕ) (f : ℕ → ℕ) (l : p ≤ N .sections) (fill : Filling N a high ws begun s)
-      (r : Filled ws ws′ (p * (a + 1)) (N .need p) (high p + 1) f) (is : (h : ℕ) → N .need p ≤ h → h ≤ high p → f h ≡ cell (planOf N high) s′ p h)
+  module _ {ws ws′ : List ℕ} {begun : List Bool} {s : ℕ} (s′ p : ℕ) {f : ℕ → ℕ} (fill : Filling N a high ws begun s)
+      (r : Filled ws ws′ (p * (a + 1)) (N .need p) (high p + 1) f) (l : p ≤ N .sections)
+      (is : (h : ℕ) → N .need p ≤ h → h ≤ high p → f h ≡ cell (planOf N high) s′ p h)
       (others : (q h : ℕ) → (q ≡ p → ⊥) → cell (planOf N high) s′ q h ≡ cell (planOf N high) s q h)
       (done : (q : ℕ) → s′ < q → q ≤ N .sections → (q ≡ p → ⊥) → getD begun q false ≡ true) where
     here : getD (set begun p true) p false ≡ true
@@ -111,7 +110,7 @@ module _ {N : Net} {a : ℕ} {high : ℕ → ℕ} {room : ℕ} (ok : Fillable N 
               (λ (i : q ≡ p).
               let c : h ≤ high p = rw i at b in
               rw i (r .within h (rw i at n) (omega arith) ∙ is h (rw i at n) c))
-              (λ i. row-kept (a + 1) ws ws′ p (N .need p) (high p + 1) f (omega (arith, ok .usable .most p l)) r q h (omega (arith, ok .usable .most q m)) i ∙ fill .at q h m (sym (there q i) ∙ e) n b ∙ sym (others q h i))
+              (λ i. row-kept (a + 1) p r (omega (arith, ok .usable .most p l)) q h (omega (arith, ok .usable .most q m)) i ∙ fill .at q h m (sym (there q i) ∙ e) n b ∙ sym (others q h i))
               (eq-or-ne q p);
           new = λ q h m e.
               ⊎-elim
@@ -123,73 +122,62 @@ module _ {N : Net} {a : ℕ} {high : ℕ → ℕ} {room : ℕ} (ok : Fillable N 
         }
 
   -- nothing is added to row s any more
-  pub fill-settle : (ws ws′ : List ℕ) (begun begun′ : List Bool) (s : ℕ) → s ≤ N .sections → Filling N a high ws begun s →
-      Filled ws ws′ (s * (a + 1)) (N .need s) (high s + 1) (standing (getD begun s false) ws (s * (a + 1))) → begun′ ≡ set begun s true →
+  pub fill-settle : {ws ws′ : List ℕ} {begun begun′ : List Bool} {s : ℕ} → Filling N a high ws begun s →
+      Filled ws ws′ (s * (a + 1)) (N .need s) (high s + 1) (standing (getD begun s false) ws (s * (a + 1))) → begun′ ≡ set begun s true → s ≤ N .sections →
       Filling N a high ws′ begun′ s × (getD begun′ s false ≡ true)
-  fill-settle ws ws′ begun begun′ s l fill r e =
+  fill-settle {begun = begun} {s = s} fill r e l =
       rw e (
-        filling-row ws ws′ begun s s s (standing (getD begun s false) ws (s * (a + 1))) l fill r (λ h n b. stands ws begun s s h fill l n b)
-            (λ q h n. refl) (λ q m k n. fill .done q m k),
+        filling-row s s fill r l (λ h n b. stands fill s h l n b) (λ q h n. refl) (λ q m k n. fill .done q m k),
         getD-set-same begun s true false (omega (arith, fill .long, ok .sound .few)),
       )
 
-  -- section s + 1 is added to its parent's row
-  module _ (ws ws′ : List ℕ) (begun : List Bool) (s : ℕ) (l : s < N .sections) (fill : Filling N a high ws begun (suc s))
-      (own : getD begun (suc s) false ≡ true)
-      (r : Filled ws ws′ (N .parent (suc s) * (a + 1)) (N .need (N .parent (suc s))) (high (N .parent (suc s)) + 1)
-      (λ h. min mark (standing (getD begun (N .parent (suc s)) false) ws (N .parent (suc s) * (a + 1)) h +
-      leastTo (N .sizes) (optionAt (N .loss (suc s)) (N .cost (suc s)) (N .need (suc s)) (rowAt ws (suc s * (a + 1)) 0 (high (suc s))) h)))) where
-    filling-more : Filling N a high ws′ (set begun (N .parent (suc s)) true) s
-    filling-more =
-        let low = ok .sound .lower (suc s) (omega arith) l in
-        filling-row ws ws′ begun (suc s) s (N .parent (suc s)) _ (omega arith) fill r
-        (λ h n b.
-        rw (
-          stands ws begun (suc s) (N .parent (suc s)) h fill (omega arith) n b,
-          least-row ws (suc s) h l (omega (arith, ok .usable .most (N .parent (suc s)) (omega arith))) (λ x m y. fill .at (suc s) x l own m y),
-        )
-        (sym (cell-parent (planOf N high) s h l)))
-        (λ q h n. cell-other (planOf N high) s q h l n)
-        (λ q m z n. ⊎-elim (λ (e : q ≡ suc s). rw e own) (λ e. fill .done q (omega arith) z) (eq-or-ne q (suc s)))
-
-  -- the same with the numbers as the code has them
-  pub fill-turn : (ws ws′ : List ℕ) (begun : List Bool) (s p low : ℕ) → 0 < s → s ≤ N .sections → p ≡ N .parent s → low ≡ N .need p →
-      Filling N a high ws begun s → getD begun s false ≡ true →
+  -- section s is added to its parent's row: p and low are as the code has them
+  pub fill-turn : (s : ℕ) {ws ws′ : List ℕ} {begun : List Bool} {p low : ℕ} → Filling N a high ws begun s → getD begun s false ≡ true → 0 < s → s ≤ N .sections →
+      p ≡ N .parent s → low ≡ N .need p →
       Filled ws ws′ (p * (a + 1)) low (high p + 1)
       (λ h. min mark (standing (getD begun p false) ws (p * (a + 1)) h + leastTo (N .sizes) (optionAt (N .loss s) (N .cost s) (N .need s) (rowAt ws (s * (a + 1)) 0 (high s)) h))) →
       Filling N a high ws′ (set begun p true) (s - 1)
-  fill-turn ws ws′ begun zero p low z b ep el fill own r = absurd (omega arith)
-  fill-turn ws ws′ begun (suc s) p low z b ep el fill own r =
+  fill-turn zero fill own z b ep el r = absurd (omega arith)
+  fill-turn (suc s) {ws} {ws′} {begun} {p} fill own z b ep el r =
       let e : suc s - 1 ≡ s = omega arith in
-      let i : low ≡ N .need (N .parent (suc s)) = rw ep at el in
-      rw (e, ep) (filling-more ws ws′ begun s b fill own (rw (ep, i) at r))
+      let low : p ≤ N .sections = omega (arith, ok .sound .lower (suc s) (omega arith) b) in
+      rw e
+      (filling-row s p fill (rw el at r) low
+      (λ h n m.
+      rw (
+        stands fill p h low n m,
+        least-row ws (suc s) h b (omega (arith, ok .usable .most p low)) (λ x y k. fill .at (suc s) x b own y k),
+      )
+      (rw ep (sym (cell-parent (planOf N high) s h b))))
+      (λ q h n. cell-other (planOf N high) s q h b (rw ep at n))
+      (λ q m k n. ⊎-elim (λ (i : q ≡ suc s). rw i own) (λ i. fill .done q (omega arith) k) (eq-or-ne q (suc s))))
 
-  -- what section s reads is at most the mark, and no less than the row's last
-  pub fill-moderate : (ws : List ℕ) (begun : List Bool) (s end : ℕ) → 0 < s → s ≤ N .sections → end ≤ a + 1 → Filling N a high ws begun s → getD begun s false ≡ true →
-      Moderate (N .sizes) end (N .need s) (high s) (N .cost s) (rowAt ws (s * (a + 1)) 0 (high s))
-  fill-moderate ws begun s end p l b fill own =
-      let own-most = ok .usable .own s l in
-      let is : (t x : ℕ) → N .need s ≤ x → N .need s ≤ a → rowAt ws (s * (a + 1)) 0 (high s) t x ≡ cell (planOf N high) s s (min x (high s)) =
-      λ t x m k.
-      let j : s * (a + 1) + t * 0 + min x (high s) ≡ s * (a + 1) + min x (high s) = omega arith in
-      rw j (fill .at s (min x (high s)) l own (omega arith) (omega arith)) in
-      record {
-        costs = λ t m n. ok .sound .cheap s t p l m n;
-        cells = λ t x m n. omega (arith, is t x m (omega arith), cell-most (planOf N high) s s (min x (high s)));
-        last = λ t n. omega (arith, is t (high s) (omega arith) (omega arith), cell-most (planOf N high) s s (min (high s) (high s)));
-        room = λ n. omega arith;
-        falls = λ t x m n.
-            omega (arith, is t x m (omega arith), is t (high s) (omega arith) (omega arith), cell-falls N high s s (min x (high s)) (min (high s) (high s)) (omega arith));
-      }
+  module _ {ws : List ℕ} {begun : List Bool} {s : ℕ} (fill : Filling N a high ws begun s) where
+    -- what section s reads is at most the mark, and no less than the row's last
+    pub fill-moderate : {end : ℕ} → getD begun s false ≡ true → 0 < s → s ≤ N .sections → end ≤ a + 1 →
+        Moderate (N .sizes) end (N .need s) (high s) (N .cost s) (rowAt ws (s * (a + 1)) 0 (high s))
+    fill-moderate own p l b =
+        let own-most = ok .usable .own s l in
+        let is : (t x : ℕ) → N .need s ≤ x → N .need s ≤ a → rowAt ws (s * (a + 1)) 0 (high s) t x ≡ cell (planOf N high) s s (min x (high s)) =
+        λ t x m k.
+        let j : s * (a + 1) + t * 0 + min x (high s) ≡ s * (a + 1) + min x (high s) = omega arith in
+        rw j (fill .at s (min x (high s)) l own (omega arith) (omega arith)) in
+        record {
+          costs = λ t m n. ok .sound .cheap s t p l m n;
+          cells = λ t x m n. omega (arith, is t x m (omega arith), cell-most (planOf N high) s s (min x (high s)));
+          last = λ t n. omega (arith, is t (high s) (omega arith) (omega arith), cell-most (planOf N high) s s (min (high s) (high s)));
+          room = λ n. omega arith;
+          falls = λ t x m n.
+              omega (arith, is t x m (omega arith), is t (high s) (omega arith) (omega arith), cell-falls N high s s (min x (high s)) (min (high s) (high s)) (omega arith));
+        }
 
-  -- a row to which something was added holds at most the mark
-  pub fill-most : (ws : List ℕ) (begun : List Bool) (s p : ℕ) → p ≤ N .sections → Filling N a high ws begun s → getD begun p false ≡ true →
-      (h : ℕ) → N .need p ≤ h → h ≤ high p → cellAt ws (p * (a + 1) + h) ≤ mark
-  fill-most ws begun s p l fill own h n b = omega (arith, fill .at p h l own n b, cell-most (planOf N high) s p h)
+    -- a row to which something was added holds at most the mark
+    pub fill-most : (p : ℕ) → p ≤ N .sections → getD begun p false ≡ true → (h : ℕ) → N .need p ≤ h → h ≤ high p → cellAt ws (p * (a + 1) + h) ≤ mark
+    fill-most p l own h n b = omega (arith, fill .at p h l own n b, cell-most (planOf N high) s p h)
 
   -- after all sections
-  pub fill-done : (ws : List ℕ) (begun : List Bool) → Filling N a high ws begun 0 → getD begun 0 false ≡ true → Holds N a high ws
-  fill-done ws begun fill own =
+  pub fill-done : {ws : List ℕ} {begun : List Bool} → Filling N a high ws begun 0 → getD begun 0 false ≡ true → Holds N a high ws
+  fill-done fill own =
       record {
         at = λ p h l n b. ⊎-elim (λ (e : p ≡ 0). rw e (fill .at 0 h (omega arith) own (rw e at n) (rw e at b))) (λ m. fill .at p h l (fill .done p m l) n b) (eq-zero-or-pos p);
       }
@@ -201,36 +189,5 @@ module _ {N : Net} {a : ℕ} {high : ℕ → ℕ} {room : ℕ} (ok : Fillable N 
       cell-other (planOf N high) s q x (omega arith) (λ z. omega (arith, ok .sound .lower (suc s) (omega arith) (omega arith))) ∙
       row-done d (suc s) q x (omega arith) l
 
-  pub row-final : (ws : List ℕ) → Holds N a high ws → (q x : ℕ) → q ≤ N .sections → N .need q ≤ x → x ≤ high q → cellAt ws (q * (a + 1) + x) ≡ cell (planOf N high) q q x
-  row-final ws hold q x l n b = hold .at q x l n b ∙ row-done q 0 q x (omega arith) l
-
--- the same with the tables and the row as the code has them
-module _ (sections sizes : ℕ) (parents needs losses costs highs : List ℕ) (a : ℕ) {room : ℕ}
-    (ok : Fillable (netOf sections sizes parents needs losses costs) a (λ s. getD highs s 0) room)
-    (ws : List ℕ) (begun : List Bool) (s : ℕ) (low : 0 < s) (most : s ≤ sections)
-    (fill : Filling (netOf sections sizes parents needs losses costs) a (λ s. getD highs s 0) ws begun s) (own : getD begun s false ≡ true)
-    (row : Row) (is : row ≡ rowOf needs highs a s) where
-  -- the sizes of section s can be offered
-  pub row-offerable : (start end : ℕ) → start ≤ top → getD needs s 0 ≤ top → end ≤ a + 1 → length ws ≡ room → Offerable row sizes start end costs ws
-  row-offerable start end b n e long =
-      let few = ok .sound .few in
-      let fits = row-fits s sections (a + 1) most in
-      let high = ok .usable .most s most in
-      let here : Offerable (rowOf needs highs a s) sizes start end costs ws =
-      record {
-        entries = omega (arith, few, ok .sound .sizes);
-        needs = n;
-        highs = omega (arith, high, ok .narrow);
-        starts = b;
-        narrow = omega (arith, ok .narrow);
-        cells = omega (arith, fits, high, ok .rows);
-        moderate = fill-moderate ok ws begun s end low most e fill own;
-      } in
-      rw is here
-
-  -- and section s has been added to its parent's row
-  pub row-turn : (ws′ : List ℕ) (p start : ℕ) → p ≡ getD parents s 0 → start ≡ getD needs p 0 →
-      Filled ws ws′ (p * (a + 1)) start (getD highs p 0 + 1)
-      (λ h. min mark (standing (getD begun p false) ws (p * (a + 1)) h + leastTo sizes (optionsOf row losses costs ws h))) →
-      Filling (netOf sections sizes parents needs losses costs) a (λ s. getD highs s 0) ws′ (set begun p true) (s - 1)
-  row-turn ws′ p start ep es r = fill-turn ok ws ws′ begun s p start low most ep es fill own (rw is at r)
+  pub row-final : {ws : List ℕ} → Holds N a high ws → (q x : ℕ) → q ≤ N .sections → N .need q ≤ x → x ≤ high q → cellAt ws (q * (a + 1) + x) ≡ cell (planOf N high) q q x
+  row-final hold q x l n b = hold .at q x l n b ∙ row-done q 0 q x (omega arith) l

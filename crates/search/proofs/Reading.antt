@@ -1,6 +1,6 @@
 -- The sizes read back from the rows, one section more at a time, with the heads at the ends.
 -- Assumes nothing.
-use mathlib.Core.Path.{_≡_, refl, sym, _∙_}
+use mathlib.Core.Path.{_≡_, refl, sym}
 use mathlib.Core.Logic.{⊎-elim}
 use mathlib.Core.List.{List}
 use Prim.Native.Nat.{ℕ, suc, _+_, _-_, _*_, _≤_, _<_, min}
@@ -11,13 +11,10 @@ use lib.ListN.{length, getD, set, take, length-set}
 use lib.Seq.{getD-set-same, getD-set-other, getD-take, length-take-le}
 use Rattle.basis.specs.Sections.{sizeOf}
 use Rattle.nets.specs.Net.{Net, Found}
-use Rattle.nets.specs.Tables.{top, netOf}
 use Rattle.plan.specs.Plan.{mark, cell, planOf}
 use Rattle.plan.proofs.Potential.{Good, good-none, good-ext, good-real, good-more, nextLeast, Cheap, cheap-ok}
 use Rattle.plan.proofs.Optimum.{ok-fits, cost-of, best-of, pump-most}
-use Rattle.rows.specs.declared.raise.Row.{Row}
-use Rattle.rows.specs.Contracts.{optionAt, rowAt, rowOf, optionsOf, Fillable, Holds}
-use Rattle.rows.proofs.Fillings.{row-fits}
+use Rattle.rows.specs.Contracts.{optionAt, rowAt, Fillable, Holds}
 use Rattle.search.specs.Contracts.{Picked}
 use Rattle.search.proofs.Picks.{picked-cheap}
 
@@ -33,8 +30,8 @@ pub record Taken (N : Net) (high : ℕ → ℕ) (q h t : ℕ) : Type 0 where
   pub fits : N .loss q t ≤ h
   pub few : t ≤ N .sizes
 
-pub read-none : (N : Net) (high : ℕ → ℕ) (list heads : List ℕ) → length list ≡ 63 → length heads ≡ 64 → getD heads 0 0 ≡ high 0 → ReadBack N high list heads 0
-read-none N high list heads l h e =
+pub read-none : {N : Net} {high : ℕ → ℕ} {list heads : List ℕ} → length list ≡ 63 → length heads ≡ 64 → getD heads 0 0 ≡ high 0 → ReadBack N high list heads 0
+read-none {N} {high} {list} {heads} l h e =
     record { list-long = l; heads-long = h; good = good-none (planOf N high) (high 0) (sizeOf list) (λ j. getD heads j 0) e }
 
 module _ {N : Net} {a : ℕ} {high : ℕ → ℕ} {room : ℕ} (ok : Fillable N a high room) {list heads : List ℕ} {s : ℕ} (st : ReadBack N high list heads s) where
@@ -68,25 +65,25 @@ module _ {N : Net} {a : ℕ} {high : ℕ → ℕ} {room : ℕ} (ok : Fillable N 
       }
 
   -- the same with the numbers that the code has read
-  pub read-turn : (t p l v : ℕ) → s < N .sections → cell (planOf N high) 0 0 (high 0) < mark → Taken N high (s + 1) (getD heads p 0) t →
+  pub read-turn : {t p l v : ℕ} → Taken N high (s + 1) (getD heads p 0) t → s < N .sections → cell (planOf N high) 0 0 (high 0) < mark →
       p ≡ N .parent (s + 1) → l ≡ N .loss (s + 1) t → v ≡ min (getD heads p 0 - l) (high (s + 1)) →
       ReadBack N high (set list s t) (set heads (s + 1) v) (s + 1)
-  read-turn t p l v b c tk ep el ev =
+  read-turn {t} {p} {l} {v} tk b c ep el ev =
       let par : p ≡ N .parent (suc s) = rw add-one at ep in
       let loss : l ≡ N .loss (suc s) t = rw add-one at el in
       let is : v ≡ min (getD heads p 0 - l) (high (suc s)) = rw add-one at ev in
       rw add-one (read-more t v b c (rw (par, add-one) at (tk .cheap)) (rw (par, loss) at is))
 
   -- the size that is picked from the filled rows for section s + 1, whose parent is p
-  pub read-take : (ws : List ℕ) (t p : ℕ) → Holds N a high ws → s < N .sections → cell (planOf N high) 0 0 (high 0) < mark → p ≡ N .parent (s + 1) →
+  pub read-take : {ws : List ℕ} {t p : ℕ} → Holds N a high ws → s < N .sections → cell (planOf N high) 0 0 (high 0) < mark → p ≡ N .parent (s + 1) →
       Picked (N .sizes) (optionAt (N .loss (s + 1)) (N .cost (s + 1)) (N .need (s + 1)) (rowAt ws ((s + 1) * (a + 1)) 0 (high (s + 1))) (getD heads p 0)) t →
       Taken N high (s + 1) (getD heads p 0) t
-  read-take ws t p hold l m ep pick =
+  read-take {p = p} hold l m ep pick =
       let q = ok .sound .lower (s + 1) (omega arith) (omega arith) in
       let real : nextLeast (planOf N high) (s + 1) (getD heads p 0) < mark =
       rw (ep, add-one) (good-real (planOf N high) (ok .sound .lower) (high 0) (sizeOf list) (λ j. getD heads j 0) s l m (st .good)) in
-      let cheap = picked-cheap ok ws hold (s + 1) (getD heads p 0) t (omega arith) (omega (arith, read-low p (omega arith), ok .usable .most p (omega arith))) real pick in
-      record { cheap = cheap; fits = omega (arith, ok-fits N high (s + 1) t (getD heads p 0) (cheap-ok (planOf N high) cheap real)); few = pick .high }
+      let cheap = picked-cheap ok hold (s + 1) (getD heads p 0) (omega arith) (omega (arith, read-low p (omega arith), ok .usable .most p (omega arith))) real pick in
+      record { cheap = cheap; fits = omega (arith, ok-fits N high (s + 1) _ (getD heads p 0) (cheap-ok (planOf N high) cheap real)); few = pick .high }
 
   -- after the last section the sizes are a list of least cost
   pub read-all : s ≤ N .sections → N .sections ≤ s → Found N a (cell (planOf N high) 0 0 (high 0)) (take (N .sections) list)
@@ -94,27 +91,10 @@ module _ {N : Net} {a : ℕ} {high : ℕ → ℕ} {room : ℕ} (ok : Fillable N 
       let e : s ≡ N .sections = omega arith in
       let z : List ℕ = take (N .sections) list in
       let lower = ok .sound .lower in
-      let most = pump-most N a high (ok .usable) in
+      let most = pump-most (ok .usable) in
       let g = good-ext (planOf N high) lower (high 0) (sizeOf list) (sizeOf z) (λ j. getD heads j 0) (λ j. getD heads j 0) (N .sections) (omega arith)
       (λ j p b. getD-take (N .sections) list (j - 1) 0 (omega arith)) (λ j b. refl) (rw e at (st .good)) in
       record {
-        best = best-of N lower a high (ok .usable) a (omega arith) z (λ j. getD heads j 0) (rw most g) (length-take-le (N .sections) list (omega (arith, st .list-long, ok .sound .few)));
-        cost = rw (← most) (sym (cost-of N lower a high (ok .usable) a (omega arith) z (λ j. getD heads j 0) (rw most g)));
+        best = best-of lower (ok .usable) a (omega arith) z (λ j. getD heads j 0) (rw most g) (length-take-le (N .sections) list (omega (arith, st .list-long, ok .sound .few)));
+        cost = rw (← most) (sym (cost-of lower (ok .usable) a (omega arith) z (λ j. getD heads j 0) (rw most g)));
       }
-
--- the row of a section is in the workspace, and its sizes are in the tables
-pub row-room : (sections sizes : ℕ) (parents needs losses costs highs : List ℕ) (a : ℕ) {room : ℕ} →
-    Fillable (netOf sections sizes parents needs losses costs) a (λ s. getD highs s 0) room → (q : ℕ) → q ≤ sections → getD needs q 0 ≤ top →
-    (row : Row) → row ≡ rowOf needs highs a q → (row .at + sizes < 832) × (row .need ≤ top) × (4 * (row .first + sizes * row .stride + row .high + 1) ≤ room)
-row-room sections sizes parents needs losses costs highs a ok q l n row is =
-    rw is (omega (arith, ok .sound .few, ok .sound .sizes, ok .usable .most q l, ok .rows, row-fits q sections (a + 1) l))
-
--- the same with the tables and the row as the code has them
-module _ (sections sizes : ℕ) (parents needs losses costs highs : List ℕ) (a : ℕ) {room : ℕ}
-    (ok : Fillable (netOf sections sizes parents needs losses costs) a (λ s. getD highs s 0) room) {list heads : List ℕ} {s : ℕ}
-    (st : ReadBack (netOf sections sizes parents needs losses costs) (λ s. getD highs s 0) list heads s) where
-  pub row-take : (ws : List ℕ) (t p : ℕ) → Holds (netOf sections sizes parents needs losses costs) a (λ s. getD highs s 0) ws → s < sections →
-      cell (planOf (netOf sections sizes parents needs losses costs) (λ s. getD highs s 0)) 0 0 (getD highs 0 0) < mark → p ≡ getD parents (s + 1) 0 →
-      (row : Row) → row ≡ rowOf needs highs a (s + 1) → Picked sizes (optionsOf row losses costs ws (getD heads p 0)) t →
-      Taken (netOf sections sizes parents needs losses costs) (λ s. getD highs s 0) (s + 1) (getD heads p 0) t
-  row-take ws t p hold l m ep row is pick = read-take ok st ws t p hold l m ep (rw is at pick)

@@ -61,30 +61,14 @@ module _ (c : tie.After-dictating) where
   unfolding pumpAt
   pump-is = ap clamped (toZ-ofZ over-fits ∙ over-is)
 
-returns : tie.Need-returns
-returns c =
-    let d = c .before .before .before .before .before in
-    (required-is d, clamped-above (toZ w32 (ofZ w32 (over d))) (c .if1 .taken) .1 ∙ pump-is d, d .dictating .ensures .1)
-
-returns-2 : tie.Need-returns-2
-returns-2 c =
-    let d = c .before .before .before .before .before in
-    (required-is d, clamped-none (toZ w32 (ofZ w32 (over d))) (c .if1 .left) ∙ pump-is d, d .dictating .ensures .1)
-
-cast-pump : tie.Need-cast-pump
-cast-pump c =
-    let d = c .before .before .before .before .before in
-    (clamped-above (toZ w32 (ofZ w32 (over d))) (c .if1 .taken) .0, rw (toZ-ofZ (over-fits d)) (fits-natAbs tt (over-fits d)))
-
 pub heads-of-spec : {M : Type 1} → statement M
 heads-of-spec =
     tie.close
-    (tie.spec
-    (λ c κs. c .pre)
-    (λ c. search needs)
-    (λ c. sum-fits (c .before .before .before))
-    (λ c. search needs)
+    (tie.spec (λ c κs. c .pre) (λ c. search needs) (λ c. sum-fits (c .before .before .before)) (λ c. search needs)
     (λ c. over-fits (c .before .before .before .before))
-    cast-pump
-    returns
-    returns-2)
+    (λ c. let d = c .before .before .before .before .before in
+    (clamped-above (toZ w32 (ofZ w32 (over d))) (c .if1 .taken) .0, rw (toZ-ofZ (over-fits d)) (fits-natAbs tt (over-fits d))))
+    (λ c. let d = c .before .before .before .before .before in
+    (required-is d, clamped-above (toZ w32 (ofZ w32 (over d))) (c .if1 .taken) .1 ∙ pump-is d, d .dictating .ensures .1))
+    (λ c. let d = c .before .before .before .before .before in
+    (required-is d, clamped-none (toZ w32 (ofZ w32 (over d))) (c .if1 .left) ∙ pump-is d, d .dictating .ensures .1)))

@@ -43,9 +43,6 @@ module _ (c : tie.In-loop Inv-loop μ-loop) where
   lower : sectionOf job i .parent < i
   lower = rooted .lower i (omega arith) (omega arith)
 
-loop-holds : tie.Need-loop-holds Inv-loop μ-loop
-loop-holds c = (omega arith, omega arith, slots-none 64 1 0 _)
-
 loop-again : tie.Need-loop-again Inv-loop μ-loop
 loop-again c = (
   omega arith,
@@ -53,18 +50,13 @@ loop-again c = (
   path-more (job c) (rooted c) (loss c) (c .before .loop .paths) (i c) (c .before .loop .inv .2) (omega arith) (omega arith),
 )
 
-add-paths : tie.Need-add-paths Inv-loop μ-loop
-add-paths c =
-    rw (path-next (job c) (rooted c) (loss c) (c .before .loop .paths) (i c) (c .before .loop .inv .2) (omega arith) (omega arith))
-    (omega (arith, path-small (c .before .before .pre) (i c) (omega arith)))
-
-returns : tie.Need-returns Inv-loop μ-loop
-returns c =
-    let e : c .before .loop .i ≡ countOf (c .before .before .args .t1) + 1 = omega arith in rw e at (c .before .loop .inv .2)
-
 pub paths-spec : {M : Type 1} → statement M
 paths-spec =
     tie.close
-    (tie.spec Inv-loop μ-loop (λ c. search needs) loop-holds (λ c. omega (arith, inside c)) inside (λ c. omega (arith, lower c))
-    (λ c. omega (arith, inside c)) inside (λ c. omega (arith, lower c, inside c)) (λ c. omega (arith, lower c, inside c))
-    add-paths (λ c. omega (arith, inside c)) inside (λ c. search needs) (λ c. search needs) loop-again returns)
+    (tie.spec Inv-loop μ-loop (λ c. search needs) (λ c. (omega arith, omega arith, slots-none 64 1 0 _)) (λ c. omega (arith, inside c)) inside
+    (λ c. omega (arith, lower c)) (λ c. omega (arith, inside c)) inside (λ c. omega (arith, lower c, inside c))
+    (λ c. omega (arith, lower c, inside c))
+    (λ c. rw (path-next (job c) (rooted c) (loss c) (c .before .loop .paths) (i c) (c .before .loop .inv .2) (omega arith) (omega arith))
+    (omega (arith, path-small (c .before .before .pre) (i c) (omega arith))))
+    (λ c. omega (arith, inside c)) inside (λ c. search needs) (λ c. search needs) loop-again
+    (λ c. let e : c .before .loop .i ≡ countOf (c .before .before .args .t1) + 1 = omega arith in rw e at (c .before .loop .inv .2)))

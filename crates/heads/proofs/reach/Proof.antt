@@ -27,15 +27,9 @@ module _ (c : tie.After-struct-known2) where
   fits : SFits w32 (c .before .before .before .args .s .elevation +ℤ pos (c .before .before .before .args .s .free + c .before .before .before .args .more))
   fits = record { sfits = add-mag (c .before .before .before .args .s .elevation) _ _ (omega (arith, low (c .before) .sfits)) }
 
-cast-result : tie.Need-cast-result
-cast-result c = simp (toZ-ofZ (low c)) (wide c)
-
-add-result-2 : tie.Need-add-result-2
-add-result-2 c = simp (toZ-ofZ (low (c .before)), toZ-ofZ (wide (c .before)), small c) (fits c)
-
-returns : tie.Need-returns
-returns c = simp (toZ-ofZ (low (c .before)), toZ-ofZ (wide (c .before)), small c, toZ-ofZ (fits c))
-
 pub reach-spec : {M : Type 1} → statement M
 reach-spec =
-    tie.close (tie.spec cast-result (λ c. search needs) (λ c. search needs) (λ c. search needs) add-result-2 returns)
+    tie.close
+    (tie.spec (λ c. simp (toZ-ofZ (low c)) (wide c)) (λ c. search needs) (λ c. search needs) (λ c. search needs)
+    (λ c. simp (toZ-ofZ (low (c .before)), toZ-ofZ (wide (c .before)), small c) (fits c))
+    (λ c. simp (toZ-ofZ (low (c .before)), toZ-ofZ (wide (c .before)), small c, toZ-ofZ (fits c))))

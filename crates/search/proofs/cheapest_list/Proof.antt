@@ -1,7 +1,7 @@
 -- `search::cheapest_list` meets its contract: the pump's cell says whether a list suits, and the list is read back where one does.
 -- Assumes nothing.
 use mathlib.Core.Path.{_≡_, refl, _∙_}
-use Prim.Native.Nat.{ℕ, _+_, _*_, _≤_, _<_}
+use Prim.Native.Nat.{ℕ, _+_, _*_, _≤_}
 use native.Mathlib.Omega.{arith}
 use borrow.Author.Needs.{needs}
 use lib.ListN.{length, getD}
@@ -49,7 +49,7 @@ module _ (c : tie.After-fill) where
 pump : (c : tie.After-get) → let f = c .before .before .before .before in c .get .result ≡ cell (planOf (net (b (k f))) (high (k f))) 0 0 (high (k f) 0)
 pump c =
     let f = c .before .before .before .before in
-    c .get .ensures .0 ∙ pump-cell (net (b (k f))) (b (k f) .args .head) (high (k f)) (f .fill .last .0) (pump-high (k f) .0) (f .fill .ensures .1)
+    c .get .ensures .0 ∙ pump-cell {N = net (b (k f))} (f .fill .ensures .1) (pump-high (k f) .0)
 
 get-requires : tie.Need-get-requires
 get-requires c κs =
@@ -60,10 +60,9 @@ get-requires c κs =
 returns : tie.Need-returns
 returns c =
     let d = c .before .before in
-    let f = d .before .before .before .before in
-    let a = b (k f) .args in (
-      (λ e. none-suits (net (b (k f))) (b (k f) .pre .0 .0) (a .head) (high (k f)) (full f .usable) (a .head) (omega arith)
-          (rw (pump-most (net (b (k f))) (a .head) (high (k f)) (full f .usable)) (omega (arith, pump d, c .before .if1 .taken)))),
+    let f = d .before .before .before .before in (
+      (λ e. none-suits (b (k f) .pre .0 .0) (full f .usable) (b (k f) .args .head) (omega arith)
+          (rw (pump-most (full f .usable)) (omega (arith, pump d, c .before .if1 .taken)))),
       λ e. absurd (apart e (c .nothing .ensures)),
     )
 
@@ -73,14 +72,11 @@ recover-requires c κs =
     let f = d .before .before .before .before in
     (full f, (f .fill .ensures .1, omega (arith, pump d, c .before .before .if1 .left, cell-most (planOf (net (b (k f))) (high (k f))) 0 0 (high (k f) 0))))
 
-returns-2 : tie.Need-returns-2
-returns-2 c =
-    let r = c .recover .ensures in
-    ((λ e. absurd (apart refl e)), λ e. record { best = r .best; cost = omega (arith, pump (c .before .before .before .before), r .cost) })
-
 pub cheapest-list-spec : {M : Type 1} → statement M
 cheapest-list-spec =
     tie.close
-    (tie.spec (λ c κs. let b = c .before in (b .pre .0 .0 .few, b .pre .0 .0 .sizes, b .pre .1 .0, b .pre .0 .0 .lower)) (λ c κs. ready (c .before .before) _ (b (c .before .before) .pre .1 .1))
-    (λ c. search needs) get-requires (λ c κs. search needs) (λ c. c .before .before .before .before .before .before .fill .ensures .0) returns recover-requires
-    (λ c. c .before .before .before .before .before .before .before .before .fill .ensures .0) returns-2)
+    (tie.spec (λ c κs. let b = c .before in (b .pre .0 .0 .few, b .pre .0 .0 .sizes, b .pre .1 .0, b .pre .0 .0 .lower))
+    (λ c κs. ready (c .before .before) _ (b (c .before .before) .pre .1 .1)) (λ c. search needs) get-requires (λ c κs. search needs)
+    (λ c. c .before .before .before .before .before .before .fill .ensures .0) returns recover-requires
+    (λ c. c .before .before .before .before .before .before .before .before .fill .ensures .0) (λ c. let r = c .recover .ensures in
+    ((λ e. absurd (apart refl e)), λ e. record { best = r .best; cost = omega (arith, pump (c .before .before .before .before), r .cost) })))

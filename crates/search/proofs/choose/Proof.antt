@@ -1,24 +1,13 @@
 -- `search::choose` meets its contract: what is found in the pruned tables holds of those that were given.
 -- Assumes nothing.
-use mathlib.Core.Path.{_≡_}
-use mathlib.Core.Bool.{true}
-use native.Mathlib.Omega.{arith}
 use borrow.Author.Needs.{needs}
 use borrow.Author.Tests.{not-true, not-false}
+use lib.ListN.{getD}
 use Rattle.basis.proofs.Bools.{apart}
 use Rattle.pruning.specs.Contracts.{Pruned}
-use Rattle.pruning.proofs.Keeping.{keeps-found, keeps-none}
-use Rattle.pruning.proofs.Trims.{sound-like}
+use Rattle.pruning.proofs.Keeping.{sound-like, keeps-found, keeps-none}
 use Rattle.search.proofs.choose.Statement.{statement}
 use Rattle.search.proofs.choose.Tie as tie
-
-prune-requires : tie.Need-prune-requires
-prune-requires c κs = let b = c .before .before .before in (b .pre .0, b .pre .1 .0)
-
-returns : tie.Need-returns
-returns c =
-    let k = c .before .before .before in
-    ((λ e. k .prune .ensures .0 (not-true (k .prune .result .some) (c .before .if1 .taken))), λ e. absurd (apart e (c .nothing .ensures)))
 
 -- the pruned tables
 module _ (c : tie.Else1) where
@@ -33,18 +22,15 @@ module _ (c : tie.Else1) where
       Pruned (a .sections) (a .sizes) (a .parents .now) (a .needs .now) (a .losses .now) (a .costs .now) (a .head) (k .prune .result .needs) (k .prune .result .losses)
   pruned = k .prune .ensures .1 (not-false (k .prune .result .some) (c .if1 .left))
 
-cheapest-list-requires : tie.Need-cheapest-list-requires
-cheapest-list-requires c κs =
-    let d = c .before .before .before .before .before in
-    let a = b d .args in
-    let r = k d .prune .result in
-    ((sound-like (a .sections) (a .sizes) (a .parents .now) (a .needs .now) (r .needs) (a .losses .now) (r .losses) (a .costs .now) (b d .pre .0), pruned d .pump), b d .pre .1)
-
-returns-2 : tie.Need-returns-2
-returns-2 c =
-    let f = c .before .before .cheapest-list .ensures in
-    let d = c .before .before .before .before .before .before .before .before in
-    ((λ e. keeps-none (b d .args .head) (pruned d .keeps) (f .0 e)), λ e. keeps-found (b d .args .head) (pruned d .keeps) (f .1 e))
-
 pub choose-spec : {M : Type 1} → statement M
-choose-spec = tie.close (tie.spec prune-requires (λ c κs. search needs) returns cheapest-list-requires (λ c. search needs) returns-2)
+choose-spec =
+    tie.close
+    (tie.spec (λ c κs. let b = c .before .before .before in (b .pre .0, b .pre .1 .0)) (λ c κs. search needs)
+    (λ c. let k = c .before .before .before in
+    ((λ e. k .prune .ensures .0 (not-true (k .prune .result .some) (c .before .if1 .taken))), λ e. absurd (apart e (c .nothing .ensures))))
+    (λ c κs. let d = c .before .before .before .before .before in
+    ((sound-like (b d .pre .0) {need = λ s. getD (k d .prune .result .needs) s 0}, pruned d .pump), b d .pre .1))
+    (λ c. search needs)
+    (λ c. let f = c .before .before .cheapest-list .ensures in
+    let d = c .before .before .before .before .before .before .before .before in
+    ((λ e. keeps-none (b d .args .head) (pruned d .keeps) (f .0 e)), λ e. keeps-found (b d .args .head) (pruned d .keeps) (f .1 e))))

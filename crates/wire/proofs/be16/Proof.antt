@@ -7,12 +7,9 @@ use Rattle.wire.specs.Wire.{beAt}
 use Rattle.wire.proofs.be16.Statement.{statement}
 use Rattle.wire.proofs.be16.Tie as tie
 
-returns : tie.Need-returns
-unfolding beAt
-returns c = rw add-zero (omega arith)
-
 pub be16-spec : {M : Type 1} → statement M
+unfolding beAt
 be16-spec =
     tie.close
     (tie.spec (λ c. search needs) (λ c κs. search needs) (λ c. search needs) (λ c. search needs) (λ c. search needs) (λ c κs. search needs)
-    (λ c. search needs) (λ c. search needs) returns)
+    (λ c. search needs) (λ c. search needs) (λ c. rw add-zero (omega arith)))

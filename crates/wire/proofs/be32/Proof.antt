@@ -7,13 +7,10 @@ use Rattle.wire.specs.Wire.{beAt}
 use Rattle.wire.proofs.be32.Statement.{statement}
 use Rattle.wire.proofs.be32.Tie as tie
 
-returns : tie.Need-returns
-unfolding beAt
-returns c = rw add-zero (omega arith)
-
 pub be32-spec : {M : Type 1} → statement M
+unfolding beAt
 be32-spec =
     tie.close
     (tie.spec (λ c. search needs) (λ c κs. search needs) (λ c. search needs) (λ c. search needs) (λ c. search needs) (λ c κs. search needs)
     (λ c. search needs) (λ c. search needs) (λ c. search needs) (λ c. search needs) (λ c κs. search needs) (λ c. search needs)
-    (λ c. search needs) (λ c. search needs) (λ c. search needs) (λ c κs. search needs) (λ c. search needs) returns)
+    (λ c. search needs) (λ c. search needs) (λ c. search needs) (λ c κs. search needs) (λ c. search needs) (λ c. rw add-zero (omega arith)))

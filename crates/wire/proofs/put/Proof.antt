@@ -27,9 +27,6 @@ more s x i k h w =
     let p : i + k ≡ i + length (take k x) = rw e in
     stored-set s i (take k x) (i + k) (getD x k 0) p (omega arith) ∙ rw (add-one k, take-suc x k 0 h)
 
-loop-holds : tie.Need-loop-holds Inv-loop μ-loop
-loop-holds c = (omega arith, search needs, sym (stored-none _ _))
-
 loop-again : tie.Need-loop-again Inv-loop μ-loop
 loop-again c =
     let s = c .before .before .before .args .s .now in
@@ -40,13 +37,9 @@ loop-again c =
       rw (inv .2) (more s x (c .before .before .before .args .i) (c .before .before .loop .k) (omega arith) (omega arith)),
     )
 
-returns : tie.Need-returns Inv-loop μ-loop
-returns c =
-    let x = c .before .before .args .x .now in
-    let e : c .before .loop .k ≡ length x = omega arith in c .before .loop .inv .2 ∙ rw (e, take-length x)
-
 pub put-spec : {M : Type 1} → statement M
 put-spec =
     tie.close
-    (tie.spec Inv-loop μ-loop loop-holds (λ c. search needs) (λ c. search needs) (λ c. search needs) (λ c. search needs) (λ c. search needs)
-    loop-again (λ c. search needs) returns)
+    (tie.spec Inv-loop μ-loop (λ c. (omega arith, search needs, sym (stored-none _ _))) (λ c. search needs) (λ c. search needs) (λ c. search needs)
+    (λ c. search needs) (λ c. search needs) loop-again (λ c. search needs) (λ c. let x = c .before .before .args .x .now in
+    let e : c .before .loop .k ≡ length x = omega arith in c .before .loop .inv .2 ∙ rw (e, take-length x)))

@@ -23,12 +23,6 @@ fits16 c = sub-fits w16 (c .before .args .n) 65536 (omega arith) (omega arith)
 fits32 : (c : tie.Else1) → SFits w32 (pos (c .before .args .n) -ℤ pos 65536)
 fits32 c = sub-fits w32 (c .before .args .n) 65536 (omega arith) (omega arith)
 
-sub-result : tie.Need-sub-result
-sub-result c = rw (wide c) (fits32 c)
-
-cast-result-3 : tie.Need-cast-result-3
-cast-result-3 c = rw (wide c, toZ-ofZ (fits32 c)) (fits16 c)
-
 returns : tie.Need-returns
 unfolding signedOf
 returns c = rw (lt-ltb (c .before .args .n) 32768 (c .if1 .taken))
@@ -40,4 +34,5 @@ returns-2 c = rw (wide c, toZ-ofZ (fits32 c), toZ-ofZ (fits16 c), le-ltb (c .bef
 pub signed16-spec : {M : Type 1} → statement M
 signed16-spec =
     tie.close
-    (tie.spec (λ c. search needs) (λ c. search needs) sub-result cast-result-3 returns returns-2)
+    (tie.spec (λ c. search needs) (λ c. search needs) (λ c. rw (wide c) (fits32 c)) (λ c. rw (wide c, toZ-ofZ (fits32 c)) (fits16 c)) returns
+    returns-2)

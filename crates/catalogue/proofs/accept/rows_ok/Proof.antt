@@ -14,24 +14,6 @@ Inv-loop rows n k₀ k = (1 ≤ k) × (k ≤ n) × Seen rows k
 abbrev μ-loop : tie.MeasureT-loop
 μ-loop rows n k₀ k = n - k
 
-returns : tie.Need-returns Inv-loop μ-loop
-returns c =
-    own-refused _ _ 0 (omega arith) (sym (c .before .row-ok .ensures) ∙ not-true (c .before .row-ok .result) (c .if1 .taken))
-
-loop-holds : tie.Need-loop-holds Inv-loop μ-loop
-loop-holds c =
-    (omega arith, omega arith, seen-first _ (sym (c .before .row-ok .ensures) ∙ not-false (c .before .row-ok .result) (c .if1 .left)))
-
-returns-2 : tie.Need-returns-2 Inv-loop μ-loop
-returns-2 c =
-    own-refused _ _ (c .before .before .before .loop .k) (omega arith)
-    (sym (c .before .row-ok2 .ensures) ∙ not-true (c .before .row-ok2 .result) (c .if2 .taken))
-
-returns-3 : tie.Need-returns-3 Inv-loop μ-loop
-returns-3 c =
-    rises-refused _ _ (c .before .before .before .before .before .loop .k) (omega arith) (omega arith)
-    (sym (c .before .rises-at .ensures) ∙ not-true (c .before .rises-at .result) (c .if3 .taken))
-
 loop-again : tie.Need-loop-again Inv-loop μ-loop
 loop-again c =
     let own = c .before .before in
@@ -43,13 +25,18 @@ loop-again c =
           (sym (c .before .rises-at .ensures) ∙ not-false (c .before .rises-at .result) (c .if3 .left)),
     )
 
-returns-4 : tie.Need-returns-4 Inv-loop μ-loop
-returns-4 c =
-    let e : c .before .loop .k ≡ c .before .before .before .before .before .args .n = omega arith in
-    sym (seen-rows _ _ (rw e at (c .before .loop .inv .2)))
-
 pub rows-ok-spec : {M : Type 1} → statement M
 rows-ok-spec =
     tie.close
-    (tie.spec Inv-loop μ-loop (λ c κs. omega arith) returns loop-holds (λ c κs. omega arith) returns-2 (λ c κs. omega arith)
-    returns-3 (λ c. omega arith) (λ c. omega arith) loop-again returns-4)
+    (tie.spec Inv-loop μ-loop (λ c κs. omega arith)
+    (λ c. own-refused _ _ 0 (omega arith) (sym (c .before .row-ok .ensures) ∙ not-true (c .before .row-ok .result) (c .if1 .taken)))
+    (λ c. (omega arith, omega arith, seen-first _ (sym (c .before .row-ok .ensures) ∙ not-false (c .before .row-ok .result) (c .if1 .left))))
+    (λ c κs. omega arith)
+    (λ c. own-refused _ _ (c .before .before .before .loop .k) (omega arith)
+    (sym (c .before .row-ok2 .ensures) ∙ not-true (c .before .row-ok2 .result) (c .if2 .taken)))
+    (λ c κs. omega arith)
+    (λ c. rises-refused _ _ (c .before .before .before .before .before .loop .k) (omega arith) (omega arith)
+    (sym (c .before .rises-at .ensures) ∙ not-true (c .before .rises-at .result) (c .if3 .taken)))
+    (λ c. omega arith) (λ c. omega arith) loop-again
+    (λ c. let e : c .before .loop .k ≡ c .before .before .before .before .before .args .n = omega arith in
+    sym (seen-rows _ _ (rw e at (c .before .loop .inv .2)))))

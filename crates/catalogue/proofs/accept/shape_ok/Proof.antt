@@ -1,7 +1,7 @@
 -- `catalogue::accept::shape_ok` meets its contract: seven ways out that refuse, and the last test.
 -- Assumes nothing.
 use mathlib.Core.Path.{sym}
-use Prim.Native.Nat.{ℕ, _*_, _≤_}
+use Prim.Native.Nat.{_*_, _≤_}
 use native.Mathlib.Nat.{mul-le-mul}
 use native.Mathlib.Omega.{arith}
 use Rattle.catalogue.specs.Layout.{sizeLength}

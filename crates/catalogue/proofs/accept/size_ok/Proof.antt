@@ -30,11 +30,6 @@ handed c =
     part-handed (c .before .before .before .before .before .before .before .before .before .pre .0) (c .size-from .result) (c .before .rows-of .result)
     (c .size-from .ensures) (c .before .rows-of .ensures)
 
-rows-ok-requires : tie.Need-rows-ok-requires
-rows-ok-requires c κs =
-    let sized = c .before .before .before .before .before .before .before .before .before .before .pre .0 in
-    (omega arith, omega arith, rw (handed (c .before), part-long sized) (omega arith))
-
 returns-5 : tie.Need-returns-5
 returns-5 c =
     let from = c .before .before in
@@ -50,4 +45,7 @@ size-ok-spec =
     (λ c. size-refused _ _ (λ b. omega (arith, b .over (omega arith)))) (λ c κs. c .before .before .before .before .pre .0)
     (λ c. size-refused _ _ (λ b. omega arith)) (λ c. size-refused _ _ (λ b. omega arith)) (λ c. omega arith) (λ c. omega arith)
     (λ c κs. c .before .before .before .before .before .before .before .before .pre .0) (λ c. omega (arith, room c)) (λ c. omega arith)
-    (λ c. omega (arith, room c)) (λ c. omega arith) (λ c. omega arith) (λ c. omega (arith, room c)) rows-ok-requires returns-5)
+    (λ c. omega (arith, room c)) (λ c. omega arith) (λ c. omega arith) (λ c. omega (arith, room c))
+    (λ c κs. let sized = c .before .before .before .before .before .before .before .before .before .before .pre .0 in
+    (omega arith, omega arith, rw (handed (c .before), part-long sized) (omega arith)))
+    returns-5)

@@ -20,12 +20,6 @@ Inv-loop cat count s₀ s = (1 ≤ s) × (s ≤ sizesOf cat + 1) × (allTo (s - 
 abbrev μ-loop : tie.MeasureT-loop
 μ-loop cat count s₀ s = sizesOf cat + 1 - s
 
-loop-holds : tie.Need-loop-holds Inv-loop μ-loop
-loop-holds c = (omega arith, omega arith, all-none _, shape-in _ (c .before .before .pre))
-
-size-ok-requires : tie.Need-size-ok-requires Inv-loop μ-loop
-size-ok-requires c κs = (shape-sized (c .before .loop .inv .3) (omega arith) (omega arith), omega arith)
-
 returns : tie.Need-returns Inv-loop μ-loop
 unfolding sizesOk
 returns c =
@@ -50,5 +44,7 @@ pub sizes-ok-spec : {M : Type 1} → statement M
 sizes-ok-spec =
     tie.close
     (tie.spec Inv-loop μ-loop (λ c κs. omega (arith, shape-in _ (c .before .pre) .long))
-    (λ c. omega (arith, shape-in _ (c .before .before .pre) .sizes .high)) loop-holds size-ok-requires returns (λ c. omega arith)
-    (λ c. omega arith) loop-again returns-2)
+    (λ c. omega (arith, shape-in _ (c .before .before .pre) .sizes .high))
+    (λ c. (omega arith, omega arith, all-none _, shape-in _ (c .before .before .pre)))
+    (λ c κs. (shape-sized (c .before .loop .inv .3) (omega arith) (omega arith), omega arith)) returns (λ c. omega arith) (λ c. omega arith)
+    loop-again returns-2)

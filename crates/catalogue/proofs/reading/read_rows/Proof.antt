@@ -7,9 +7,6 @@ use Rattle.catalogue.proofs.Readings.{Around, reading-over, above-first
 use Rattle.catalogue.proofs.reading.read_rows.Statement.{statement}
 use Rattle.catalogue.proofs.reading.read_rows.Tie as tie
 
-returns : tie.Need-returns
-returns c = sym (reading-over (c .before .before .before .args .rows .now) _ _ (omega arith))
-
 returns-2 : tie.Need-returns-2
 returns-2 c =
     rw (c .before .row-velocity .ensures, c .row-slope .ensures)
@@ -22,12 +19,6 @@ around : (c : tie.Else2) →
     (c .before .before .before .before .before .args .q)
     (c .before .row-above .result)
 around c = above-around (c .before .before .before .before .before .pre) (c .before .row-above .ensures) (omega arith)
-
-line-at-requires : tie.Need-line-at-requires
-line-at-requires c κs = let a = around (c .before .before .before .before) in omega arith
-
-line-at-requires-2 : tie.Need-line-at-requires-2
-line-at-requires-2 c κs = let a = around (c .before .before .before .before .before .before .before) in omega arith
 
 returns-3 : tie.Need-returns-3
 returns-3 c =
@@ -48,8 +39,9 @@ returns-3 c =
 pub read-rows-spec : {M : Type 1} → statement M
 read-rows-spec =
     tie.close
-    (tie.spec (λ c. search needs) (λ c κs. search needs) returns (λ c κs. search needs) (λ c κs. search needs)
-    (λ c. search needs) (λ c κs. search needs) (λ c. search needs) returns-2 (λ c. search needs) (λ c κs. search needs)
-    (λ c κs. search needs) (λ c. search needs) (λ c κs. search needs) (λ c. search needs) (λ c κs. search needs)
-    (λ c. search needs) line-at-requires (λ c. search needs) (λ c κs. search needs) (λ c. search needs)
-    (λ c κs. search needs) (λ c. search needs) line-at-requires-2 returns-3)
+    (tie.spec (λ c. search needs) (λ c κs. search needs) (λ c. sym (reading-over (c .before .before .before .args .rows .now) _ _ (omega arith)))
+    (λ c κs. search needs) (λ c κs. search needs) (λ c. search needs) (λ c κs. search needs) (λ c. search needs) returns-2 (λ c. search needs)
+    (λ c κs. search needs) (λ c κs. search needs) (λ c. search needs) (λ c κs. search needs) (λ c. search needs) (λ c κs. search needs)
+    (λ c. search needs) (λ c κs. let a = around (c .before .before .before .before) in omega arith) (λ c. search needs) (λ c κs. search needs)
+    (λ c. search needs) (λ c κs. search needs) (λ c. search needs)
+    (λ c κs. let a = around (c .before .before .before .before .before .before .before) in omega arith) returns-3)

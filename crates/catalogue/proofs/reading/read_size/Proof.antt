@@ -15,30 +15,9 @@ use Rattle.catalogue.proofs.reading.read_size.Tie as tie
 sized : (c : tie.Start) → Sized (c .args .cat .now) (c .args .s)
 sized c = cat-sized (c .pre .0) (c .args .s) (c .pre .1) (c .pre .2)
 
-rows-of-requires : tie.Need-rows-of-requires
-rows-of-requires c κs = let z = sized (c .before) in omega arith
-
-cast-n : tie.Need-cast-n
-cast-n c = let z = sized (c .before .before) in omega arith
-
-size-from-requires : tie.Need-size-from-requires
-size-from-requires c κs = sized (c .before .before)
-
 room : (c : tie.After-size-from) →
     c .size-from .result + 4 + 8 * rowsOf (c .before .before .before .args .cat .now) ≤ length (c .before .before .before .args .cat .now)
 room c = rw (c .size-from .ensures) (omega (arith, sized-room (sized (c .before .before .before))))
-
-add-a : tie.Need-add-a
-add-a c = omega (arith, room c)
-
-mul-e : tie.Need-mul-e
-mul-e c = omega (arith, room c)
-
-add-e : tie.Need-add-e
-add-e c = omega (arith, room c)
-
-part-read-rows-end : tie.Need-part-read-rows-end
-part-read-rows-end c = omega (arith, room c)
 
 read-rows-requires : tie.Need-read-rows-requires
 read-rows-requires c κs =
@@ -55,5 +34,6 @@ returns c =
 pub read-size-spec : {M : Type 1} → statement M
 read-size-spec =
     tie.close
-    (tie.spec rows-of-requires cast-n size-from-requires add-a mul-e add-e (λ c. search needs) (λ c. search needs)
-    part-read-rows-end read-rows-requires returns)
+    (tie.spec (λ c κs. let z = sized (c .before) in omega arith) (λ c. let z = sized (c .before .before) in omega arith)
+    (λ c κs. sized (c .before .before)) (λ c. omega (arith, room c)) (λ c. omega (arith, room c)) (λ c. omega (arith, room c)) (λ c. search needs)
+    (λ c. search needs) (λ c. omega (arith, room c)) read-rows-requires returns)

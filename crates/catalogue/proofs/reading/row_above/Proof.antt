@@ -13,23 +13,11 @@ Inv-loop rows n q lo₀ hi₀ lo hi = Span rows n q lo hi
 abbrev μ-loop : tie.MeasureT-loop
 μ-loop rows n q lo₀ hi₀ lo hi = hi - lo
 
-loop-holds : tie.Need-loop-holds Inv-loop μ-loop
-loop-holds c = span-start (omega arith) (c .before .pre .1)
-
-row-flow-requires : tie.Need-row-flow-requires Inv-loop μ-loop
-row-flow-requires c κs = omega arith
-
-loop-again : tie.Need-loop-again Inv-loop μ-loop
-loop-again c = span-upper (c .before .before .before .loop .inv) _ (omega arith) (omega arith)
-
-loop-again-2 : tie.Need-loop-again-2 Inv-loop μ-loop
-loop-again-2 c = span-lower (c .before .before .before .loop .inv) (omega arith) (omega arith) (omega arith)
-
-returns : tie.Need-returns Inv-loop μ-loop
-returns c = span-end (c .before .loop .inv) (omega arith)
-
 pub row-above-spec : {M : Type 1} → statement M
 row-above-spec =
     tie.close
-    (tie.spec Inv-loop μ-loop (λ c. search needs) loop-holds (λ c. search needs) (λ c. search needs) row-flow-requires
-    (λ c. search needs) (λ c. search needs) loop-again (λ c. search needs) loop-again-2 returns)
+    (tie.spec Inv-loop μ-loop (λ c. search needs) (λ c. span-start (omega arith) (c .before .pre .1)) (λ c. search needs) (λ c. search needs)
+    (λ c κs. omega arith) (λ c. search needs) (λ c. search needs)
+    (λ c. span-upper (c .before .before .before .loop .inv) _ (omega arith) (omega arith)) (λ c. search needs)
+    (λ c. span-lower (c .before .before .before .loop .inv) (omega arith) (omega arith) (omega arith))
+    (λ c. span-end (c .before .loop .inv) (omega arith)))

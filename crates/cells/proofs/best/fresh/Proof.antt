@@ -22,10 +22,8 @@ loop-again c =
     let i = g .loop .inv in
     (omega arith, length-set (g .loop .best) (g .loop .h) mark ∙ i .1, fresh-more (g .loop .best) (g .before .args .start) (g .loop .h) (omega (arith, i .1)) (i .2))
 
-returns : tie.Need-returns Inv-loop μ-loop
-returns c = let i = c .before .loop .inv in (i .1, λ h a b. i .2 h (omega arith) a)
-
 pub fresh-spec : {M : Type 1} → statement M
 fresh-spec =
     tie.close
-    (tie.spec Inv-loop μ-loop (λ c. (omega arith, c .pre .1, λ x a b. absurd (omega arith))) (λ c. search needs) (λ c. search needs) (λ c. search needs) (λ c. omega arith) loop-again returns)
+    (tie.spec Inv-loop μ-loop (λ c. (omega arith, c .pre .1, λ x a b. absurd (omega arith))) (λ c. search needs) (λ c. search needs)
+    (λ c. search needs) (λ c. omega arith) loop-again (λ c. let i = c .before .loop .inv in (i .1, λ h a b. i .2 h (omega arith) a)))

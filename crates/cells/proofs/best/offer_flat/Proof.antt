@@ -1,6 +1,5 @@
 -- `cells::best::offer_flat` meets its contract: each turn offers the cost at one head more.
 -- Assumes nothing.
-use mathlib.Core.Path.{_≡_}
 use Prim.Native.Nat.{_-_, _≤_, max}
 use native.Mathlib.Omega.{arith}
 use borrow.Author.Needs.{needs}
@@ -15,24 +14,10 @@ Inv-loop best₀ cost start end h₀ best h = (start ≤ h) × (h ≤ max end st
 abbrev μ-loop : tie.MeasureT-loop
 μ-loop best₀ cost start end h₀ best h = end - h
 
-loop-again : tie.Need-loop-again Inv-loop μ-loop
-loop-again c =
-    let g = c .before .before .before in
-    let a = g .before .args in (
-      omega arith,
-      omega arith,
-      offered-more (a .best .now) (g .loop .best) (a .start) (g .loop .h) (c .least .result) _ (omega arith)
-          (omega (arith, g .loop .inv .2 .long)) (omega arith) (g .loop .inv .2),
-    )
-
-returns : tie.Need-returns Inv-loop μ-loop
-returns c =
-    let g = c .before in
-    let a = g .before .args in
-    offered-end (a .best .now) (g .loop .best) (a .start) (g .loop .h) (a .end) _ (omega arith) (omega arith) (g .loop .inv .2)
-
 pub offer-flat-spec : {M : Type 1} → statement M
 offer-flat-spec =
     tie.close
-    (tie.spec Inv-loop μ-loop (λ c. (omega arith, omega arith, offered-none _ _ _)) (λ c. search needs) (λ c. search needs) (λ c κs. search needs)
-    (λ c. search needs) (λ c. search needs) (λ c. search needs) (λ c. omega arith) loop-again returns)
+    (tie.spec Inv-loop μ-loop (λ c. (omega arith, omega arith, offered-none (omega arith))) (λ c. search needs) (λ c. search needs) (λ c κs. search needs)
+    (λ c. search needs) (λ c. search needs) (λ c. search needs) (λ c. omega arith)
+    (λ c. (omega arith, omega arith, offered-more (c .before .before .before .loop .inv .2) (omega arith) (omega arith) (omega arith)))
+    (λ c. offered-end (c .before .loop .inv .2) (omega arith) (omega arith)))

@@ -23,25 +23,11 @@ add-least c =
     let b = g .before .before in
     omega (arith, c .get .ensures .0, b .pre .1 (g .loop .h) (omega arith) (omega arith))
 
-loop-again : tie.Need-loop-again Inv-loop μ-loop
-loop-again c =
-    let g = c .before .before .before .before in
-    let a = g .before .before .args in (
-      omega arith,
-      omega arith,
-      offered-more (a .best .now) (g .loop .best) (a .start) (g .loop .h) (c .least .result) _ (omega arith)
-          (omega (arith, g .loop .inv .2 .long)) (omega arith) (g .loop .inv .2),
-    )
-
-returns : tie.Need-returns Inv-loop μ-loop
-returns c =
-    let a = c .before .before .before .args in
-    offered-end (a .best .now) (c .before .loop .best) (a .start) (c .before .loop .h) (a .end) _ (omega arith) (omega arith)
-    (c .before .loop .inv .2)
-
 pub offer-row-spec : {M : Type 1} → statement M
 offer-row-spec =
     tie.close
-    (tie.spec Inv-loop μ-loop (λ c. (omega arith, omega arith, offered-none _ _ _)) (λ c. search needs) (λ c. search needs) (λ c. omega arith)
+    (tie.spec Inv-loop μ-loop (λ c. (omega arith, omega arith, offered-none (omega arith))) (λ c. search needs) (λ c. search needs) (λ c. omega arith)
     (λ c. omega arith) (λ c κs. omega arith) add-least (λ c κs. search needs) (λ c. search needs) (λ c. search needs)
-    (λ c. search needs) (λ c. omega arith) loop-again returns)
+    (λ c. search needs) (λ c. omega arith)
+    (λ c. (omega arith, omega arith, offered-more (c .before .before .before .before .loop .inv .2) (omega arith) (omega arith) (omega arith)))
+    (λ c. offered-end (c .before .loop .inv .2) (omega arith) (omega arith)))

@@ -5,14 +5,11 @@ use Rattle.cells.specs.Cells.{cellAt}
 use Rattle.cells.proofs.cell.get.Statement.{statement}
 use Rattle.cells.proofs.cell.get.Tie as tie
 
-returns : tie.Need-returns
-unfolding cellAt
-returns c = search needs
-
 pub get-spec : {M : Type 1} → statement M
+unfolding cellAt
 get-spec =
     tie.close
     (tie.spec (λ c. search needs) (λ c. search needs) (λ c κs. search needs) (λ c. search needs) (λ c. search needs) (λ c. search needs)
     (λ c κs. search needs) (λ c. search needs) (λ c. search needs) (λ c. search needs) (λ c. search needs) (λ c. search needs)
     (λ c κs. search needs) (λ c. search needs) (λ c. search needs) (λ c. search needs) (λ c. search needs) (λ c. search needs)
-    (λ c κs. search needs) (λ c. search needs) (λ c. search needs) returns)
+    (λ c κs. search needs) (λ c. search needs) (λ c. search needs) (λ c. search needs))

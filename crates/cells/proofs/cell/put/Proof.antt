@@ -7,12 +7,10 @@ use Rattle.cells.proofs.Workspace.{written}
 use Rattle.cells.proofs.cell.put.Statement.{statement}
 use Rattle.cells.proofs.cell.put.Tie as tie
 
-returns : tie.Need-returns
-returns c = written (c .args .ws .now) (c .args .k) (c .args .v) (omega arith)
-
 pub put-spec : {M : Type 1} → statement M
 put-spec =
     tie.close
     (tie.spec (λ c. search needs) (λ c. search needs) (λ c. search needs) (λ c. search needs) (λ c. search needs) (λ c. search needs)
-    (λ c. simp length-set (omega arith)) (λ c. search needs) (λ c. search needs) (λ c. search needs) (λ c. simp length-set (omega arith)) (λ c. search needs) (λ c. search needs)
-    (λ c. search needs) (λ c. simp length-set (omega arith)) (λ c. search needs) returns)
+    (λ c. simp length-set (omega arith)) (λ c. search needs) (λ c. search needs) (λ c. search needs) (λ c. simp length-set (omega arith))
+    (λ c. search needs) (λ c. search needs) (λ c. search needs) (λ c. simp length-set (omega arith)) (λ c. search needs)
+    (λ c. written (c .args .ws .now) (c .args .k) (c .args .v) (omega arith)))

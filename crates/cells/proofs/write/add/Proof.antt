@@ -1,13 +1,13 @@
 -- `cells::write::add` meets its contract: after each turn one cell more is raised.
 -- Assumes nothing.
-use mathlib.Core.Path.{_≡_, refl, sym, _∙_}
+use mathlib.Core.Path.{_≡_, _∙_}
 use Prim.Native.Nat.{_+_, _-_, _≤_, min, max}
 use native.Mathlib.Omega.{arith}
 use borrow.Author.Needs.{needs}
 use lib.ListN.{getD}
 use Rattle.plan.specs.Plan.{mark}
 use Rattle.cells.specs.Cells.{cellAt}
-use Rattle.cells.specs.Contracts.{Filled, standing}
+use Rattle.cells.specs.Contracts.{Filled}
 use Rattle.cells.proofs.Writes.{filled-none, filled-more, filled-end}
 use Rattle.cells.proofs.write.add.Statement.{statement}
 use Rattle.cells.proofs.write.add.Tie as tie
@@ -34,23 +34,14 @@ old-most c =
     let b = g .before .before in
     omega (arith, old-is c, b .pre .1 (g .loop .h) (omega arith) (omega arith))
 
-loop-again : tie.Need-loop-again Inv-loop μ-loop
-loop-again c =
-    let p = c .before .before in
-    let g = p .before .before .before .before .before .before .before in
-    let a = g .before .before .args in (
-      omega arith,
-      omega arith,
-      filled-more (a .ws .now) (g .loop .ws) (p .put .last .0) (a .up) (a .start) (g .loop .h) _ _ (omega arith) (p .put .ensures) (omega (arith, old-is (p .before .before .before .before), old-most (p .before .before .before .before))) (g .loop .inv .2),
-    )
-
-returns : tie.Need-returns Inv-loop μ-loop
-returns c =
-    let g = c .before in
-    let a = g .before .before .args in
-    filled-end (a .ws .now) (g .loop .ws) (a .up) (a .start) (g .loop .h) (a .end) _ (omega arith) (omega arith) (g .loop .inv .2)
-
 pub add-spec : {M : Type 1} → statement M
 add-spec =
     tie.close
-    (tie.spec Inv-loop μ-loop (λ c. (omega arith, omega arith, filled-none _ _ _ _)) (λ c. search needs) (λ c κs. omega (arith, c .before .before .loop .inv .2 .long)) (λ c. search needs) (λ c. search needs) (λ c. search needs) (λ c. omega (arith, old-most (c .before .before))) (λ c κs. search needs) (λ c. omega (arith, old-most (c .before .before .before))) (λ c κs. omega (arith, c .before .before .before .before .before .before .loop .inv .2 .long)) (λ c. search needs) (λ c. omega arith) loop-again (λ c. c .before .loop .inv .2 .long) returns)
+    (tie.spec Inv-loop μ-loop (λ c. (omega arith, omega arith, filled-none)) (λ c. search needs)
+    (λ c κs. omega (arith, c .before .before .loop .inv .2 .long)) (λ c. search needs) (λ c. search needs) (λ c. search needs)
+    (λ c. omega (arith, old-most (c .before .before))) (λ c κs. search needs) (λ c. omega (arith, old-most (c .before .before .before)))
+    (λ c κs. omega (arith, c .before .before .before .before .before .before .loop .inv .2 .long)) (λ c. search needs) (λ c. omega arith)
+    (λ c. let p = c .before .before in
+    let o = p .before .before .before .before in
+    (omega arith, omega arith, filled-more (o .before .before .before .loop .inv .2) (p .put .ensures) (omega arith) (omega (arith, old-is o, old-most o))))
+    (λ c. c .before .loop .inv .2 .long) (λ c. filled-end (c .before .loop .inv .2) (omega arith) (omega arith)))

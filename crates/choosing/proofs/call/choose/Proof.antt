@@ -1,13 +1,12 @@
 -- `choosing::call::choose` meets its contract.
 -- Assumes nothing.
-use mathlib.Core.Path.{_≡_, refl, sym, ap, _∙_}
-use Prim.Native.Nat.{ℕ, _+_, _*_, _≤_}
+use mathlib.Core.Path.{_≡_, sym, ap, _∙_}
+use Prim.Native.Nat.{_+_, _*_, _≤_}
 use native.Mathlib.Nat.{mul-le-mul}
 use native.Mathlib.Omega.{arith}
 use borrow.Author.Needs.{needs}
 use borrow.Author.Tests.{not-true, not-false}
 use lib.ListN.{length}
-use Rattle.answer.specs.Answer.{numberOf}
 use Rattle.fields.specs.declared.Job.{Job}
 use Rattle.fields.specs.Fields.{countOf}
 use Rattle.record.specs.Record.{decode}
@@ -26,11 +25,6 @@ use Rattle.choosing.proofs.call.choose.Tie as tie
 found : (c : tie.After-number) → c .number .result ≡ inputNo (c .before .before .before .before .before .before .args .b .now) (c .before .before .before .before .before .before .args .cat .now)
 found c = c .number .ensures ∙ c .before .accept-both .ensures .0
 
-returns : tie.Need-returns
-returns c =
-    let no = c .before .before .accept-both .ensures .0 in
-    chosen-refused (no ∙ sym (choose-inputs _ _ _ _ (λ e. c .if1 .taken (found (c .before) ∙ e)))) (λ e. c .if1 .taken (c .before .number .ensures ∙ e))
-
 passed : (c : tie.Else1) → inputNo (c .before .before .before .before .before .before .before .args .b .now) (c .before .before .before .before .before .before .before .args .cat .now) ≡ 0
 passed c = sym (found (c .before)) ∙ c .if1 .left
 
@@ -43,11 +37,6 @@ accepted c = rw (fields c) (input-accepted _ _ (passed c))
 -- 14
 count : (c : tie.Else1) → countOf (c .before .before .accept-both .result .job) ≡ countOf (decode (c .before .before .before .before .before .before .before .args .b .now))
 count c = ap (λ (job : Job). job .header .sections) (fields c)
-
-returns-2 : tie.Need-returns-2
-returns-2 c =
-    let one = c .before .before .before in
-    chosen-refused (sym (choose-short _ _ _ _ (passed one) (rw (← count one) (omega arith)))) (λ z. omega arith)
 
 room : (c : tie.Else2) → chooseLength (countOf (decode (c .before .before .before .before .before .before .before .before .before .before .args .b .now))) ≤ length (c .before .before .before .before .before .before .before .before .before .before .args .out .now)
 room c = rw (← count (c .before .before .before)) (omega arith)
@@ -72,10 +61,6 @@ ready c =
     let two = c .before .before in
     let one = two .before .before .before in
     choose-ready _ _ _ _ (passed one) (room two) (rw (← needed one) (c .if3 .left))
-
-cheapest-requires : tie.Need-cheapest-requires
-cheapest-requires c κs =
-    let one = c .before .before .before .before .before .before in (accepted one, input-listed _ _ (passed one), header-in _ (accepted one .valid .header) .delivered, c .before .if3 .left)
 
 -- 16
 returns-4 : tie.Need-returns-4
@@ -105,6 +90,13 @@ returns-5 c =
 pub choose-spec : {M : Type 1} → statement M
 choose-spec =
     tie.close
-    (tie.spec (λ c κs. search needs) (λ c κs. search needs) returns (λ c. search needs) (λ c. search needs) returns-2 (λ c. search needs)
-    (λ c. search needs) (λ c. search needs) (λ c. omega (arith, space (c .before .before .before .before))) (λ c. omega (arith, space (c .before .before .before .before))) returns-3
-    cheapest-requires (λ c. search needs) returns-4 put-result-requires (λ c. search needs) (λ c. search needs) returns-5)
+    (tie.spec (λ c κs. search needs) (λ c κs. search needs)
+    (λ c. let no = c .before .before .accept-both .ensures .0 in
+    chosen-refused (no ∙ sym (choose-inputs _ _ _ _ (λ e. c .if1 .taken (found (c .before) ∙ e)))) (λ e. c .if1 .taken (c .before .number .ensures ∙ e)))
+    (λ c. search needs) (λ c. search needs)
+    (λ c. let one = c .before .before .before in
+    chosen-refused (sym (choose-short _ _ _ _ (passed one) (rw (← count one) (omega arith)))) (λ z. omega arith))
+    (λ c. search needs) (λ c. search needs) (λ c. search needs) (λ c. omega (arith, space (c .before .before .before .before)))
+    (λ c. omega (arith, space (c .before .before .before .before))) returns-3
+    (λ c κs. let one = c .before .before .before .before .before .before in (accepted one, input-listed _ _ (passed one), header-in _ (accepted one .valid .header) .delivered, c .before .if3 .left))
+    (λ c. search needs) returns-4 put-result-requires (λ c. search needs) (λ c. search needs) returns-5)

@@ -1,10 +1,8 @@
 -- `choosing::call::put_result` meets its contract: four bytes, and the sizes after them.
 -- Assumes nothing.
-use mathlib.Core.Path.{_≡_, refl, sym, _∙_}
-use Prim.Native.Nat.{_≤_}
+use mathlib.Core.Path.{refl, sym, _∙_}
 use native.Mathlib.Omega.{arith}
 use borrow.Author.Needs.{needs}
-use lib.ListN.{length}
 use lib.Seq.{length-take-le}
 use Rattle.basis.proofs.Stored.{stored-next}
 use Rattle.wire.specs.Wire.{bytesOf}
@@ -17,9 +15,6 @@ array-share-prefix-sizes c = search needs
 slice-aggregate-put : tie.Need-slice-aggregate-put
 slice-aggregate-put c = sym (length-take-le _ _ (array-share-prefix-sizes (c .before)))
 
-put-requires : tie.Need-put-requires
-put-requires c κs = rw (← slice-aggregate-put c) (search needs)
-
 returns : tie.Need-returns
 unfolding bytesOf
 returns c =
@@ -30,4 +25,5 @@ returns c =
 pub put-result-spec : {M : Type 1} → statement M
 put-result-spec =
     tie.close
-    (tie.spec (λ c κs. search needs) array-share-prefix-sizes slice-aggregate-put put-requires (λ c. search needs) returns)
+    (tie.spec (λ c κs. search needs) array-share-prefix-sizes slice-aggregate-put (λ c κs. rw (← slice-aggregate-put c) (search needs))
+    (λ c. search needs) returns)

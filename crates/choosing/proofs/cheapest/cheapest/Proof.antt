@@ -1,13 +1,10 @@
 -- `choosing::cheapest::cheapest` meets its contract: the tables are a tree drawn from the job and the catalogue.
 -- Assumes nothing.
-use mathlib.Core.Path.{_≡_, refl, sym, subst}
-use mathlib.Core.List.{List}
-use Prim.Native.Nat.{ℕ, _+_, _≤_, _<_}
+use mathlib.Core.Path.{refl, sym, subst}
+use Prim.Native.Nat.{ℕ, _+_, _<_}
 use native.Mathlib.Nat.{mul-le-mul}
 use native.Mathlib.Omega.{arith}
 use borrow.Author.Needs.{needs}
-use lib.ListN.{length}
-use Rattle.fields.specs.declared.Job.{Job}
 use Rattle.fields.specs.Fields.{countOf}
 use Rattle.wire.specs.Wire.{byteAt}
 use Rattle.rules.proofs.HeaderBounds.{HeaderIn, header-in}
@@ -23,15 +20,6 @@ use Rattle.choosing.proofs.cheapest.cheapest.Tie as tie
 
 head : (c : tie.Start) → HeaderIn (c .args .job .header)
 head c = header-in (c .args .job .header) (c .pre .0 .valid .header)
-
-sizes-of-requires : tie.Need-sizes-of-requires
-sizes-of-requires c κs = omega (arith, shape-in _ (c .before .before .before .pre .1 .shape) .long)
-
-cast-sizes : tie.Need-cast-sizes
-cast-sizes c = omega (arith, cat-counts (c .before .before .before .before .pre .1) .0 .high)
-
-put-options-requires : tie.Need-put-options-requires
-put-options-requires c κs = let p = c .before .before .before .before .before .before .before .before .before .before .pre in (p .0, p .1, (refl, refl))
 
 module _ (c : tie.After-put-options) where
   abbrev start : tie.Start
@@ -85,6 +73,9 @@ returns c =
 pub cheapest-spec : {M : Type 1} → statement M
 cheapest-spec =
     tie.close
-    (tie.spec (λ c. search needs) sizes-of-requires cast-sizes (λ c. search needs) (λ c κs. search needs) put-options-requires
-    (λ c. omega (arith, c .before .before .before .before .before .before .before .before .before .before .before .before .before .before .before .before .pre .2)) (λ c. omega (arith, head (c .before .before .before .before .before .before .before .before .before .before .before .before .before .before .before .before) .meter))
+    (tie.spec (λ c. search needs) (λ c κs. omega (arith, shape-in _ (c .before .before .before .pre .1 .shape) .long))
+    (λ c. omega (arith, cat-counts (c .before .before .before .before .pre .1) .0 .high)) (λ c. search needs) (λ c κs. search needs)
+    (λ c κs. let p = c .before .before .before .before .before .before .before .before .before .before .pre in (p .0, p .1, (refl, refl)))
+    (λ c. omega (arith, c .before .before .before .before .before .before .before .before .before .before .before .before .before .before .before .before .pre .2))
+    (λ c. omega (arith, head (c .before .before .before .before .before .before .before .before .before .before .before .before .before .before .before .before) .meter))
     choose-requires (λ c. search needs) returns)

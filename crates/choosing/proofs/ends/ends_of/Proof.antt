@@ -30,16 +30,8 @@ abbrev μ-loop : tie.MeasureT-loop
 few : (c : tie.Start Inv-loop μ-loop) → countOf (c .args .t1) ≤ 63
 few c = valid-count (c .pre) .high
 
-loop-holds : tie.Need-loop-holds Inv-loop μ-loop
-loop-holds c = (omega arith, omega arith, placed-start _ _ refl, placed-start _ _ refl)
-
 place : (c : tie.In-loop Inv-loop μ-loop) → c .before .loop .i < 64
 place c = omega (arith, few (c .before .before))
-
-need-requires : tie.Need-need-requires Inv-loop μ-loop
-need-requires c κs =
-    let at = c .before .before in
-    sections-in (at .before .args .t1) (valid-sections (at .before .pre)) (at .loop .i) (omega arith) (omega arith) .elevation
 
 loop-again : tie.Need-loop-again Inv-loop μ-loop
 loop-again c =
@@ -51,14 +43,13 @@ loop-again c =
       placed-more (NeedAt (at .before .args .t1)) (at .loop .i) (at .loop .needs) _ here (at .loop .inv .3) (c .need .ensures),
     )
 
-returns : tie.Need-returns Inv-loop μ-loop
-returns c =
-    let at = c .before in
-    record { parent = λ i h k. at .loop .inv .2 .at i h (omega arith); need = λ i h k. at .loop .inv .3 .at i h (omega arith) }
-
 pub ends-of-spec : {M : Type 1} → statement M
 ends-of-spec =
     tie.close
-    (tie.spec Inv-loop μ-loop (λ c. search needs) loop-holds (λ c. omega (arith, place c)) place place (λ c. omega (arith, place c)) place need-requires
-    (λ c. omega (arith, place (c .before .before))) (λ c. place (c .before .before))
-    (λ c. search needs) (λ c. search needs) loop-again returns)
+    (tie.spec Inv-loop μ-loop (λ c. search needs) (λ c. (omega arith, omega arith, placed-start _ _ refl, placed-start _ _ refl))
+    (λ c. omega (arith, place c)) place place (λ c. omega (arith, place c)) place
+    (λ c κs. let at = c .before .before in
+    sections-in (at .before .args .t1) (valid-sections (at .before .pre)) (at .loop .i) (omega arith) (omega arith) .elevation)
+    (λ c. omega (arith, place (c .before .before))) (λ c. place (c .before .before)) (λ c. search needs) (λ c. search needs) loop-again
+    (λ c. let at = c .before in
+    record { parent = λ i h k. at .loop .inv .2 .at i h (omega arith); need = λ i h k. at .loop .inv .3 .at i h (omega arith) }))

@@ -29,9 +29,6 @@ abbrev μ-loop : tie.MeasureT-loop
 few : (c : tie.Start Inv-loop μ-loop) → countOf (c .args .t1) ≤ 63
 few c = valid-count (c .pre .0 .valid) .high
 
-loop-holds : tie.Need-loop-holds Inv-loop μ-loop
-loop-holds c = let e = c .before .before .pre .2 in (omega arith, omega arith, tabled-start _ _ _ (e .0), tabled-start _ _ _ (e .1))
-
 place : (c : tie.In-loop Inv-loop μ-loop) → c .before .loop .i < 64
 place c = omega (arith, few (c .before .before .before .before))
 
@@ -67,14 +64,12 @@ loop-again c =
       tabled-more _ _ _ _ _ (omega (arith, thin)) (omega arith) (at .loop .inv .3) (c .put-row .ensures .1),
     )
 
-returns : tie.Need-returns Inv-loop μ-loop
-returns c =
-    let at = c .before in
-    (tabled-end _ _ _ _ _ (omega arith) (at .loop .inv .2), tabled-end _ _ _ _ _ (omega arith) (at .loop .inv .3))
-
 pub put-options-spec : {M : Type 1} → statement M
 put-options-spec =
     tie.close
-    (tie.spec Inv-loop μ-loop (λ c. search needs) (λ c κs. search needs) loop-holds (λ c. omega (arith, place (c .before))) (λ c. place (c .before))
-    (λ c. omega (arith, place (c .before .before))) (λ c. place (c .before .before)) put-row-requires
-    (λ c. search needs) (λ c. search needs) loop-again returns)
+    (tie.spec Inv-loop μ-loop (λ c. search needs) (λ c κs. search needs)
+    (λ c. let e = c .before .before .pre .2 in (omega arith, omega arith, tabled-start _ _ _ (e .0), tabled-start _ _ _ (e .1)))
+    (λ c. omega (arith, place (c .before))) (λ c. place (c .before)) (λ c. omega (arith, place (c .before .before))) (λ c. place (c .before .before))
+    put-row-requires (λ c. search needs) (λ c. search needs) loop-again
+    (λ c. let at = c .before in
+    (tabled-end _ _ _ _ _ (omega arith) (at .loop .inv .2), tabled-end _ _ _ _ _ (omega arith) (at .loop .inv .3))))

@@ -23,31 +23,14 @@ abbrev μ-loop : tie.MeasureT-loop
 few : (c : tie.Start Inv-loop μ-loop) → sizesOf (c .args .cat .now) ≤ 12
 few c = cat-counts (c .pre .0 .0) .0 .high
 
-sizes-of-requires : tie.Need-sizes-of-requires Inv-loop μ-loop
-sizes-of-requires c κs = omega (arith, shape-in _ (c .before .pre .0 .0 .shape) .long)
-
-loop-holds : tie.Need-loop-holds Inv-loop μ-loop
-loop-holds c = let e = c .before .before .pre .1 in (omega arith, omega arith, entered-start _ _ _ (e .0), entered-start _ _ _ (e .1))
-
 -- the place of section i with size s
 within : (c : tie.In-loop Inv-loop μ-loop) → c .before .before .before .before .args .i * 13 + c .before .loop .s < 832
 within c = omega (arith, few (c .before .before .before .before))
-
-try-size-requires : tie.Need-try-size-requires Inv-loop μ-loop
-try-size-requires c κs = let p = c .before .before .before .before .pre .0 in (p .0, (omega arith, omega arith), p .2)
-
-price-requires : tie.Need-price-requires Inv-loop μ-loop
-price-requires c κs = cat-sized (c .before .before .before .before .before .before .pre .0 .0) _ (omega arith) (omega arith)
 
 low : (c : tie.After-price Inv-loop μ-loop) → c .price .result ≤ 10000
 low c =
     let at = c .before .before .before .before in
     rw (c .price .ensures) (cat-price (at .before .before .before .pre .0 .0) (at .loop .s) (omega arith) (omega arith) .high)
-
-mul-costs : tie.Need-mul-costs Inv-loop μ-loop
-mul-costs c =
-    let p = c .before .before .before .before .before .before .before .before .pre .0 .2 .0 in
-    omega (arith, cost-top (low (c .before)) p)
 
 loop-again : tie.Need-loop-again Inv-loop μ-loop
 loop-again c =
@@ -62,18 +45,19 @@ loop-again c =
       entered-more _ _ _ _ _ _ i (omega arith) (omega arith) (at .loop .inv .3) (rw (price .price .ensures)),
     )
 
-returns : tie.Need-returns Inv-loop μ-loop
-returns c =
-    let at = c .before in
-    (entered-end _ _ _ _ _ _ (omega arith) (at .loop .inv .2), entered-end _ _ _ _ _ _ (omega arith) (at .loop .inv .3))
-
 pub put-row-spec : {M : Type 1} → statement M
 put-row-spec =
     tie.close
-    (tie.spec Inv-loop μ-loop sizes-of-requires (λ c. omega (arith, few (c .before .before))) loop-holds try-size-requires
-    (λ c κs. search needs) (λ c. omega (arith, within (c .before .before))) (λ c. omega (arith, within (c .before .before)))
-    (λ c. omega (arith, within (c .before .before))) (λ c. within (c .before .before)) price-requires (λ c. omega (arith, low c))
-    (λ c. omega arith) mul-costs (λ c. omega (arith, within (c .before .before .before .before)))
+    (tie.spec Inv-loop μ-loop (λ c κs. omega (arith, shape-in _ (c .before .pre .0 .0 .shape) .long)) (λ c. omega (arith, few (c .before .before)))
+    (λ c. let e = c .before .before .pre .1 in (omega arith, omega arith, entered-start _ _ _ (e .0), entered-start _ _ _ (e .1)))
+    (λ c κs. let p = c .before .before .before .before .pre .0 in (p .0, (omega arith, omega arith), p .2)) (λ c κs. search needs)
+    (λ c. omega (arith, within (c .before .before))) (λ c. omega (arith, within (c .before .before))) (λ c. omega (arith, within (c .before .before)))
+    (λ c. within (c .before .before)) (λ c κs. cat-sized (c .before .before .before .before .before .before .pre .0 .0) _ (omega arith) (omega arith))
+    (λ c. omega (arith, low c)) (λ c. omega arith)
+    (λ c. let p = c .before .before .before .before .before .before .before .before .pre .0 .2 .0 in
+    omega (arith, cost-top (low (c .before)) p))
     (λ c. omega (arith, within (c .before .before .before .before))) (λ c. omega (arith, within (c .before .before .before .before)))
-    (λ c. within (c .before .before .before .before)) (λ c. omega (arith, within (c .before .before .before .before))) (λ c. search needs) loop-again
-    returns)
+    (λ c. omega (arith, within (c .before .before .before .before))) (λ c. within (c .before .before .before .before))
+    (λ c. omega (arith, within (c .before .before .before .before))) (λ c. search needs) loop-again
+    (λ c. let at = c .before in
+    (entered-end _ _ _ _ _ _ (omega arith) (at .loop .inv .2), entered-end _ _ _ _ _ _ (omega arith) (at .loop .inv .3))))

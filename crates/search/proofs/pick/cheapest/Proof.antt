@@ -24,27 +24,14 @@ abbrev μ-loop : tie.MeasureT-loop
 room : (c : tie.In-loop Inv-loop μ-loop) → let a = c .before .before .before .args in (c .before .loop .t + 1) * a .s .stride ≤ a .n * a .s .stride
 room c = mul-le-mul-right _ (omega arith)
 
-cost-at-requires : tie.Need-cost-at-requires Inv-loop μ-loop
-cost-at-requires c κs = omega (arith, room c)
-
-loop-again : tie.Need-loop-again Inv-loop μ-loop
-loop-again c =
-    let k = c .before in
-    let g = k .before .before in
-    let r = picked-more _ (g .loop .t) (g .loop .best) (g .loop .size) (g .loop .inv .1) (g .loop .inv .2) (k .cost-at .result) (k .cost-at .ensures) (c .if1 .taken) in
-    (omega arith, r .0, r .1)
-
-loop-again-2 : tie.Need-loop-again-2 Inv-loop μ-loop
-loop-again-2 c =
-    let k = c .before in
-    let g = k .before .before in
-    let r = picked-kept _ (g .loop .t) (g .loop .best) (g .loop .size) (g .loop .inv .1) (g .loop .inv .2) (omega (arith, k .cost-at .ensures)) in
-    (omega arith, r .0, r .1)
-
-returns : tie.Need-returns Inv-loop μ-loop
-returns c = let e : c .before .loop .t ≡ c .before .before .before .args .n = omega arith in rw e at (c .before .loop .inv .2)
-
 pub cheapest-spec : {M : Type 1} → statement M
 cheapest-spec =
     tie.close
-    (tie.spec Inv-loop μ-loop (λ c. search needs) (λ c. (omega arith, sym (least-none _), picked-none _)) (λ c. omega arith) cost-at-requires (λ c. omega arith) loop-again (λ c. omega arith) loop-again-2 returns)
+    (tie.spec Inv-loop μ-loop (λ c. search needs) (λ c. (omega arith, sym (least-none _), picked-none)) (λ c. omega arith)
+    (λ c κs. omega (arith, room c)) (λ c. omega arith)
+    (λ c. let i = c .before .before .before .loop .inv in
+    let r = picked-more (i .1) (i .2) (c .before .cost-at .ensures) (c .if1 .taken) in (omega arith, r .0, r .1))
+    (λ c. omega arith)
+    (λ c. let i = c .before .before .before .loop .inv in
+    let r = picked-kept (i .1) (i .2) (omega (arith, c .before .cost-at .ensures)) in (omega arith, r .0, r .1))
+    (λ c. let e : c .before .loop .t ≡ c .before .before .before .args .n = omega arith in rw e at (c .before .loop .inv .2)))

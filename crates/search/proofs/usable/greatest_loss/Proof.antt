@@ -37,11 +37,10 @@ loop-again-2 c =
           (g .loop .inv .2) (λ y z. absurd (omega arith)),
     )
 
-returns : tie.Need-returns Inv-loop μ-loop
-returns c = let e : c .before .loop .t ≡ c .before .before .args .n = omega arith in (c .before .loop .inv .1, rw e at (c .before .loop .inv .2))
-
 pub greatest-loss-spec : {M : Type 1} → statement M
 greatest-loss-spec =
     tie.close
-    (tie.spec Inv-loop μ-loop (λ c. (omega arith, omega arith, λ u x y. absurd (omega arith))) (λ c. omega arith) (λ c. omega arith) (λ c. search needs) (λ c. omega arith) (λ c κs. search needs) (λ c. search needs)
-    (λ c κs. search needs) (λ c. omega arith) loop-again (λ c. omega arith) loop-again-2 returns)
+    (tie.spec Inv-loop μ-loop (λ c. (omega arith, omega arith, λ u x y. absurd (omega arith))) (λ c. omega arith) (λ c. omega arith)
+    (λ c. search needs) (λ c. omega arith) (λ c κs. search needs) (λ c. search needs) (λ c κs. search needs) (λ c. omega arith) loop-again
+    (λ c. omega arith) loop-again-2
+    (λ c. let e : c .before .loop .t ≡ c .before .before .args .n = omega arith in (c .before .loop .inv .1, rw e at (c .before .loop .inv .2))))

@@ -2,11 +2,9 @@
 -- Assumes nothing.
 use mathlib.Core.Path.{_≡_, refl, _∙_}
 use mathlib.Core.List.{[]}
-use Prim.Native.Nat.{_≤_, _<_, max, min}
+use Prim.Native.Nat.{_≤_, _<_}
 use native.Mathlib.Omega.{arith}
 use borrow.Author.Needs.{needs}
-use lib.ListN.{getD, set}
-use Rattle.nets.specs.Net.{Net}
 use Rattle.nets.specs.Tables.{netOf}
 use Rattle.search.proofs.Usables.{UsableAbove, usable-none, usable-more, usable-end}
 use Rattle.search.proofs.usable.high_of.Statement.{statement}
@@ -18,10 +16,6 @@ Inv-loop parents needs losses sections sizes head highs₀ s₀ highs s =
 
 abbrev μ-loop : tie.MeasureT-loop
 μ-loop parents needs losses sections sizes head highs₀ s₀ highs s = s
-
--- the net of the arguments
-abbrev net : tie.Start Inv-loop μ-loop → Net
-net b = netOf (b .args .sections) (b .args .sizes) (b .args .parents .now) (b .args .needs .now) (b .args .losses .now) []
 
 -- the parent's number is less
 parent-low : (c : tie.After-wide8 Inv-loop μ-loop) → c .wide8 .result < c .before .before .before .before .before .before .before .loop .s
@@ -43,24 +37,22 @@ loop-again c =
     let g = h .before .before .before .before .before in
     let b = g .before in (
       omega arith,
-      usable-more (net b) (b .pre .0) (b .pre .3) (b .args .head) (λ s t. refl) (g .loop .highs) (g .loop .s) (h .greater .result) (w .wide8 .result) (k .greatest-loss .result)
-          (getD (set (g .loop .highs) (g .loop .s) (h .greater .result)) (w .wide8 .result) 0) (c .greater2 .result) (omega arith) (g .loop .inv .0) (g .loop .inv .1)
-          (h .greater .ensures ∙ rw (h .before .lesser .ensures, h .before .before .wide32 .ensures .0)) (w .wide8 .ensures .0) (k .greatest-loss .ensures .1) refl
+      usable-more (b .pre .0) (b .pre .3) (g .loop .inv .1) (λ s t. refl) (k .greatest-loss .result) (omega arith) (g .loop .inv .0)
+          (h .greater .ensures ∙ rw (h .before .lesser .ensures, h .before .before .wide32 .ensures .0)) (w .wide8 .ensures .0) (k .greatest-loss .ensures .1)
           (c .greater2 .ensures ∙ rw (c .before .lesser2 .ensures)),
     )
 
 returns : tie.Need-returns Inv-loop μ-loop
 returns c =
     let g = c .before .before .before .before .before in
-    let b = g .before in
     let e : g .loop .s ≡ 0 = omega arith in
-    usable-end (net b) (b .pre .0) (b .pre .3) (b .args .head) (g .loop .highs) (c .greater3 .result) (rw e at (g .loop .inv .1))
+    usable-end (g .before .pre .0) (g .before .pre .3) (rw e at (g .loop .inv .1))
     (c .greater3 .ensures ∙ rw (c .before .lesser3 .ensures, c .before .before .wide322 .ensures .0))
 
 pub high-of-spec : {M : Type 1} → statement M
 high-of-spec =
     tie.close
-    (tie.spec Inv-loop μ-loop (λ c. (omega arith, usable-none (net c) (c .pre .0) (c .pre .3) (c .args .head))) (λ c. omega arith) (λ c. omega arith) (λ c. omega arith) (λ c. omega arith)
+    (tie.spec Inv-loop μ-loop (λ c. (omega arith, usable-none (c .pre .0) (c .pre .3))) (λ c. omega arith) (λ c. omega arith) (λ c. omega arith) (λ c. omega arith)
     (λ c κs. search needs) (λ c κs. search needs) (λ c κs. search needs) (λ c. omega arith) (λ c. omega arith) (λ c. omega arith) (λ c κs. search needs) (λ c. omega arith)
     (λ c κs. omega arith) (λ c. omega (arith, parent-low (c .before))) (λ c. omega (arith, parent-low (c .before)))
     (λ c. omega (arith, high-most (c .before .before .before))) (λ c κs. search needs) (λ c κs. search needs)
