@@ -38,9 +38,10 @@ use Rattle.sizing.specs.Losses.{listOk, readingOf, lossAt, lossesOf}
 use Rattle.sizing.proofs.LossBounds.{loss-top}
 use Rattle.sizing.proofs.Named.{list-names}
 use Rattle.sizing.proofs.Trying.{read-top}
-use Rattle.rating.specs.Calls.{rateChecks, rateNo, headsBytes, ratedBytes, rateBytes}
+use Rattle.rated_bytes.specs.RatedBytes.{headsBytes, resultBytes}
+use Rattle.rating.specs.Calls.{rateChecks, rateNo, rateBytes}
 use Rattle.rating.specs.Contracts.{Rateable}
-use Rattle.rating.proofs.Written.{heads-length, section-length}
+use Rattle.rated_bytes.proofs.Written.{heads-length, section-length}
 use Rattle.order.specs.Promises.{Rated}
 use Rattle.demands.specs.Demand2.{Bytes, RateFigures}
 
@@ -111,23 +112,26 @@ module _ (b cat sizes out₀ out : List ℕ) (bytes : Bytes cat) (g : Rated b ca
   heads : List ℕ
   heads = headsBytes (decode b) (lossesOf (decode b) cat sizes)
 
+  section : ℕ → List ℕ
+  section i = bytesOf 2 (readingOf (decode b) cat (sizeOf sizes i) i .velocity) ++ bytesOf 4 (lossesOf (decode b) cat sizes i)
+
   rest : List ℕ
   rest = drop (length (rateBytes (decode b) cat sizes)) out₀
 
-  result : out ≡ heads ++ (concatTo (countOf (decode b)) (ratedBytes (decode b) cat sizes) ++ rest)
-  unfolding rateBytes heads rest
+  result : out ≡ heads ++ (concatTo (countOf (decode b)) section ++ rest)
+  unfolding rateBytes resultBytes heads section rest
   result = g .buffer ∙ stored-front out₀ (rateBytes (decode b) cat sizes) ∙ append-assoc heads _ _
 
   -- the six bytes of section i
-  section : (i : ℕ) → 0 < i → i ≤ countOf (decode b) → part out (9 + 6 * (i - 1)) 6 ≡ ratedBytes (decode b) cat sizes i
-  unfolding ratedBytes heads
-  section i h k =
+  section-at : (i : ℕ) → 0 < i → i ≤ countOf (decode b) → part out (9 + 6 * (i - 1)) 6 ≡ section i
+  unfolding heads section
+  section-at i h k =
       rw result
-      (concat-within 6 (ratedBytes (decode b) cat sizes) (λ j. section-length _ _) (countOf (decode b)) i heads rest 9
+      (concat-within 6 section (λ j. section-length _ _) (countOf (decode b)) i heads rest 9
       (heads-length (decode b) (lossesOf (decode b) cat sizes)) h k)
 
   pub rate-figures : RateFigures (decode b) cat sizes out
-  unfolding heads headsBytes ratedBytes bytesOf
+  unfolding heads headsBytes section bytesOf
   rate-figures =
       let p : Rateable (decode b) cat sizes = rateable in
       let z : ℤ = requiredOf (decode b) (lossesOf (decode b) cat sizes) in
@@ -139,10 +143,10 @@ module _ (b cat sizes out₀ out : List ℕ) (bytes : Bytes cat) (g : Rated b ca
         dictating = rw result;
         velocity = λ i h k.
             let top = velocity-small p bytes i h k in
-            field-of 2 out (ratedBytes (decode b) cat sizes i) (9 + 6 * (i - 1)) 6 0 (9 + 6 * (i - 1)) _ (section i h k)
+            field-of 2 out (section i) (9 + 6 * (i - 1)) 6 0 (9 + 6 * (i - 1)) _ (section-at i h k)
             (omega arith) (omega arith) (omega arith) refl;
         loss = λ i h k.
             let top = loss-small p bytes i h k in
-            field-of 4 out (ratedBytes (decode b) cat sizes i) (9 + 6 * (i - 1)) 6 2 (11 + 6 * (i - 1)) _ (section i h k)
+            field-of 4 out (section i) (9 + 6 * (i - 1)) 6 2 (11 + 6 * (i - 1)) _ (section-at i h k)
             (omega arith) (omega arith) (omega arith) refl;
       }

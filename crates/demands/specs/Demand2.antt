@@ -20,7 +20,8 @@ use Rattle.acceptance.specs.Acceptance.{jobNo}
 use Rattle.catalogue.specs.Rules.{catNo}
 use Rattle.sizing.specs.Losses.{listOk, overAny, readingOf, lossesOf}
 use Rattle.flow.specs.Calls.{flowLength, flowNo, dutyNo}
-use Rattle.rating.specs.Calls.{rateLength, rateNo}
+use Rattle.rated_bytes.specs.RatedBytes.{rateLength}
+use Rattle.rating.specs.Calls.{rateNo}
 use Rattle.order.specs.Promises.{Copied, FlowGiven, DutyGiven, Rated}
 
 -- what is lent is bytes, as it always is: the parameters are slices of bytes
