@@ -1,7 +1,7 @@
 -- The tree of sections that the search looks at, drawn from a job and a catalogue.
 -- Assumes nothing.
 use mathlib.Core.Path.{_≡_}
-use mathlib.Core.Bool.{Bool, false, not, cond}
+use mathlib.Core.Bool.{false, not, cond}
 use mathlib.Core.List.{List}
 use Prim.Native.Nat.{ℕ, _+_, _-_, _*_, _≤_, _<_}
 use lib.IntN.{pos, _+ℤ_}

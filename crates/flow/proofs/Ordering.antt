@@ -1,9 +1,8 @@
 -- The numbers of the flow call and of the duty call, each check after those before it.
 -- Assumes nothing.
 use mathlib.Core.Path.{_≡_, _∙_}
-use mathlib.Core.List.{List, [], _∷_}
+use mathlib.Core.List.{List, []}
 use Prim.Native.Nat.{ℕ, _≤_, _<_}
-use Rattle.answer.specs.Checks.{tooShort}
 use Rattle.answer.proofs.First.{first-none, short-found, short-next}
 use Rattle.fields.specs.Fields.{countOf}
 use Rattle.record.specs.Record.{decode}

@@ -1,18 +1,18 @@
 -- The numbers of reading, writing and copying, part by part of their lists of checks.
 -- Assumes nothing.
 use mathlib.Core.Path.{_≡_, _∙_}
-use mathlib.Core.Bool.{true, false, not, cond}
+use mathlib.Core.Bool.{true, false, not}
 use mathlib.Core.List.{List, [], _∷_}
 use Prim.{tt}
 use Prim.Native.Nat.{ℕ, _≤_, _<_}
 use native.Mathlib.Omega.{arith}
 use lib.ListN.{length}
-use lib.Dec.{ltb, eqb}
-use borrow.Author.Tests.{lt-ltb, le-ltb, ltb-false, eq-eqb, ne-eqb, not-false}
+use lib.Dec.{ltb}
+use borrow.Author.Tests.{ltb-false, not-false}
 use Rattle.answer.specs.Checks.{firstNo, tooShort}
 use Rattle.answer.proofs.First.{Numbered, first-none, first-found, first-next, short-found, short-next, first-clear, first-after, first-before, first-split, numbered-append}
 use Rattle.fields.specs.declared.Job.{Job}
-use Rattle.fields.specs.Fields.{blankJob, countOf}
+use Rattle.fields.specs.Fields.{countOf}
 use Rattle.rules.specs.Rules.{headerOk, fieldChecks}
 use Rattle.record.specs.Record.{lengthOf, decode}
 use Rattle.job.proofs.Stages.{stage-first, stage-second, fields-given}

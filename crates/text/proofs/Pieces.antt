@@ -7,7 +7,6 @@ use native.Mathlib.Omega.{arith}
 use native.Mathlib.Nat.{mul-zero, mul-suc}
 use lib.ListN.{length, set, length-append, length-set}
 use Rattle.basis.specs.Range.{concatTo}
-use Rattle.basis.specs.Stored.{stored}
 use Rattle.basis.proofs.Concat.{concat-none, concat-more}
 use Rattle.basis.proofs.Stored.{stored-none, stored-one, stored-next}
 use Rattle.text.specs.Pieces.{Wrote}
