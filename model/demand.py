@@ -2,6 +2,7 @@
 
     alpha(m)          the coefficient, in millionths
     flow(data, room)  gives (0, result), or (number, None) with 1 to 9 or 14
+    duty(data, room)  the same of the house's design flow (docs/DECISIONS.md, 62)
 
 The formulas are those of SNiP 2.04.01-85, in their own units (litres, seconds,
 hours) and as exact fractions; a figure is rounded only where document 01 says
@@ -181,6 +182,11 @@ def house_figures(house):
     return hour(house), day(house), mean_hour(house)
 
 
+def house_flow(house):
+    """What the pump set delivers: "The house's m takes n = N". """
+    return design_flow(everything(house), house)
+
+
 def section_flows(house):
     """The flows of sections 1 to S."""
     return [design_flow(served_by(number, house), house) for number in range(1, house.S + 1)]
@@ -222,25 +228,30 @@ def acceptance_number(data):
     return 9 if too_crowded(house) else 0
 
 
-def flow_number(data, room):
-    """14, a "result buffer too short", comes after 1 to 9."""
-    number = acceptance_number(data)
-    if number != 0:
-        return number
-    return 14 if room < result_length(job.decode(data)) else 0
+# The results: of flow "hour, day, mean hour, S flows (4 bytes each)", of duty the
+# house's flow, in 4 bytes too
 
-
-# The result: "hour, day, mean hour, S flows (4 bytes each)"
-
-def result_length(house):
-    return 4 * (3 + house.S)
-
-
-def result(house):
+def flow_result(house):
     figures = list(house_figures(house)) + section_flows(house)
     return struct.pack(f">{len(figures)}I", *figures)
 
 
+def duty_result(house):
+    return struct.pack(">I", house_flow(house))
+
+
+def given(data, room, result):
+    """14, a "result buffer too short", comes after 1 to 9."""
+    number = acceptance_number(data)
+    if number != 0:
+        return number, None
+    found = result(job.decode(data))
+    return (14, None) if room < len(found) else (0, found)
+
+
 def flow(data, room):
-    number = flow_number(data, room)
-    return number, result(job.decode(data)) if number == 0 else None
+    return given(data, room, flow_result)
+
+
+def duty(data, room):
+    return given(data, room, duty_result)

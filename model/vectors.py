@@ -1,4 +1,4 @@
-"""Test vectors for job records, design flows, ratings, sheets and choices.
+"""Test vectors for job records, design flows, duties, ratings, sheets and choices.
 
     python3 model/vectors.py STDIN STDOUT
 
@@ -20,6 +20,7 @@ second part (2 each), and the first, second and third part. The room is at most
     c   a record to copy
     a   an m (4 bytes) whose coefficient is wanted
     f   a job whose flows are wanted
+    d   a job whose duty is wanted, the house's design flow
     p   a job, a catalogue and a size list to rate
     s   an input whose sheet is wanted: its bytes, and the length is the number
         of zero bytes that follow them, in all at most 131,072
@@ -30,7 +31,7 @@ Output, a line for each line. A comment stands as it is. A number is four bytes,
 and a buffer is shown whole, as it is after the call.
     r   the number; when it is 0, the fields laid out as a record's from byte 5
         on, and the number and the buffer of writing
-    w, c, f, p   the number and the buffer
+    w, c, f, d, p   the number and the buffer
     a   the coefficient in millionths, four bytes
     s   the text
     l   the number and the buffer; where the number is 1 to 15, 01 if the whole
@@ -39,13 +40,13 @@ and a buffer is shown whole, as it is after the call.
         cheapest lists comes is free, and office/tests/stored.rs judges it
 
 Every vector has its number written by hand, those of `a` and `f` in
-flow_vectors.py, those of `p` in rating_vectors.py, those of `s` in
-sheet_vectors.py and those of `l` and `k` in choosing_vectors.py. It is compared
-with the model (job.py, demand.py, catalogue.py, rating.py, sheet.py,
-choosing.py). Where `lines` is given, they stand in the model's answer in words
-one after another. Where `holds` is given, these are all the refusals whose
-condition holds; they stand in the comment, and office/tests/stored.rs compares
-them, and every answer, with the model of office/.
+flow_vectors.py, those of `d` in duty_vectors.py, those of `p` in
+rating_vectors.py, those of `s` in sheet_vectors.py and those of `l` and `k` in
+choosing_vectors.py. It is compared with the model (job.py, demand.py,
+catalogue.py, rating.py, sheet.py, choosing.py). Where `lines` is given, they
+stand in the model's answer in words one after another. Where `holds` is given,
+these are all the refusals whose condition holds; they stand in the comment, and
+office/tests/stored.rs compares them, and every answer, with the model of office/.
 """
 
 import collections
@@ -57,6 +58,7 @@ import sys
 
 import choosing_vectors
 import demand
+import duty_vectors
 import flow_vectors
 import job
 import rating_vectors
@@ -498,7 +500,8 @@ GROUPS = [
     ("writer, section counts", writer_counts), ("writer, order", writing_order),
     ("writer, places", writer_places), ("writer, values", writer_values),
     ("writer, residents", writer_residents), ("copying", copies),
-] + flow_vectors.GROUPS + rating_vectors.GROUPS + sheet_vectors.GROUPS + choosing_vectors.GROUPS
+] + (flow_vectors.GROUPS + duty_vectors.GROUPS + rating_vectors.GROUPS + sheet_vectors.GROUPS
+     + choosing_vectors.GROUPS)
 
 # The answers to the own case and to three of its copies, by hand.
 OWN_ANSWER = [
@@ -585,6 +588,7 @@ CALLS = {
     "w": Call("write", roomed, write_lines, write_bytes),
     "c": Call("copy", roomed, copy_lines, copy_bytes),
     **flow_vectors.CALLS,
+    **duty_vectors.CALLS,
     **rating_vectors.CALLS,
     **sheet_vectors.CALLS,
     **choosing_vectors.CALLS,

@@ -26,6 +26,7 @@ fn call_of(letter: char) -> Option<Call> {
     match letter {
         'c' => Some(Call::Copy),
         'f' => Some(Call::Flow),
+        'd' => Some(Call::Duty),
         'p' => Some(Call::Rate),
         'l' | 'k' => Some(Call::Choose),
         _ => None,
@@ -97,7 +98,7 @@ fn by_the_library(call: Call, vector: &Vector) -> String {
 
 #[test]
 fn exported_calls() {
-    for vector in with("cfplk") {
+    for vector in with("cfdplk") {
         let call = call_of(vector.letter).expect("an exported call");
         assert_eq!(by_the_model(call, &vector), vector.answer, "the model: {}", vector.name);
         assert_eq!(by_the_library(call, &vector), vector.answer, "the library: {}", vector.name);
@@ -219,11 +220,12 @@ fn refusals_that_hold() {
             alone.push((vector.letter, number));
         }
     }
-    let numbers: [(char, &[u32]); 7] = [
+    let numbers: [(char, &[u32]); 8] = [
         ('r', &[1, 2, 3, 4, 5, 6, 7]),
         ('w', &[3, 5, 6, 7, 14]),
         ('c', &[1, 2, 3, 4, 5, 6, 7, 14]),
         ('f', &[1, 2, 3, 4, 5, 6, 7, 8, 9, 14]),
+        ('d', &[1, 2, 3, 4, 5, 6, 7, 8, 9, 14]),
         ('p', &[1, 2, 3, 4, 5, 6, 7, 8, 9, 10, 11, 12, 13, 14]),
         ('s', &[2, 3, 4, 5, 6, 7, 8, 9, 10, 11, 12, 13]),
         ('l', &[1, 2, 3, 4, 5, 6, 7, 8, 9, 10, 11, 14, 15, 16]),

@@ -59,6 +59,7 @@ fn call(
         b'c' => copy(job, out),
         b'a' => alpha(job),
         b'f' => flow(job, out),
+        b'd' => duty(job, out),
         b'p' => rate(job, catalogue, list, out),
         b's' => sheet(job, length, out),
         b'l' | b'k' => choose(letter, fill, length, job, catalogue, out),
@@ -81,6 +82,11 @@ fn alpha(m: &[u8]) {
 
 fn flow(record: &[u8], out: &mut [u8]) {
     let answer = flow::flow(record, out);
+    print::given(answer, out);
+}
+
+fn duty(record: &[u8], out: &mut [u8]) {
+    let answer = flow::duty(record, out);
     print::given(answer, out);
 }
 
