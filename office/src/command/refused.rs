@@ -4,9 +4,10 @@ use super::input::Source;
 use super::json::Json;
 use office::Refusal;
 use office::at::At;
+use office::catalogue::Catalogue;
 use office::places::{Asked, Place, places};
 use office::record::Record;
-use office::warnings::warnings;
+use office::warnings::{off_velocity, warnings};
 
 /// What the refused call was given.
 #[derive(Clone, Copy, Default)]
@@ -61,10 +62,12 @@ impl Given<'_> {
         ])
     }
 
-    /// What is nearly always a slip in the house, although the library takes it.
+    /// What is nearly always a slip in the house or in the table, although the library takes it.
     fn warnings(&self) -> Vec<Place> {
         let record = self.job.and_then(|job| Record::read(&job.bytes).ok());
-        record.map_or(Vec::new(), |record| warnings(&record))
+        let catalogue = self.cat.and_then(|cat| Catalogue::read(&cat.bytes).ok());
+        let of_house = record.iter().flat_map(warnings);
+        of_house.chain(catalogue.iter().filter_map(off_velocity)).collect()
     }
 
     /// The warnings for people.
