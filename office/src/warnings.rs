@@ -78,11 +78,11 @@ fn long(number: u8, section: &Section, high: i64) -> Option<Place> {
 
 /// The warning of a table of sizes: the first row whose velocity is not that of its flow through its bore.
 pub fn off_velocity(catalogue: &Catalogue) -> Option<Place> {
-    let rows = (1_u8..).zip(&catalogue.sizes).flat_map(|(number, size)| {
-        (1_u8..).zip(&size.rows).map(move |(row, figures)| (At::Row(number, row), size.bore, figures))
+    let rows = (1..=255).zip(&catalogue.sizes).flat_map(|(number, size)| {
+        (1..=255).zip(&size.rows).map(move |(row, figures)| (At::Row(number, row), size.bore, figures))
     });
     let mut off = rows.filter_map(|(at, bore, row)| {
-        let through = velocity(bore, row)?;
+        let through = of_flow(bore, row)?;
         let (less, more) = (through.min(row.velocity.into()), through.max(row.velocity.into()));
         // Velocities are whole, so that slow ones may be a factor apart and still the same.
         (2 * more > 3 * less && more - less > 1).then_some((at, bore, row, through))
@@ -95,8 +95,8 @@ pub fn off_velocity(catalogue: &Catalogue) -> Option<Place> {
     Some(Place::new(at, why))
 }
 
-/// The flow over the area of the bore, in whole mm/s. 355/113 is π to six decimals.
-fn velocity(bore: u16, row: &Row) -> Option<u64> {
+/// The velocity of a row's flow, which is the flow over the area of the bore, in whole mm/s. 355/113 is π to six decimals.
+fn of_flow(bore: u16, row: &Row) -> Option<u64> {
     let square = u64::from(bore) * u64::from(bore);
     (u64::from(row.flow) * 4_000 * 113).checked_div(355 * square)
 }
