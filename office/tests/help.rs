@@ -218,7 +218,7 @@ fn versions_a_line_each() {
     assert_eq!(parsed.get("library_version"), &Value::Text(version.into()));
     assert_eq!(parsed.get("specification"), &Value::Text("document 01".into()));
     misused(office(&["flow", "examples/house.txt", "--version"]), "`--version` stands alone");
-    misused(office(&["--version", "please"]), "`--version` takes no words, not 1");
+    misused(office(&["--version", "please"]), "`--version` takes no words, but `please` is given");
 }
 
 /// The commands' usages as `office help` lists them.

@@ -87,10 +87,22 @@ impl Given<'_> {
     }
 }
 
+impl Given<'_> {
+    /// A line for each file that has no bytes at all: what was meant is a file to fill in, and no record of no bytes.
+    fn empty(&self) -> String {
+        let sources = [(self.job, "house"), (self.cat, "table")];
+        let empty =
+            sources.iter().filter_map(|(source, what)| Some((source.filter(|own| own.bytes.is_empty())?, what)));
+        empty
+            .map(|(own, what)| format!("{} is empty; `office new {what}` gives a {what} to start from\n", own.name))
+            .collect()
+    }
+}
+
 /// The refusal for people.
 pub fn words(refusal: &Refusal, given: &Given) -> String {
     let found = given.places(refusal);
-    let mut text = format!("{refusal}\n");
+    let mut text = format!("{}{refusal}\n", given.empty());
     if found.is_empty() {
         text.push_str("  no place was found for it; the number is the library's and stands\n");
     }
