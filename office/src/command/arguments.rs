@@ -140,7 +140,7 @@ impl Arguments {
             (self.out.is_some(), "-o"),
             (self.seed.is_some(), "--seed"),
         ];
-        for (_, option) in options.iter().filter(|(given, option)| *given && !known.usage.contains(option)) {
+        if let Some((_, option)) = options.iter().find(|(given, option)| *given && !known.usage.contains(option)) {
             return misuse(format!("`{}` has no option {option}", self.command));
         }
         if self.words.iter().filter(|word| *word == "-" || *word == "@-").count() > 1 {
