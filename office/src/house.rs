@@ -10,7 +10,7 @@ mod sections;
 use crate::at::{At, Field, Lines};
 use crate::line::Line;
 use crate::measure::Quantity;
-use crate::mistake::Mistakes;
+use crate::mistake::{Mistake, Mistakes};
 use crate::readable;
 use crate::record::{NoRecord, Record};
 
@@ -32,17 +32,22 @@ pub fn read(text: &str) -> Result<Packed, Mistakes> {
     let mut given = sections::Given::default();
     let mut places = Lines::default();
     let mut mistakes = Mistakes::default();
+    if readable::lines(text).next().is_none() {
+        let expected = "the lines of a house; `office new house` gives one to start from";
+        return Err(Mistake::lacking("the file is empty, or has nothing but comments", expected).into());
+    }
     for source in readable::lines(text) {
-        if let Some(fault) = source.fault() {
-            mistakes.add(fault);
-            continue;
-        }
         let mut line = Line::of(&source);
+        // A line that is cut off by a doubtful # is there, and not to be called missing; what else is wrong with it may come
+        // of the cut.
+        let (fault, mut of_the_cut) = (source.fault(), Mistakes::default());
+        let found = if fault.is_some() { &mut of_the_cut } else { &mut mistakes };
         if line.begins("section") {
-            given.take(&mut line, &mut places, &mut mistakes);
+            given.take(&mut line, &mut places, found);
         } else if let Err(mistake) = head.take(&mut line, &mut places) {
-            mistakes.add(mistake);
+            found.add(mistake);
         }
+        fault.into_iter().for_each(|fault| mistakes.add(fault));
     }
     head.missing(&places).into_iter().for_each(|mistake| mistakes.add(mistake));
     let mut record = head.record();

@@ -48,6 +48,11 @@ impl<'a> Line<'a> {
         self.words.get(self.at).map(String::as_str)
     }
 
+    /// Whether the next word is the last before the line's end or before one of these words.
+    fn stands_alone(&self, keywords: &[&str]) -> bool {
+        self.words.get(self.at + 1).is_none_or(|word| keywords.contains(&word.as_str()))
+    }
+
     /// Goes on to the next of these words, so that one mistake does not hide those behind it.
     pub fn skip_to(&mut self, keywords: &[&str]) {
         while self.peek().is_some_and(|word| !keywords.contains(&word)) {
@@ -113,9 +118,17 @@ impl<'a> Line<'a> {
         keywords: &[&str],
     ) -> Result<u32, Mistake> {
         let next = if glued.is_empty() { self.peek().unwrap_or("").to_string() } else { glued.to_string() };
+        if glued.is_empty() && next.starts_with(|c: char| c.is_ascii_digit()) {
+            let rest: String = next.chars().take_while(|c| ".,0123456789".contains(*c)).collect();
+            let wrong = format!("a blank stands within the number of `{what}`, `{number} {rest}`");
+            return Err(self.mistake(wrong, format!("no blank in a number, {}", measure.example(what))));
+        }
         if let Some(power) = measure.power("") {
-            // Another word behind a bare number is the next field's, or one too many; a percent sign belongs to the number.
-            return if glued.is_empty() && next != "%" { Ok(power) } else { Err(self.unitless(what, measure, &next)) };
+            // A single word behind a bare number is a unit, if it is not the next field's; several are too many. A percent
+            // sign belongs to the number.
+            let word = next.starts_with(char::is_alphabetic) && !keywords.contains(&next.as_str());
+            let unit = !glued.is_empty() || next == "%" || (word && self.stands_alone(keywords));
+            return if unit { Err(self.unitless(what, measure, &next)) } else { Ok(power) };
         }
         if let Some(power) = measure.power(&next) {
             self.at += usize::from(glued.is_empty());

@@ -127,6 +127,8 @@ pub enum Fault {
     Point,
     /// Three digits behind a point where the record keeps fewer decimals: they may be thousands.
     Thousands,
+    /// The same where they can't be thousands, since no thousand begins with 0, and are zeros behind the kept decimals.
+    Decimals,
     TooFine,
     TooLong,
 }
@@ -189,6 +191,7 @@ impl Measure {
         let joined = text.replace('.', "");
         let front = text.split('.').next().unwrap_or("");
         let short = if text.contains('.') { text.trim_end_matches('0').trim_end_matches('.') } else { text };
+        let thousands = behind.len() == 3 && begins_a_thousand(front);
         match fault {
             Fault::NoNumber => (format!("`{text}` is no number for `{what}`"), self.example(what)),
             Fault::Comma if power == 0 => {
@@ -203,7 +206,11 @@ impl Measure {
                 format!("`{text}` for `{what}` may be {short} or {joined}"),
                 "fewer decimals, and nothing between thousands".to_string(),
             ),
-            Fault::Point if behind.len() == 3 => (
+            Fault::Decimals => (
+                format!("`{text}` for `{what}` has more decimals than the record keeps"),
+                format!("{}; write {short} if that is meant", self.taken),
+            ),
+            Fault::Point if thousands => (
                 format!("`{text}` for `{what}` has a point: it may be {front} or {joined}"),
                 format!("{whole}, nothing between thousands"),
             ),
@@ -227,6 +234,11 @@ pub fn shown(value: i64, power: u32) -> String {
     format!("{sign}{}.{:0width$}", value.abs() / ten, value.abs() % ten, width = power as usize)
 }
 
+/// Whether digits, with a sign or without, may be what stands before a thousand's three digits.
+fn begins_a_thousand(front: &str) -> bool {
+    !front.trim_start_matches(['+', '-']).starts_with('0')
+}
+
 /// A decimal number times 10 to the power, if that is whole and can mean one thing only.
 pub fn whole(text: &str, power: u32) -> Result<i64, Fault> {
     if text.contains(',') {
@@ -244,12 +256,15 @@ pub fn whole(text: &str, power: u32) -> Result<i64, Fault> {
     if digits.contains('.') && power == 0 {
         return Err(Fault::Point);
     }
-    if part.len() == 3 && power < 3 {
+    let kept = part.trim_end_matches('0');
+    if part.len() == 3 && power < 3 && begins_a_thousand(whole) {
         return Err(Fault::Thousands);
     }
-    let kept = part.trim_end_matches('0');
     if kept.len() > power as usize {
         return Err(Fault::TooFine);
+    }
+    if part.len() == 3 && power < 3 {
+        return Err(Fault::Decimals);
     }
     // Twelve digits are more than any field holds and can't overflow.
     if whole.len() > 12 {
@@ -290,6 +305,12 @@ mod tests {
         }
         for (text, power) in [("1.000", 1), ("12.500", 1), ("1.000", 2), ("-3.250", 2)] {
             assert_eq!(ELEVATION.number(text, power), Err(Fault::Thousands), "{text}");
+        }
+        // No thousand begins with 0.
+        for (text, power, fault) in
+            [("0.505", 2, Fault::TooFine), ("-0.500", 2, Fault::Decimals), ("0.300", 1, Fault::Decimals)]
+        {
+            assert_eq!(ELEVATION.number(text, power), Err(fault), "{text}");
         }
     }
 

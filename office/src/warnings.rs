@@ -2,6 +2,7 @@
 //! alone; a warning stands beside its answer. There are few, so that they are read.
 
 use crate::at::{At, Field};
+use crate::catalogue::{Catalogue, Row};
 use crate::places::Place;
 use crate::record::{Record, Section};
 
@@ -27,7 +28,8 @@ pub fn warnings(record: &Record) -> Vec<Place> {
 fn heads(record: &Record) -> Option<Place> {
     let Record { guaranteed, delivered, .. } = *record;
     let why = format!(
-        "{guaranteed} cm, more than the delivered head of {delivered} cm, which is guaranteed and pump head together"
+        "{guaranteed} cm, more than the delivered head of {delivered} cm, which is the guaranteed head and the most that \
+         the pump set may add"
     );
     (guaranteed > delivered).then(|| Place::new(At::Field(Field::Guaranteed), why))
 }
@@ -54,9 +56,12 @@ fn steep(record: &Record, number: u8, section: &Section) -> Option<Place> {
     };
     let to = i64::from(section.elevation);
     let (rise, length) = ((to - from).abs(), 10 * i64::from(section.length));
-    let above = if section.parent == 0 { "the pump".to_string() } else { format!("section {}", section.parent) };
+    let above = match section.parent {
+        0 => "the pump".to_string(),
+        parent => format!("the end of section {parent}"),
+    };
     let why = format!(
-        "its end lies at {to} cm and the end of {above} at {from} cm, {rise} cm apart, but the pipe is {length} cm long; \
+        "its end lies at {to} cm and {above} at {from} cm, {rise} cm apart, but the pipe is {length} cm long; \
          are elevation, unit and sign right?"
     );
     (rise > length + ROUNDED).then(|| Place::new(At::Section(number), why))
@@ -69,4 +74,29 @@ fn long(number: u8, section: &Section, high: i64) -> Option<Place> {
         "it is {length} cm long, over ten times the {high} cm that the house is taken as high; is the point right?"
     );
     (length > 10 * high).then(|| Place::new(At::Section(number), why))
+}
+
+/// The warning of a table of sizes: the first row whose velocity is not that of its flow through its bore.
+pub fn off_velocity(catalogue: &Catalogue) -> Option<Place> {
+    let rows = (1..=255).zip(&catalogue.sizes).flat_map(|(number, size)| {
+        (1..=255).zip(&size.rows).map(move |(row, figures)| (At::Row(number, row), size.bore, figures))
+    });
+    let mut off = rows.filter_map(|(at, bore, row)| {
+        let through = of_flow(bore, row)?;
+        let (less, more) = (through.min(row.velocity.into()), through.max(row.velocity.into()));
+        // Velocities are whole, so that slow ones may be a factor apart and still the same.
+        (2 * more > 3 * less && more - less > 1).then_some((at, bore, row, through))
+    });
+    let (at, bore, Row { flow, velocity, .. }, through) = off.next()?;
+    let why = format!(
+        "the velocity is {velocity} mm/s, but {flow} ml/s through a bore of {bore} mm flow at {through} mm/s; are two \
+         columns swapped, flow and velocity or bore and price, or is one in another unit, such as l/h or cm/s?"
+    );
+    Some(Place::new(at, why))
+}
+
+/// The velocity of a row's flow, which is the flow over the area of the bore, in whole mm/s. 355/113 is π to six decimals.
+fn of_flow(bore: u16, row: &Row) -> Option<u64> {
+    let square = u64::from(bore) * u64::from(bore);
+    (u64::from(row.flow) * 4_000 * 113).checked_div(355 * square)
 }

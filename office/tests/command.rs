@@ -156,7 +156,13 @@ fn every_refusal_is_said_alike_in_words_and_json() {
     assert_eq!(refused.list("places")[0].get("line"), &Value::Null);
     let bad = office_with(&["draw", HOUSE, "-"], &cat[1..]);
     assert!(bad.status == 1 && bad.text().starts_with("refused 10: "), "{}", bad.text());
-    assert_eq!(office_with(&["flow", "-"], b"").text().lines().next(), Some(refusal.to_string().as_str()));
+    let empty = office_with(&["flow", "-"], b"");
+    let advice = "standard input is empty; `office new house` gives a house to start from\n";
+    assert!(empty.status == 1 && empty.text().starts_with(&format!("{advice}{refusal}\n")), "{}", empty.text());
+    let empty = office_with(&["choose", HOUSE, "-"], b"").text();
+    let advice = "standard input is empty; `office new table` gives a table to start from\nrefused 10: ";
+    assert!(empty.starts_with(advice), "{empty}");
+    assert_eq!(json::parse(&office_with(&["flow", "-", "--json"], b"").text()).get("refusal").number("number"), 1);
 }
 
 #[test]
@@ -182,7 +188,7 @@ fn the_documented_messages_are_the_real_ones() {
 
 #[test]
 fn misuse_has_status_2_and_says_why() {
-    let cases: [(&[&str], &str); 15] = [
+    let cases: [(&[&str], &str); 20] = [
         (&["frobnicate"], "there is no command `frobnicate`; the commands are pack, show"),
         (&["flow"], "`flow` takes 1 word, not 0\nusage: office flow JOB"),
         (&["rate", HOUSE, TABLE], "`rate` takes 3 words, not 2"),
@@ -190,6 +196,11 @@ fn misuse_has_status_2_and_says_why() {
         (&["flow", HOUSE, "-o"], "`-o` wants a file"),
         (&["flow", HOUSE, "--seed", "7"], "`flow` has no option --seed"),
         (&["draw", HOUSE, TABLE, "--json"], "`draw` has no option --json"),
+        (&["kinds", "--text"], "`kinds` has no option --text\nusage: office kinds"),
+        (&["--version", "--record"], "`--version` has no option --record"),
+        (&["show", "--text", HOUSE], "`show` has no option --text"),
+        (&["choose", HOUSE, TABLE, "--text"], "`--record` or `--text` stands before the file that it is about"),
+        (&["kinds", "hotel-75"], "`kinds` takes no words, but `hotel-75` is given\nusage: office kinds"),
         (&["flow", "no-such-file"], "no-such-file can't be read"),
         (&["flow", HOUSE, "-o", "no-such-folder/file"], "no-such-folder/file can't be written"),
         (&["flow", TABLE], "is a table of sizes; a house is expected"),

@@ -99,6 +99,70 @@ fn new_files_are_taken_without_refusal_or_warning() {
 }
 
 #[test]
+fn the_list_begins_with_what_an_installer_does_first() {
+    let list = answered(&["help"]);
+    let first = list.split("\n\n").nth(1).expect("lines to start with");
+    let lines: Vec<&str> = first.lines().map(str::trim_start).collect();
+    let wanted =
+        ["office new house -o house.txt ", "office new table -o table.csv ", "office choose house.txt table.csv "];
+    assert_eq!(lines.len(), wanted.len());
+    lines.iter().zip(wanted).for_each(|(line, words)| assert!(line.starts_with(words), "{line}"));
+    // Done one after another in an empty folder they give an answer.
+    let files = [scratch("first-house.txt"), scratch("first-table.csv")];
+    files.iter().for_each(|file| drop(std::fs::remove_file(file)));
+    answered(&["new", "house", "-o", &files[0]]);
+    answered(&["new", "table", "-o", &files[1]]);
+    assert!(answered(&["choose", &files[0], &files[1]]).starts_with("pump set: "));
+}
+
+/// A line of the glossary: what it says of a word.
+fn glossary(word: &str) -> String {
+    let page = read("docs/ARCHITECTURE.md");
+    let line = page.lines().find_map(|line| line.strip_prefix(&format!("|{word}|"))).expect(word);
+    line.trim_end_matches('|').to_string()
+}
+
+/// A text without its line ends, and without the signs for comments.
+fn plain(text: &str) -> String {
+    unfolded(&text.replace('#', " "))
+}
+
+#[test]
+fn a_word_of_the_trade_means_the_same_everywhere() {
+    let (template, rate) = (plain(&answered(&["new", "house"])), unfolded(&answered(&["help", "rate"])));
+    let losses = glossary("local losses");
+    let (_, when) = losses.split_once(". ").expect("what they are, and when which");
+    assert!(when.starts_with("0.3 for ") && when.contains("; 0.2 where ") && template.contains(when), "{when}");
+    let delivered = glossary("delivered head H");
+    let (what, parts) = delivered.split_once(": ").expect("what it is, and of what");
+    assert!(template.contains(&delivered), "{delivered}");
+    assert!(rate.contains(&format!("Delivered head: {what}, {parts}.")), "{delivered}");
+    let parts = parts.replace("the set", "the pump set");
+    assert!(read("docs/FILES.md").contains(&format!("the delivered head, which is {parts}.\n")), "{parts}");
+    let house = answered(&["new", "house"]).replace("guaranteed head 1000 cm", "guaranteed head 3000 cm");
+    let warned = office_with(&["flow", "-"], house.as_bytes()).error;
+    assert!(warned.ends_with(&format!("the delivered head of 2000 cm, which is {parts}\n")), "{warned}");
+    let pump = glossary("pump head");
+    let needs = pump.strip_prefix("what a list of sizes needs of the pump set: ").expect("whose head it is");
+    assert!(rate.contains(&format!("Pump head: what the list needs of the pump set, {needs}.")), "{pump}");
+    assert!(rate.contains(&format!("Dictating section: {}", glossary("dictating section"))), "{rate}");
+    assert!(answered(&["help", "choose"]).contains("`office help rate` explains the heads and the dictating section"));
+    for number in ["8", "9"] {
+        let of_m = unfolded(&answered(&["help", number]));
+        assert!(of_m.contains("m, which is how many ") && of_m.contains(" are in use at once on average, "), "{of_m}");
+    }
+}
+
+#[test]
+fn the_help_says_what_is_so_of_blanks_units_and_files() {
+    let files = unfolded(&answered(&["help", "files"]));
+    assert!(files.contains("How many blanks stand between words doesn't matter"));
+    assert!(files.contains("A unit is never left out where there is one."));
+    let draw = unfolded(&answered(&["help", "draw"]));
+    assert!(draw.contains("`draw` with refusal 16, do their work and write the file all the same"), "{draw}");
+}
+
+#[test]
 fn new_replaces_no_file() {
     let file = scratch("new-kept.txt");
     std::fs::write(&file, "my own house").expect("written");
@@ -154,13 +218,13 @@ fn versions_a_line_each() {
     assert_eq!(parsed.get("library_version"), &Value::Text(version.into()));
     assert_eq!(parsed.get("specification"), &Value::Text("document 01".into()));
     misused(office(&["flow", "examples/house.txt", "--version"]), "`--version` stands alone");
-    misused(office(&["--version", "please"]), "`--version` takes no words, not 1");
+    misused(office(&["--version", "please"]), "`--version` takes no words, but `please` is given");
 }
 
 /// The commands' usages as `office help` lists them.
 fn usages() -> Vec<String> {
     let list = answered(&["help"]);
-    let commands = list.split("\n\n").nth(1).expect("the list of commands");
+    let commands = list.split("\n\n").nth(2).expect("the list of commands");
     commands.lines().map(|line| line.trim_start().split("  ").next().unwrap_or("").to_string()).collect()
 }
 

@@ -134,7 +134,7 @@ fn inputs_without_an_end_end_at_once() {
         ("head -c 50000000 /dev/zero | tr '\\0' , | \"$office\" pack -".to_string(), "has over 1048576 bytes"),
         (format!("{one} /dev/zero | tr '\\0' , | \"$office\" pack -"), "the line has 1048576 bytes"),
         (format!("{one} /dev/zero | tr '\\0' x | \"$office\" flow - --json"), "the line has 1048576 bytes"),
-        (format!("{one} /dev/zero | tr '\\0' '\\n' | \"$office\" flow -"), "has no line"),
+        (format!("{one} /dev/zero | tr '\\0' '\\n' | \"$office\" flow -"), "the file is empty"),
         (format!("yes 'hours 24' | {one} | \"$office\" flow -"), "has 116493 more mistakes"),
         (format!("yes a | {one} | \"$office\" flow -"), "more mistakes"),
         (format!("yes a,b,c | {one} | \"$office\" pack -"), "`a` is no column"),

@@ -31,7 +31,7 @@ type Slip = (&'static str, &'static str, &'static str);
 
 #[test]
 fn a_point_in_a_whole_number_is_refused_in_a_house() {
-    let cases: [Slip; 19] = [
+    let cases: [Slip; 24] = [
         ("dwelling 84", "dwelling 1.000", "`1.000` for `residents dwelling` has a point: it may be 1 or 1000"),
         ("fixtures 80", "fixtures 2.000", "may be 2 or 2000"),
         ("delivered head 1200 cm", "delivered head 3.000 cm", "may be 3 or 3000"),
@@ -43,7 +43,17 @@ fn a_point_in_a_whole_number_is_refused_in_a_house() {
         ("length 10 m", "length 1.000 m", "`1.000` for `length` may be 1 or 1000"),
         ("length 10 m", "length 12.500 m", "may be 12.5 or 12500"),
         ("elevation 600 cm", "elevation 6.000 m", "may be 6 or 6000"),
-        ("local losses 0.3", "local losses 0.300", "may be 0.3 or 0300"),
+        // No thousand begins with 0.
+        (
+            "local losses 0.3",
+            "local losses 0.300",
+            "`0.300` for `local losses` has more decimals than the record keeps",
+        ),
+        ("meter loss 50 cm", "meter loss 0.505 m", "`0.505` for `meter loss` is finer than the record keeps"),
+        ("elevation 600 cm", "elevation -0.500 m", "has more decimals than the record keeps"),
+        ("meter loss 50 cm", "meter loss 0.505 cm", "`0.505` for `meter loss` is finer than the record keeps"),
+        ("hours 24", "hours 0.000", "`0.000` for `hours` has a point"),
+        ("hours 24", "hours 24#x", "`#` stands within a word"),
         ("dwelling 84", "dwelling 84.0", "`84.0` for `residents dwelling` has a point"),
         ("hours 24", "hours 24.0", "has a point"),
         ("dwelling 84", "dwelling +84", "`+84` for `residents dwelling` has a sign"),
@@ -110,15 +120,28 @@ fn what_can_mean_one_thing_is_taken_in_a_house() {
     ] {
         assert_eq!(house::pack(&put(OWN, from, to)).as_ref(), Ok(&plain), "{to}");
     }
-    let refused: [Slip; 10] = [
+    let refused: [Slip; 19] = [
         ("hours 24", ";hours 24", "`;hours` begins no line of a house"),
         ("hours 24", "hours 24 ; all day", "`;` is one word too many"),
         ("hours 24", "hours 24:", "`hours` has no unit, but `:` is given"),
         ("hours 24", "hours: : 24", "`:` is no number for `hours`"),
         ("hours 24", "hours 24:00", "`hours` has no unit, but `:00` is given"),
         ("hours 24", "hours = 24", "`=` is no number for `hours`"),
-        ("dwelling 84", "dwelling 1 000", "`000` is one word too many"),
-        ("dwelling 84", "dwelling 1\u{a0}000", "`000` is one word too many"),
+        ("dwelling 84", "dwelling 1 000", "a blank stands within the number of `residents dwelling`, `1 000`"),
+        ("dwelling 84", "dwelling 1\u{a0}000", "a blank stands within the number of `residents dwelling`, `1 000`"),
+        (
+            "delivered head 1200 cm",
+            "delivered head 1 000 cm",
+            "a blank stands within the number of `delivered head`, `1 000`",
+        ),
+        ("elevation 600 cm", "elevation - 50 cm", "a blank stands within the number of `elevation`, `- 50`"),
+        ("elevation 600 cm", "elevation + 50cm", "a blank stands within the number of `elevation`, `+ 50`"),
+        ("fixtures 80", "fixtures 1 000", "a blank stands within the number of `fixtures`, `1 000`"),
+        ("hours 24", "hours 24 h", "`hours` has no unit, but `h` is given"),
+        ("hours 24", "hours 24h", "`hours` has no unit, but `h` is given"),
+        ("fixtures 80", "fixtures 80 taps", "`fixtures` has no unit, but `taps` is given"),
+        ("fixtures 80 free", "fixtures 80 fre", "`fre` is no field of a section"),
+        ("hours 24", "hours 24 all day", "`all` is one word too many"),
         ("length 10 m", "length 1;5 m", "`;5` is no unit of `length`"),
         ("from pump", "from pump,", "`from pump,` names no section"),
     ];
@@ -263,6 +286,32 @@ fn all_mistakes_come_at_once_in_the_order_of_lines() {
     assert_eq!(missing.list.len(), 6, "{missing}");
 }
 
+/// What follows from a mistake is no mistake of its own.
+#[test]
+fn a_mistake_is_named_once() {
+    // Without a bore on the first line there is nothing that the next could differ from.
+    for (from, to, wrong) in [
+        ("1,40,900,1000", "1,,900,1000", "`bore mm` is empty"),
+        ("1,40,900,1000", "1,40,,1000", "`price` is empty"),
+        ("1,40,900,1000", "1,4O,900,1000", "`4o` is no number for `bore mm`"),
+    ] {
+        let mistake = only(table::pack(&put(SIZES, from, to)).expect_err(to));
+        assert_eq!((mistake.wrong.as_str(), mistake.line.map(|(line, _)| line)), (wrong, Some(2)), "{to}");
+    }
+    let both = put(&put(SIZES, "1,40,900,1000", "1,,900,1000"), "1,40,900,3000", "1,4.0,901,3000");
+    assert_eq!(table::pack(&both).expect_err("three").list.len(), 3);
+    // A line with a doubtful # is there all the same.
+    let second = "section 2 from 1 length 3 m elevation 900 cm kind dwelling fixtures 8 free 200 cm\n";
+    for (from, to) in [("free 200 cm", "free 200 cm#x"), ("section 1 from", "section 1#x from"), ("50 cm", "50 cm#x")] {
+        let mistake = only(house::pack(&(put(OWN, from, to) + second)).expect_err(to));
+        assert!(mistake.wrong.contains("`#` stands within a word"), "{to}: {mistake}");
+    }
+    for text in ["\n", "# hours 24\n\n"] {
+        let mistake = only(house::pack(text).expect_err(text));
+        assert!(mistake.expected.contains("`office new house` gives one to start from"), "{mistake}");
+    }
+}
+
 /// A message promises nothing that the library refuses.
 #[test]
 fn what_is_expected_is_what_the_library_takes() {
@@ -354,7 +403,8 @@ fn a_text_is_never_a_record() {
         (&["pack", "-", "--record"][..], "`pack` has no option --record"),
         (&["show", "-", "--text"], "`show` has no option --text"),
         (&["flow", "--record", "--text", "-"], "stand before a file each"),
-        (&["help", "--text"], "stands before the file"),
+        (&["help", "--text"], "`help` has no option --text"),
+        (&["choose", HOUSE, TABLE, "--text"], "stands before the file"),
     ] {
         let ran = office_with(words, &record);
         assert!(ran.status == 2 && ran.error.contains(why), "{words:?}: {}", ran.error);

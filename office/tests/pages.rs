@@ -17,6 +17,8 @@
 //!   `refused` stands first in what is printed the status is 1, and so in prose: `` `office ...` gives refusal 13 ``. Any other
 //!   `` `office ...` `` in prose begins with a command that there is.
 //! - Files. The examples of the two formats in `docs/FILES.md` are taken, and its ranges are those of the command.
+//! - Tests. Where a line of a block runs `cargo test` with `--test FILE NAME`, `office/tests/FILE.rs` has `fn NAME`; in
+//!   backquotes in prose too.
 //! - Targets. Each `make name` is a target of the Makefile. Where a line that names one ends in "prints", the block behind it
 //!   is what the target prints.
 #![cfg(unix)]
@@ -421,6 +423,38 @@ fn the_formats_are_those_of_the_command() {
         });
         assert!(shown, "{} is {}", quantity.name, quantity.taken);
     }
+}
+
+/// The file and, where it is named, the test that a line of a shell runs: `cargo test ... --test FILE NAME`.
+fn test_of(words: &str) -> Option<(&str, Option<&str>)> {
+    let rest = words.strip_prefix("cargo test ")?.split_once("--test ")?.1;
+    let mut rest = rest.split_whitespace();
+    let file = rest.next().filter(|file| !is_placeholder(file))?;
+    Some((file, rest.next().filter(|name| !name.starts_with('-') && !is_placeholder(name))))
+}
+
+#[test]
+fn tests_that_are_named_are_there() {
+    let mut missing = Vec::new();
+    let mut seen = 0;
+    for page in pages() {
+        let blocks = page.blocks();
+        let lines = blocks.iter().flat_map(|block| &block.lines).map(|line| line.trim_start_matches("$ "));
+        for (file, name) in page.quoted().chain(lines).filter_map(test_of) {
+            let Ok(source) = std::fs::read_to_string(top().join(format!("office/tests/{file}.rs"))) else {
+                missing.push(format!("{}: there is no office/tests/{file}.rs", page.name));
+                continue;
+            };
+            seen += usize::from(name.is_some());
+            if let Some(name) = name.filter(|name| !source.contains(&format!("#[test]\nfn {name}()"))) {
+                missing.push(format!("{}: office/tests/{file}.rs has no test {name}", page.name));
+            }
+        }
+    }
+    assert_none(missing);
+    assert!(seen > 0, "no test was found");
+    assert_eq!(test_of("cargo test --offline --test calls one"), Some(("calls", Some("one"))));
+    assert_eq!(test_of("cargo test --offline --test NAME"), None);
 }
 
 /// The words behind `make` in a line of a shell or in backquotes.

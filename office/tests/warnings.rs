@@ -1,4 +1,4 @@
-//! Houses that the library takes and that are nearly always slips: warned of, with their line, and refused where asked.
+//! Houses and tables that the library takes and that are nearly always slips: warned of, with their line, and refused where asked.
 
 #[path = "tools/json.rs"]
 mod json;
@@ -7,9 +7,10 @@ mod run;
 
 use json::Value;
 use office::at::{At, Field};
+use office::catalogue::Catalogue;
 use office::record::Record;
-use office::warnings::warnings;
-use office::{calls, house};
+use office::warnings::{off_velocity, warnings};
+use office::{calls, house, table};
 use run::{office, office_with, read, scratch, top};
 
 const HOUSE: &str = "examples/house.txt";
@@ -95,6 +96,18 @@ fn the_command_warns_with_the_line_and_answers_all_the_same() {
 }
 
 #[test]
+fn the_pump_has_no_end() {
+    let why = |from: &str, to: &str| {
+        let text = read(HOUSE);
+        assert!(text.contains(from), "{from}");
+        office_with(&["flow", "-"], text.replacen(from, to, 1).as_bytes()).error
+    };
+    let first = why("elevation   60 cm", "elevation 60 m");
+    assert!(first.contains("section 1: its end lies at 6000 cm and the pump at 0 cm, 6000 cm apart"), "{first}");
+    assert!(first.contains(" and the end of section 1 at 6000 cm, "), "{first}");
+}
+
+#[test]
 fn the_examples_are_sound() {
     let mut houses = vec![HOUSE.to_string(), "examples/attic.txt".to_string()];
     for file in std::fs::read_dir(top().join("examples/mistakes")).expect("the examples are there") {
@@ -147,4 +160,97 @@ fn a_hundred_sound_houses_have_no_warning() {
         assert!(calls::flow(&packed).is_ok(), "{text}");
         assert_eq!(warnings(&Record::read(&packed).expect("a record")), [], "{text}");
     }
+}
+
+/// The example's table with the figures of each row put through a change, under the same header.
+fn changed(change: fn([u32; 6]) -> [u32; 6]) -> String {
+    let text = read(TABLE);
+    let lines = text.lines().map(|line| {
+        let cells: Vec<u32> = line.split(',').filter_map(|cell| cell.parse().ok()).collect();
+        let Ok(cells) = <[u32; 6]>::try_from(cells) else { return format!("{line}\n") };
+        change(cells).map(|cell| cell.to_string()).join(",") + "\n"
+    });
+    lines.collect()
+}
+
+fn off(text: &str) -> Option<At> {
+    let catalogue = Catalogue::read(&table::pack(text).expect(text)).expect("a catalogue");
+    off_velocity(&catalogue).map(|warning| warning.at)
+}
+
+/// The slips that a table's own rules let through.
+#[test]
+fn a_table_whose_velocities_are_not_those_of_its_flows_is_warned_of() {
+    let swapped_headers = read(TABLE).replace("flow ml/s,velocity mm/s", "velocity mm/s,flow ml/s");
+    let slips = [
+        ("flow and velocity swapped", swapped_headers),
+        (
+            "l/h for ml/s",
+            changed(|[size, bore, price, flow, velocity, slope]| [size, bore, price, flow * 18 / 5, velocity, slope]),
+        ),
+        (
+            "cm/s for mm/s",
+            changed(|[size, bore, price, flow, velocity, slope]| [size, bore, price, flow, velocity / 10, slope]),
+        ),
+        (
+            "bore and price swapped",
+            changed(|[size, bore, price, flow, velocity, slope]| [size, price, bore, flow, velocity, slope]),
+        ),
+    ];
+    for (what, text) in slips {
+        assert_eq!(off(&text), Some(At::Row(1, 1)), "{what}");
+        let warned = office_with(&["choose", HOUSE, "-"], text.as_bytes());
+        assert!(warned.status < 2 && !warned.output.is_empty(), "{what}");
+        let line = "warning: standard input line 4, size 1 row 1: the velocity is ";
+        assert!(warned.error.starts_with(line) && warned.error.lines().count() == 1, "{what}: {}", warned.error);
+        let packed = office_with(&["pack", "-"], text.as_bytes());
+        assert_eq!(packed.status, 0, "{what}: the library takes it");
+        let shown = office_with(&["show", "-"], &packed.output);
+        assert!(shown.error.starts_with("warning: standard input, size 1 row 1: the velocity is "), "{}", shown.error);
+        for words in [&["pack", "-", "--strict"][..], &["rate", HOUSE, "-", "6,6,6,6,6,6,6,6,6,6,6,6", "--strict"]] {
+            let strict = office_with(words, text.as_bytes());
+            assert!(strict.status == 2 || strict.text().starts_with("refused 13: "), "{what}: {}", strict.text());
+        }
+    }
+    // A warning never takes the place of an answer, and says both velocities.
+    let slip = read(TABLE).replacen("1,21,310,200,567,58", "1,21,310,200,867,58", 1).replacen(",850,", ",870,", 1);
+    let warned = office_with(&["choose", HOUSE, "-", "--json"], slip.as_bytes());
+    let printed = json::parse(&warned.text());
+    let warning = &printed.list("warnings")[0];
+    assert_eq!((warned.status, printed.list("warnings").len(), warning.number("line")), (0, 1, 6));
+    let Value::Text(why) = warning.get("why") else { panic!("{}", warned.text()) };
+    assert!(
+        why.starts_with("the velocity is 867 mm/s, but 200 ml/s through a bore of 21 mm flow at 577 mm/s; "),
+        "{why}"
+    );
+}
+
+#[test]
+fn velocities_within_a_half_are_no_slip() {
+    let with = |velocity: u32| read(TABLE).replacen("1,21,310,100,283", &format!("1,21,310,100,{velocity}"), 1);
+    // 100 ml/s through a bore of 21 mm flow at 288 mm/s.
+    for (velocity, found) in [(192, None), (191, Some(At::Row(1, 1))), (425, None)] {
+        assert_eq!(off(&with(velocity)), found, "{velocity}");
+    }
+    assert_eq!(off(&with(433).replacen("150,425", "150,433", 1)), Some(At::Row(1, 1)));
+    // Whole velocities of a trickle, and a bore that the library refuses.
+    let trickle = "size,bore mm,price,flow ml/s,velocity mm/s,slope mm/m\n1,100,1,1,1,1\n1,100,1,10000,1273,9\n";
+    assert_eq!(off(trickle), None);
+    assert_eq!(off(&trickle.replace(",100,", ",0,")), None);
+}
+
+#[test]
+fn the_example_tables_are_sound() {
+    let page = read("docs/FILES.md");
+    let (_, block) = page.split_once("\n    size,").expect("the page has a table");
+    let block: String = block.lines().take(5).map(|line| line.trim_start().to_string() + "\n").collect();
+    let mut tables = vec![format!("size,{block}"), office(&["new", "table"]).text()];
+    tables.extend(["examples/table.csv", "examples/own-case.csv", "examples/mistakes/rows-differ.csv"].map(read));
+    let mut seen = 0;
+    for text in tables {
+        let Ok(packed) = table::pack(&text) else { continue };
+        assert_eq!(off_velocity(&Catalogue::read(&packed).expect("a catalogue")), None, "{text}");
+        seen += 1;
+    }
+    assert!(seen >= 4, "{seen}");
 }

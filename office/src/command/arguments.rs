@@ -58,8 +58,8 @@ pub fn parse(words: &[OsString]) -> Result<Arguments, Misuse> {
     let mut plain = plain.into_iter();
     found.command = plain.next().map_or("help".to_string(), |(word, _)| word.to_string_lossy().into_owned());
     (found.words, found.readings) = plain.unzip();
+    found.check(next)?;
     found.last_reading(next)?;
-    found.check()?;
     Ok(found)
 }
 
@@ -118,17 +118,20 @@ impl Arguments {
         self.out.as_ref().filter(|out| *out != "-")
     }
 
-    /// The right count of words, and no option that the command would not heed.
-    fn check(&self) -> Result<(), Misuse> {
+    /// The right count of words, and no option that the command would not heed; `last` is the reading behind the last file.
+    fn check(&self, last: Reading) -> Result<(), Misuse> {
         let Some(known) = help::COMMANDS.iter().find(|known| known.name == self.command) else { return Ok(()) };
         if self.help {
             return Ok(());
         }
         let misuse = |why: String| Err(Misuse::Words(format!("{why}\nusage: {}", known.usage)));
+        if let (0, Some(first)) = (known.most, self.text(0)) {
+            return misuse(format!("`{}` takes no words, but `{}` is given", self.command, word(&first)));
+        }
         if self.words.len() < known.least || self.words.len() > known.most {
             return misuse(format!("`{}` takes {}, not {}", self.command, count(known), self.words.len()));
         }
-        let forced = |reading: Reading| self.readings.contains(&reading);
+        let forced = |reading: Reading| last == reading || self.readings.contains(&reading);
         let options = [
             (self.json, "--json"),
             (self.strict, "--strict"),
@@ -137,7 +140,7 @@ impl Arguments {
             (self.out.is_some(), "-o"),
             (self.seed.is_some(), "--seed"),
         ];
-        for (_, option) in options.iter().filter(|(given, option)| *given && !known.usage.contains(option)) {
+        if let Some((_, option)) = options.iter().find(|(given, option)| *given && !known.usage.contains(option)) {
             return misuse(format!("`{}` has no option {option}", self.command));
         }
         if self.words.iter().filter(|word| *word == "-" || *word == "@-").count() > 1 {
@@ -153,7 +156,6 @@ impl Arguments {
 
 fn count(known: &help::Command) -> String {
     match (known.least, known.most) {
-        (0, 0) => "no words".to_string(),
         (1, 1) => "1 word".to_string(),
         (least, most) if least == most => format!("{least} words"),
         (least, most) => format!("{least} to {most} words"),

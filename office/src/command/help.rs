@@ -71,6 +71,11 @@ flow_ml_per_s).",
 JOB is a readable house or a job record, CAT a readable table or a catalogue. SIZES has a size number for each section,
 section 1 first: 5,4,3,3 or @FILE with such numbers, or with the size bytes themselves.
 
+Delivered head: the most head that there is behind the pump set, the guaranteed head and the most that the set may add.
+Required head: the head that the list of sizes asks for. Pump head: what the list needs of the pump set, required head less
+guaranteed head. Dictating section: the section whose end asks for the most; the path from the pump to it is the dictating
+path, and only what is done there brings the required head down.
+
 The delivered head plays no part in rating; `to spare` and `left` compare with it: left is the head left at a section's end
 when the delivered head is delivered, less meter loss, losses and elevation. An end with less than its free head is SHORT.
 
@@ -84,10 +89,11 @@ flow_ml_per_s, velocity_mm_per_s, loss_cm, head_left_cm, free_head_cm).",
         least: 2,
         most: 2,
         reads: true,
-        brief: "a cheapest suitable list of sizes, rated",
+        brief: CHOOSES,
         text: "\
-JOB is a readable house or a job record, CAT a readable table or a catalogue. The line `sizes` can be given to `rate` and
-`draw`. Which of equally cheap lists comes is left free.
+JOB is a readable house or a job record, CAT a readable table or a catalogue. The answer is a cheapest list of sizes that
+suits, rated; which of equally cheap lists comes is left free. Its line `sizes` can be given to `rate` and `draw`.
+`office help rate` explains the heads and the dictating section.
 
 --json: as `rate`.",
     },
@@ -185,8 +191,9 @@ const COMMON: &str = "\
 Files: a readable file or a binary record, told apart by the first byte, which is 0 in a record; --record and --text before a
 file force its reading; - is standard input; -o FILE writes the answer to a file, -o - to standard output.
 Status: 0 an answer; 1 the library refuses, in words with its number and place, on standard output, and a file of -o is left
-alone (`pack` and `show` do their work all the same and say it on standard error); 2 misuse, an unreadable file, mistakes in
-a readable file or an answer that can't be written, on standard error. There is no other. `office help N` explains refusal N.
+alone (`pack`, `show`, and `draw` with refusal 16, do their work and write the file all the same, and the refusal stands on
+standard error); 2 misuse, an unreadable file, mistakes in a readable file or an answer that can't be written, on standard
+error. There is no other. `office help N` explains refusal N.
 Warnings of what is nearly always a slip stand on standard error and change no status; with --strict there is then no answer,
 and the status is 2.
 --json: every object has schema (1), command, files, refusal (null, or number, text, places) and warnings; mistakes of a text
@@ -201,6 +208,16 @@ fn joined(names: impl Iterator<Item = &'static str>) -> String {
 fn names() -> String {
     joined(COMMANDS.iter().map(|command| command.name))
 }
+
+/// What an installer does first, as the list begins.
+const FIRST: &[(&str, &str)] = &[
+    ("office new house -o house.txt", "a house to put your own numbers in"),
+    ("office new table -o table.csv", "a table of pipe sizes to put your supplier's numbers in"),
+    ("office choose house.txt table.csv", CHOOSES),
+];
+
+/// What `choose` gives, in plain words.
+const CHOOSES: &str = "the cheapest pipes that bring enough head to every end, and the pump set that they need";
 
 /// A refusal by its number, as the list has it.
 const BY_NUMBER: (&str, &str) = ("N", "refusal N: what it means, what usually leads to it, what to try");
@@ -246,11 +263,13 @@ fn list() -> String {
     let commands: Vec<_> = COMMANDS.iter().map(|command| (command.usage.to_string(), command.brief)).collect();
     let topics = TOPICS.iter().map(|topic| (topic.name, topic.brief)).chain([BY_NUMBER]);
     let topics: Vec<_> = topics.map(|(name, brief)| (format!("office help {name}"), brief)).collect();
+    let first: Vec<_> = FIRST.iter().map(|(words, brief)| (words.to_string(), *brief)).collect();
     let width = commands.iter().chain(&topics).map(|(usage, _)| usage.len()).max().unwrap_or(0);
     let lines = |rows: &[(String, &str)]| {
         rows.iter().map(|(usage, brief)| format!("  {usage:<width$}  {brief}\n")).collect::<String>()
     };
-    let (commands, topics) = (lines(&commands), lines(&topics));
+    let (first, commands, topics) = (lines(&first), lines(&commands), lines(&topics));
     let own = COMMANDS.iter().find(|command| command.name == "help").map_or("", |help| help.text);
-    format!("office: pipe sizes for branched house networks\n\n{commands}\n{topics}\n{own}\n\n{COMMON}")
+    let what = "office: pipe sizes for branched house networks. To start with:";
+    format!("{what}\n\n{first}\n{commands}\n{topics}\n{own}\n\n{COMMON}")
 }

@@ -4,9 +4,10 @@ use super::input::Source;
 use super::json::Json;
 use office::Refusal;
 use office::at::At;
+use office::catalogue::Catalogue;
 use office::places::{Asked, Place, places};
 use office::record::Record;
-use office::warnings::warnings;
+use office::warnings::{off_velocity, warnings};
 
 /// What the refused call was given.
 #[derive(Clone, Copy, Default)]
@@ -61,10 +62,12 @@ impl Given<'_> {
         ])
     }
 
-    /// What is nearly always a slip in the house, although the library takes it.
+    /// What is nearly always a slip in the house or in the table, although the library takes it.
     fn warnings(&self) -> Vec<Place> {
         let record = self.job.and_then(|job| Record::read(&job.bytes).ok());
-        record.map_or(Vec::new(), |record| warnings(&record))
+        let catalogue = self.cat.and_then(|cat| Catalogue::read(&cat.bytes).ok());
+        let of_house = record.iter().flat_map(warnings);
+        of_house.chain(catalogue.iter().filter_map(off_velocity)).collect()
     }
 
     /// The warnings for people.
@@ -84,10 +87,22 @@ impl Given<'_> {
     }
 }
 
+impl Given<'_> {
+    /// A line for each file that has no bytes at all: what was meant is a file to fill in, and no record of no bytes.
+    fn empty(&self) -> String {
+        let sources = [(self.job, "house"), (self.cat, "table")];
+        let empty =
+            sources.iter().filter_map(|(source, what)| Some((source.filter(|own| own.bytes.is_empty())?, what)));
+        empty
+            .map(|(own, what)| format!("{} is empty; `office new {what}` gives a {what} to start from\n", own.name))
+            .collect()
+    }
+}
+
 /// The refusal for people.
 pub fn words(refusal: &Refusal, given: &Given) -> String {
     let found = given.places(refusal);
-    let mut text = format!("{refusal}\n");
+    let mut text = format!("{}{refusal}\n", given.empty());
     if found.is_empty() {
         text.push_str("  no place was found for it; the number is the library's and stands\n");
     }

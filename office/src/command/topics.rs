@@ -35,8 +35,9 @@ const FILES: &str = "\
 A house and a table of pipe sizes are plain text, from any editor or saved by a spreadsheet. `office new house` and
 `office new table` give the examples below as files to start from.
 
-Behind # stands a comment, to the end of the line. Blanks don't matter, nor do small and capital letters. A number has a
-point before decimals and nothing between thousands; one with a comma is refused. A unit is never left out.
+Behind # stands a comment, to the end of the line. How many blanks stand between words doesn't matter, nor do small and
+capital letters. A number has a point before decimals and nothing between thousands; one with a comma is refused. A unit is
+never left out where there is one.
 
 A house has one line for each field, in any order:
 ";

@@ -118,8 +118,8 @@ pub const ROWS: &[Row] = &[
     },
     Row {
         refusal: DemandOverTable,
-        text: "The demand is beyond Table 2. The house's m, or the house's sum for the hour, is over 400,000,000 \
-               millionths.",
+        text: "The demand is beyond Table 2. The house's m, which is how many fixtures are in use at once on average, or \
+               the house's sum for the hour, is over 400,000,000 millionths.",
         plain: "The house uses more water than the standard's table of simultaneous use reaches.",
         causes: &["A count of residents has a digit too many.", "The residents of several houses stand in one file."],
         remedies: &[
@@ -129,8 +129,9 @@ pub const ROWS: &[Row] = &[
     },
     Row {
         refusal: DemandOverFixtures,
-        text: "The demand is too great for the fixtures. With at most 200 fixtures m may be at most 100,000 millionths for \
-               each fixture; the house, a section, or the house's hour is over that.",
+        text: "The demand is too great for the fixtures. With at most 200 fixtures m, which is how many of them are in use \
+               at once on average, may be at most 100,000 millionths for each fixture; the house, a section, or the house's \
+               hour is over that.",
         plain: "The fixtures are few and in use for much of the time, for which the standard has another table; the library \
                 leaves that one out.",
         causes: &[

@@ -29,6 +29,8 @@ pub struct Given {
 
 struct Part {
     size: Size,
+    /// Bore and price of the first line, where they can be read; the rows below are compared with them.
+    stated: [Option<i64>; 2],
     lines: Vec<usize>,
     text: String,
 }
@@ -52,11 +54,8 @@ impl Under<'_, '_> {
     }
 
     /// The number, or a mistake that is noted.
-    fn noted(&self, column: usize, mistakes: &mut Mistakes) -> i64 {
-        self.number(column).unwrap_or_else(|mistake| {
-            mistakes.add(mistake);
-            0
-        })
+    fn noted(&self, column: usize, mistakes: &mut Mistakes) -> Option<i64> {
+        self.number(column).map_err(|mistake| mistakes.add(mistake)).ok()
     }
 }
 
@@ -101,22 +100,19 @@ impl Given {
     /// Bore and price stand on a size's first line; further lines may leave them out, and if not they must agree.
     fn start(&mut self, row: &Under, size: u8, mistakes: &mut Mistakes) {
         let Some(part) = self.sizes.get(&size) else {
-            let (bore, price) = (row.noted(1, mistakes) as u16, row.noted(2, mistakes) as u16);
+            let stated = [1, 2].map(|column| row.noted(column, mistakes));
+            let [bore, price] = stated.map(|value| value.unwrap_or(0) as u16);
             let kept = Size { bore, price, rows: Vec::new() };
-            self.sizes.insert(size, Part { size: kept, lines: Vec::new(), text: row.line.text() });
+            self.sizes.insert(size, Part { size: kept, stated, lines: Vec::new(), text: row.line.text() });
             return;
         };
-        for (column, kept) in [(1, part.size.bore), (2, part.size.price)] {
-            match row.number(column) {
-                _ if row.empty(column) => {}
-                Ok(value) if value == i64::from(kept) => {}
-                Err(mistake) => mistakes.add(mistake),
-                Ok(_) => {
-                    let name = COLUMNS[column];
-                    let wrong = format!("size {size} has another {name} here than on line {}", part.lines[0]);
-                    let expected = format!("{kept}, or the cell left empty; another size has its own number");
-                    mistakes.add(row.line.mistake(wrong, expected));
-                }
+        for (column, stated) in (1..).zip(part.stated).filter(|(column, _)| !row.empty(*column)) {
+            let Some((value, kept)) = row.noted(column, mistakes).zip(stated) else { continue };
+            if value != kept {
+                let name = COLUMNS[column];
+                let wrong = format!("size {size} has another {name} here than on line {}", part.lines[0]);
+                let expected = format!("{kept}, or the cell left empty; another size has its own number");
+                mistakes.add(row.line.mistake(wrong, expected));
             }
         }
     }
@@ -164,11 +160,8 @@ impl Part {
             let wrong = format!("size {size} has a line without flow, velocity and slope before this one");
             return Err(row.line.mistake(wrong, "a size without rows has one line only"));
         }
-        self.size.rows.push(Row {
-            flow: row.noted(3, mistakes) as u32,
-            velocity: row.noted(4, mistakes) as u16,
-            slope: row.noted(5, mistakes) as u16,
-        });
+        let [flow, velocity, slope] = [3, 4, 5].map(|column| row.noted(column, mistakes).unwrap_or(0));
+        self.size.rows.push(Row { flow: flow as u32, velocity: velocity as u16, slope: slope as u16 });
         Ok(())
     }
 }
