@@ -9,7 +9,7 @@
  *   - no pointer needs an alignment: all are read and written byte by byte;
  *   - nothing is kept after the call, no memory is allocated, and nothing is shared between calls: threads may call at once
  *     with out and work of their own, on the same job, cat and sizes as long as nobody writes those;
- *   - the stack takes about 54 KB for order_choose and less for the others; a thread with 128 KB has enough.
+ *   - the stack takes about 60 KB for order_choose and under 27 KB for the others; a thread with 128 KB has enough.
  * Any bytes at all may be lent: each input gets its result or the number of its refusal.
  *
  * ABI: plain C calls of the platform that the archive is built for (System V on Linux, 64-bit little-endian hosts); size_t
