@@ -29,7 +29,7 @@ EndsServed job cat list =
     (i : ℕ) → 0 < i → i ≤ countOf job →
     leZ (pos (job .header .meter) +ℤ reachOf job (lossesOf job cat list) i) (pos (job .header .delivered)) ≡ true
 
--- when a list suits, in the demand's own words: a size of the catalogue for each section, none over its last row or the limit, each end served
+-- when a list suits, end by end, as the demand has it: a size of the catalogue for each section, none over its last row or the limit, each end served
 pub record Suited (job : Job) (cat list : List ℕ) : Type 0 where
   pub sizes : listOk job cat list ≡ true
   pub serves : overAny job cat list ≡ false

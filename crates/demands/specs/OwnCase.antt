@@ -8,7 +8,7 @@ use Rattle.basis.specs.Stored.{stored}
 use Rattle.record.specs.Record.{decode}
 use Rattle.tree.specs.Tree.{servedOf, houseOf}
 use Rattle.coefficient.specs.Alpha.{alphaOf}
-use Rattle.demand.specs.Demand.{mOf, sectionFlow, hourOf, dayOf, meanOf}
+use Rattle.demand.specs.Demand.{mOf, sectionFlow, houseFlow, hourOf, dayOf, meanOf}
 use Rattle.acceptance.specs.Acceptance.{jobNo}
 use Rattle.catalogue.specs.Rules.{catNo}
 use Rattle.heads.specs.Heads.{requiredOf, pumpOf, dictatingOf}
@@ -43,7 +43,7 @@ job921 = jobOf 3 153
 abbrev pub job920 : List ℕ
 job920 = jobOf 3 152
 
--- what document 01 says of its own case
+-- document 01's figures of its own case, and what each call gives there
 pub record OwnCase : Type 0 where
   -- the job is accepted
   pub job : jobNo ownJob ≡ 0
@@ -63,6 +63,8 @@ pub record OwnCase : Type 0 where
   pub last-α : alphaOf 400000000 ≡ 91900000
   -- the flow of the section, ml/s
   pub flow : sectionFlow (decode ownJob) 1 ≡ 2052
+  -- the flow of the house, ml/s
+  pub house-flow : houseFlow (decode ownJob) ≡ 2052
   -- the hour of the house, l/h
   pub hour : hourOf (decode ownJob) ≡ 4542
   -- the day of the house, l
@@ -72,7 +74,7 @@ pub record OwnCase : Type 0 where
   -- copying, flow and duty give a result where there is room for it
   pub copied : copyNo ownJob 50 ≡ 0
   pub flowed : flowNo ownJob 16 ≡ 0
-  pub delivered : dutyNo ownJob 4 ≡ 0
+  pub duty-given : dutyNo ownJob 4 ≡ 0
   -- rating takes size 2
   pub rated : rateNo ownJob ownCat (2 ∷ []) 15 ≡ 0
   -- the velocity of size 2, mm/s

@@ -1,4 +1,4 @@
--- The flow call: document 01, "Refused orders" 1 to 9 and 14, and the flow result.
+-- The flow call, document 01, "Refused orders" 1 to 9 and 14, and the flow result; and the duty call, which document 01 does not name.
 -- Assumes nothing.
 use Prim.Native.Nat.{ℕ, _+_, _*_}
 use mathlib.Core.List.{List, [], _∷_, _++_}

@@ -58,15 +58,15 @@ copyChecks b room = readChecks b ++ ((tooShort room (length b), 14) ∷ [])
 unfoldable pub copyNo : List ℕ → ℕ → ℕ
 copyNo b room = firstNo (copyChecks b room)
 
--- writing a job and reading the record again: the writer's number, the buffer as the writer leaves it, the fields that reading gives,
--- which are those that a record keeps where the number is 0, and all zero otherwise
+-- writing a job and reading the record again: the writer's number, the buffer as the writer leaves it, and where the number is 0 the
+-- fields that reading gives, which are those that a record keeps; after a refusal nothing is read, and they are all zero
 pub record WrittenRead (job : Job) (out₀ out : List ℕ) (n : ℕ) (again : Job) : Type 0 where
   pub number : n ≡ writeNo job (length out₀)
   pub buffer : out ≡ bufferAfter n (encode job) out₀
   pub read : n ≡ 0 → again ≡ readJob (part out 0 (lengthOf (countOf job)))
   pub fields : again ≡ cond (eqb n 0) (kept job) blankJob
 
--- two jobs with the same fields: the head, the residents and sections 1 to S
+-- two jobs with the same fields: the header, the residents and sections 1 to S
 pub record SameFields (job again : Job) : Type 0 where
   pub header : again .header ≡ job .header
   pub residents : again .residents ≡ job .residents

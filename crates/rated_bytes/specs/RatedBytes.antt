@@ -1,4 +1,4 @@
--- Document 01, "Results": the bytes of a rating result, from each section's velocity and loss.
+-- Document 01, "Rating and choosing": the bytes of a rating result, from each section's velocity and loss.
 -- Assumes nothing.
 use Prim.Native.Nat.{ℕ, _+_, _*_}
 use mathlib.Core.List.{List, [], _∷_, _++_}

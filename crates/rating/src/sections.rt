@@ -39,7 +39,7 @@ pub fn list_ok(job: Job, cat: &[u8], list: &[u8]) -> bool
     true
 }
 
-// Each section with its size.
+// Each section with its size. Where one is over, nothing is promised of the figures, which are then not used.
 pub fn rate_sections(job: Job, cat: &[u8], list: &[u8]) -> Rated
     requires { ⌜ Rateable job (now cat) (now list) ⌝ }
     ensures over { λ r. ⌜ r .over ≡ overAny job (now (cat .entry)) (now (list .entry)) ⌝ }

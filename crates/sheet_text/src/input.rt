@@ -1,19 +1,14 @@
 // The input cut into job, catalogue and size list, and the sheet of the three.
+use numbers::lesser;
 use numbers::wide32;
 use rated_text::put_text;
 ghost use mathlib.Core.Path.{_≡_};
-ghost use Prim.Native.Nat.{_≤_, min};
+ghost use Prim.Native.Nat.{_≤_};
 ghost use lib.ListN.{length};
 ghost use Rattle.basis.specs.Stored.{stored};
 ghost use Rattle.text.specs.Pieces.{Wrote};
 ghost use Rattle.rated_text.specs.RatedText.{textOf};
 ghost use Rattle.sheet_text.specs.Sheet.{recordEnd, recordOf, afterRecord, writtenText};
-
-fn least(a: usize, b: usize) -> usize
-    ensures { λ r. ⌜ r ≡ min a b ⌝ }
-{
-    if a < b { a } else { b }
-}
 
 // Where the record at the front ends: at its stated length, or where the input ends. Under four bytes state none.
 fn record_end(s: &[u8]) -> usize
@@ -23,7 +18,7 @@ fn record_end(s: &[u8]) -> usize
         return s.len();
     }
     let stated = wide32(wire::be32(s, 0));
-    least(stated, s.len())
+    lesser(stated, s.len())
 }
 
 // The sheet of job, catalogue and size list, one after another.

@@ -11,15 +11,15 @@ use borrow.Author.Tests.{lt-ltb, le-ltb}
 use Rattle.basis.proofs.Split.{lt-or-ge}
 use Rattle.text.specs.Figures.{digits, decimal}
 
-one-digit : (most n : ℕ) → n < 10 → digits (suc most) n ≡ (48 + n) ∷ []
+pub one-digit : (most n : ℕ) → n < 10 → digits (suc most) n ≡ (48 + n) ∷ []
 unfolding digits
 one-digit most n h = rw (lt-ltb n 10 h)
 
-more-digits : (most n : ℕ) → 10 ≤ n → digits (suc most) n ≡ digits most (n / 10) ++ ((48 + n % 10) ∷ [])
+pub more-digits : (most n : ℕ) → 10 ≤ n → digits (suc most) n ≡ digits most (n / 10) ++ ((48 + n % 10) ∷ [])
 unfolding digits
 more-digits most n h = rw (le-ltb n 10 h)
 
-no-digits : (n : ℕ) → digits zero n ≡ []
+pub no-digits : (n : ℕ) → digits zero n ≡ []
 unfolding digits
 no-digits n = refl
 

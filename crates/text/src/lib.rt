@@ -1,4 +1,4 @@
-// Text in a buffer: a byte, a word, and figures in decimal. Each writer answers the place after its piece.
+// Text in a buffer: a byte, a word, and figures in decimal. Each writer gives back the place after its piece.
 ghost use mathlib.Core.List.{[], _∷_};
 ghost use Prim.Native.Nat.{_+_, _≤_};
 ghost use lib.ListN.{length};
