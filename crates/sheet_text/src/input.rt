@@ -41,6 +41,6 @@ pub fn sheet(input: &[u8], out: &mut [u8]) -> usize
     if out.len() < 4096 {
         return 0;
     }
-    let n = least(input.len(), 65536);
+    let n = lesser(input.len(), 65536);
     put_parts(&input[..n], out)
 }

@@ -12,9 +12,9 @@ returns c = (sym (end-none _ (c .if1 .taken)), omega arith)
 
 returns-2 : tie.Need-returns-2
 returns-2 c = (
-  c .least .ensures ∙
+  c .lesser .ensures ∙
       rw (c .before .wide32 .ensures .0, c .before .before .be32 .ensures) (sym (end-stated _ (c .before .before .before .if1 .left))),
-  omega (arith, c .least .ensures),
+  omega (arith, c .lesser .ensures),
 )
 
 pub record-end-spec : {M : Type 1} → statement M

@@ -15,14 +15,14 @@ returns : tie.Need-returns
 returns c = rw (written-short _ _ (c .if1 .taken)) (refl, sym (stored-none _ 0))
 
 slice-aggregate-put-parts : tie.Need-slice-aggregate-put-parts
-slice-aggregate-put-parts c = sym (length-take-le _ _ (omega (arith, c .before .least .ensures)))
+slice-aggregate-put-parts c = sym (length-take-le _ _ (omega (arith, c .before .lesser .ensures)))
 
 returns-2 : tie.Need-returns-2
 returns-2 c =
     let put = c .before .before in
     let cut = put .before .before .before in
     let start = cut .before .before .before .before in
-    let n : cut .least .result ≡ min (length (start .args .input .now)) 65536 = cut .least .ensures in
+    let n : cut .lesser .result ≡ min (length (start .args .input .now)) 65536 = cut .lesser .ensures in
     let p = rw (n, parts-sheet (start .args .input .now)) at (put .put-parts .ensures) in
     rw (written-long (length (start .args .out .now)) (start .args .input .now) (omega arith)) (omega (arith, p .place), p .text)
 
