@@ -34,13 +34,13 @@ module _ (b : List ℕ) where
   unfolding jobNo jobChecks acceptedJob readNo readJob
   accept-read n = stage-first (readChecks b) (demandChecks (decode b)) (read-numbered b) (decode b) n
 
-  pub accept-demand : readNo b ≡ 0 → (jobNo b ≡ firstNo (demandChecks (decode b))) × (acceptedJob b ≡ fieldsAfter (demandChecks (decode b)) (decode b))
+  pub accept-demand : readNo b ≡ 0 → (jobNo b ≡ firstNo (demandChecks (decode b))) × (acceptedJob b ≡ fieldsAfter (firstNo (demandChecks (decode b))) (decode b))
   unfolding jobNo jobChecks acceptedJob readNo
   accept-demand e = stage-second (readChecks b) (demandChecks (decode b)) (read-numbered b) (decode b) e
 
   pub accept-fields : jobNo b ≡ 0 → acceptedJob b ≡ decode b
-  unfolding acceptedJob jobNo
-  accept-fields e = fields-given (jobChecks b) (decode b) e
+  unfolding acceptedJob
+  accept-fields e = fields-given (decode b) e
 
   -- a record that the reader accepts keeps its rules, and one that is accepted its bounds
   pub read-valid : readNo b ≡ 0 → Valid (decode b)
@@ -72,14 +72,14 @@ module _ (b cat : List ℕ) where
   unfolding inputNo inputChecks inputJob jobNo acceptedJob
   input-job n = stage-first (jobChecks b) (catChecks cat) (job-numbered b) (decode b) n
 
-  pub input-cat : jobNo b ≡ 0 → (inputNo b cat ≡ catNo cat) × (inputJob b cat ≡ fieldsAfter (catChecks cat) (decode b))
+  pub input-cat : jobNo b ≡ 0 → (inputNo b cat ≡ catNo cat) × (inputJob b cat ≡ fieldsAfter (catNo cat) (decode b))
   unfolding inputNo inputChecks inputJob jobNo catNo
   input-cat e = stage-second (jobChecks b) (catChecks cat) (job-numbered b) (decode b) e
 
   module _ (none : inputNo b cat ≡ 0) where
     pub input-fields : inputJob b cat ≡ decode b
-    unfolding inputJob inputNo
-    input-fields = fields-given (inputChecks b cat) (decode b) none
+    unfolding inputJob
+    input-fields = fields-given (decode b) none
 
     pub input-both : (jobNo b ≡ 0) × (catNo cat ≡ 0)
     unfolding inputNo inputChecks jobNo catNo

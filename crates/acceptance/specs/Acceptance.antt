@@ -18,7 +18,7 @@ unfoldable pub jobNo : List ℕ → ℕ
 jobNo b = firstNo (jobChecks b)
 
 unfoldable pub acceptedJob : List ℕ → Job
-acceptedJob b = fieldsAfter (jobChecks b) (decode b)
+acceptedJob b = fieldsAfter (jobNo b) (decode b)
 
 -- a job and a catalogue: 1 to 9, 10, 11
 unfoldable pub inputChecks : List ℕ → List ℕ → List (Bool × ℕ)
@@ -28,4 +28,4 @@ unfoldable pub inputNo : List ℕ → List ℕ → ℕ
 inputNo b cat = firstNo (inputChecks b cat)
 
 unfoldable pub inputJob : List ℕ → List ℕ → Job
-inputJob b cat = fieldsAfter (inputChecks b cat) (decode b)
+inputJob b cat = fieldsAfter (inputNo b cat) (decode b)

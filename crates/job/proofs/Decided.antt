@@ -28,17 +28,17 @@ fields-numbered job = (omega arith, (omega arith, (omega arith, tt)))
 
 -- reading: 1 to 4 where they find something, else 5 to 7 of the fields
 module _ (b : List ℕ) where
-  pub read-shape : (firstNo (shapeChecks b) ≡ 0 → ⊥) → (readNo b ≡ firstNo (shapeChecks b)) × (readJob b ≡ fieldsAfter (shapeChecks b) (decode b))
+  pub read-shape : (firstNo (shapeChecks b) ≡ 0 → ⊥) → (readNo b ≡ firstNo (shapeChecks b)) × (readJob b ≡ fieldsAfter (firstNo (shapeChecks b)) (decode b))
   unfolding readNo readJob readChecks
   read-shape n = stage-first (shapeChecks b) (fieldChecks (decode b)) (shape-numbered b) (decode b) n
 
-  pub read-fields : firstNo (shapeChecks b) ≡ 0 → (readNo b ≡ firstNo (fieldChecks (decode b))) × (readJob b ≡ fieldsAfter (fieldChecks (decode b)) (decode b))
+  pub read-fields : firstNo (shapeChecks b) ≡ 0 → (readNo b ≡ firstNo (fieldChecks (decode b))) × (readJob b ≡ fieldsAfter (firstNo (fieldChecks (decode b))) (decode b))
   unfolding readNo readJob readChecks
   read-fields e = stage-second (shapeChecks b) (fieldChecks (decode b)) (shape-numbered b) (decode b) e
 
   pub read-accepted : readNo b ≡ 0 → readJob b ≡ decode b
-  unfolding readJob readNo
-  read-accepted e = fields-given (readChecks b) (decode b) e
+  unfolding readJob
+  read-accepted e = fields-given (decode b) e
 
 -- what holds where the reader finds nothing
 pub record Readable (b : List ℕ) : Type 0 where

@@ -37,12 +37,12 @@ readChecks b = shapeChecks b ++ fieldChecks (decode b)
 unfoldable pub readNo : List ℕ → ℕ
 readNo b = firstNo (readChecks b)
 
--- the fields where a list of checks finds nothing; all zero after a refusal
-abbrev pub fieldsAfter : List (Bool × ℕ) → Job → Job
-fieldsAfter checks job = cond (eqb (firstNo checks) 0) job blankJob
+-- the fields that a call gives with a number: all zero after a refusal
+abbrev pub fieldsAfter : ℕ → Job → Job
+fieldsAfter n job = cond (eqb n 0) job blankJob
 
 unfoldable pub readJob : List ℕ → Job
-readJob b = fieldsAfter (readChecks b) (decode b)
+readJob b = fieldsAfter (readNo b) (decode b)
 
 -- writing into so many bytes: 3, 5 to 7, and 14 where the result buffer is too short
 unfoldable pub writeChecks : Job → ℕ → List (Bool × ℕ)
@@ -64,7 +64,7 @@ pub record WrittenRead (job : Job) (out₀ out : List ℕ) (n : ℕ) (again : Jo
   pub number : n ≡ writeNo job (length out₀)
   pub buffer : out ≡ bufferAfter n (encode job) out₀
   pub read : n ≡ 0 → again ≡ readJob (part out 0 (lengthOf (countOf job)))
-  pub fields : again ≡ cond (eqb n 0) (kept job) blankJob
+  pub fields : again ≡ fieldsAfter n (kept job)
 
 -- two jobs with the same fields: the header, the residents and sections 1 to S
 pub record SameFields (job again : Job) : Type 0 where

@@ -33,7 +33,7 @@ failed c e = c .if1 .taken (found (c .before) ∙ e)
 returns : tie.Need-returns
 returns c =
     let r = read-shape _ (failed (c .before)) in
-    (ap numberOf (c .refused .ensures .0) ∙ c .before .before .before .shape-refusal .ensures ∙ sym (r .0), c .refused .ensures .1 ∙ sym (fields-blank _ _ (failed (c .before))) ∙ sym (r .1))
+    (ap numberOf (c .refused .ensures .0) ∙ c .before .before .before .shape-refusal .ensures ∙ sym (r .0), c .refused .ensures .1 ∙ sym (fields-blank _ (failed (c .before))) ∙ sym (r .1))
 
 returns-2 : tie.Need-returns-2
 returns-2 c =
