@@ -1,4 +1,5 @@
-/* Every call of the library from C, on document 01's own case: flows, duty, rating, choosing and copying, and a refusal of each.
+/* Every call of the library from C, on document 01's own case: flows, duty, the meter, rating, choosing and copying, and a refusal
+ * of each.
  *
  *   cc -std=c99 -I office/include examples/order.c target/staticlib/liborder.a -o order && ./order
  *
@@ -23,7 +24,13 @@ static const uint8_t cat[47] = {
     0, 50, 5, 0x14, 0, 0, 3, 0xe8, 1, 0xf4, 0, 12, 0, 0, 0xb, 0xb8, 5, 0xdc, 0, 90,
 };
 
-static uint8_t out[ORDER_COPY_BYTES];
+/* A vane meter of 40 mm and a turbine meter of 50 mm: type, resistance and service flow. */
+static const uint8_t meters[10] = {
+    1, 0x13, 0x88, 0x19, 0x00,
+    2, 0x05, 0x96, 0x2e, 0xe0,
+};
+
+static uint8_t out[ORDER_METER_BYTES];
 static uint8_t work[ORDER_WORK_BYTES];
 static int wrong;
 
@@ -59,6 +66,14 @@ int main(void)
     is("duty", order_duty(job, sizeof job, out, ORDER_DUTY_BYTES), 0);
     is("the house", number_at(out), 2052);
     is("duty into 3 bytes", order_duty(job, sizeof job, out, 3), 14);
+
+    is("meter", order_meter(job, sizeof job, meters, sizeof meters, out, ORDER_METER_BYTES), 0);
+    is("place", out[0], 2);
+    is("meter loss", (uint32_t)out[9] << 8 | out[10], 61);
+    is("the same bytes but for the loss",
+       memcmp(out + 1, job, 8) == 0 && memcmp(out + 11, job + 10, sizeof job - 10) == 0, 1);
+    is("meter from 9 bytes", order_meter(job, sizeof job, meters, 9, out, ORDER_METER_BYTES), 17);
+    is("meter into 50 bytes", order_meter(job, sizeof job, meters, sizeof meters, out, 50), 14);
 
     is("rate", order_rate(job, sizeof job, cat, sizeof cat, wide, 1, out, ORDER_RATE_BYTES), 0);
     is("required head", number_at(out), 921);

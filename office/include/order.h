@@ -1,14 +1,14 @@
-/* The proved pipe sizing library: design flows, rating and choosing of a branched house network.
+/* The proved pipe sizing library: design flows, the meter, rating and choosing of a branched house network.
  *
  * Build: `rt staticlib order` makes target/staticlib/liborder.a; link it with the C library (it uses memcpy and memset).
  *
  * Every slice is a pointer and then its length in bytes. For every call:
  *   - pointers are not null, also those of empty slices (length 0); lengths are below 2^63;
- *   - out and work overlap neither each other nor anything that is read; slices that are only read (job, cat, sizes) may
+ *   - out and work overlap neither each other nor anything that is read; slices that are only read (job, meters, cat, sizes) may
  *     overlap or be the same bytes;
  *   - no pointer needs an alignment: all are read and written byte by byte;
  *   - nothing is kept after the call, no memory is allocated, and nothing is shared between calls: threads may call at once
- *     with out and work of their own, on the same job, cat and sizes as long as nobody writes those;
+ *     with out and work of their own, on the same job, meters, cat and sizes as long as nobody writes those;
  *   - the stack takes about 60 KB for order_choose and under 27 KB for the others; a thread with 128 KB has enough.
  * Any bytes at all may be lent: each input gets its result or the number of its refusal.
  *
@@ -32,7 +32,9 @@
  *   14  result buffer too short
  *   15  workspace too short
  *   16  no suitable list
- * Of several faults the first in the order 1 to 9, 10, 11, 12, 14, 15, then 13 or 16 is given back.
+ *   17  the list of meters breaks its rules
+ *   18  no meter qualifies
+ * Of several faults the first in the order 1 to 9, 17, 10, 11, 12, 14, 15, then 13, 16 or 18 is given back.
  *
  * A refusal leaves every byte of out as it was. A result is written from the start of out and leaves the bytes after it
  * as they were, so a longer buffer is fine. Numbers are big-endian. S is the section count, byte 6 of the job; H is the
@@ -56,6 +58,7 @@ extern "C" {
 /* The greatest sizes that any accepted job needs (S = 63, H = 6,000). */
 #define ORDER_FLOW_BYTES 264u      /* 12 + 4 * 63 */
 #define ORDER_DUTY_BYTES 4u
+#define ORDER_METER_BYTES 671u     /* 1 + 40 + 10 * 63 */
 #define ORDER_RATE_BYTES 387u      /* 9 + 6 * 63 */
 #define ORDER_CHOOSE_BYTES 67u     /* 4 + 63 */
 #define ORDER_COPY_BYTES 670u      /* 40 + 10 * 63 */
@@ -73,6 +76,19 @@ uint32_t order_flow(const uint8_t *job, size_t job_length, uint8_t *out, size_t 
  * the pump.
  * Refusals: 1 to 9, 14. */
 uint32_t order_duty(const uint8_t *job, size_t job_length, uint8_t *out, size_t out_length);
+
+/* The meter of least loss from a list.
+ * job: a job record. meters: 1 to 8 meters of 5 bytes: type (1 byte: 1 vane, 2 turbine), resistance in ten-thousandths of
+ * m per (l/s) squared (2), service flow in l/h (2), the last two at least 1. out: at least 1 byte more than the job.
+ * A meter's loss in cm is resistance * q * q / 100,000,000, up, with q the house's design flow in ml/s as order_duty gives
+ * it. A meter qualifies if its loss is at most 500 (vane) or 250 (turbine), and the mean hour that order_flow gives is at
+ * most its service flow. Of those that qualify the one of least loss is given, of several the first. The meter loss that the
+ * job has plays no part.
+ * Result: the meter's place in the list, from 1 (1 byte), then the job record with that meter's loss in bytes 8 and 9 and
+ * every other byte as it was. That record is accepted by every call that takes a job.
+ * Refusals: 1 to 9, 17, 14, 18, in this order. */
+uint32_t order_meter(const uint8_t *job, size_t job_length, const uint8_t *meters, size_t meters_length,
+                     uint8_t *out, size_t out_length);
 
 /* Rating of a job with given sizes.
  * job: a job record. cat: a catalogue. sizes: S size numbers of 1 byte, from 1. out: at least 9 + 6 * S bytes.

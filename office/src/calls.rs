@@ -19,6 +19,15 @@ pub struct Flow {
     pub flows: Vec<u32>,
 }
 
+/// A job with a meter from a list.
+#[derive(Clone, Debug, PartialEq, Eq)]
+pub struct Metered {
+    /// The meter's place in the list, from 1.
+    pub place: u8,
+    /// The job record with the meter's loss, and every other byte as it was.
+    pub job: Vec<u8>,
+}
+
 /// One section as rated.
 #[derive(Clone, Copy, Debug, PartialEq, Eq)]
 pub struct Rated {
@@ -72,6 +81,13 @@ pub fn duty(job: &[u8]) -> Result<u32, Refusal> {
     let mut out = [0; 4];
     refused(ffi::duty(job, &mut out))?;
     Ok(u32::from_be_bytes(out))
+}
+
+/// The meter of least loss that a list offers a job record, and the record with its loss.
+pub fn meter(job: &[u8], meters: &[u8]) -> Result<Metered, Refusal> {
+    let mut out = [0; 1 + 40 + 10 * MOST_SECTIONS];
+    refused(ffi::meter(job, meters, &mut out))?;
+    Ok(Metered { place: out[0], job: out[1..=job.len()].to_vec() })
 }
 
 /// Rating of a job record with a catalogue and one size number for each section.

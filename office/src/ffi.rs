@@ -28,6 +28,14 @@ mod linked {
             out_length: usize,
         ) -> u32;
         pub fn order_duty(job: *const u8, job_length: usize, out: *mut u8, out_length: usize) -> u32;
+        pub fn order_meter(
+            job: *const u8,
+            job_length: usize,
+            meters: *const u8,
+            meters_length: usize,
+            out: *mut u8,
+            out_length: usize,
+        ) -> u32;
         pub fn order_copy(job: *const u8, job_length: usize, out: *mut u8, out_length: usize) -> u32;
     }
 }
@@ -76,6 +84,21 @@ pub fn choose(job: &[u8], cat: &[u8], work: &mut [u8], out: &mut [u8]) -> u32 {
 pub fn duty(job: &[u8], out: &mut [u8]) -> u32 {
     // SAFETY: see the top of the file; the library reads `job` and writes inside `out`.
     unsafe { linked::order_duty(job.as_ptr(), job.len(), out.as_mut_ptr(), out.len()) }
+}
+
+/// The meter that wins from a list and the job with its loss into `out`; 0, or the number of the refusal.
+pub fn meter(job: &[u8], meters: &[u8], out: &mut [u8]) -> u32 {
+    // SAFETY: see the top of the file; the library reads the first two and writes inside `out`.
+    unsafe {
+        linked::order_meter(
+            job.as_ptr(),
+            job.len(),
+            meters.as_ptr(),
+            meters.len(),
+            out.as_mut_ptr(),
+            out.len(),
+        )
+    }
 }
 
 /// The record read and written again into `out`; 0, or the number of the refusal.

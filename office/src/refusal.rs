@@ -1,11 +1,11 @@
-//! Document 01's table of refusals, as an error type with a sentence for each number.
+//! The table of refusals, 1 to 16 of document 01 and from 17 on of document 02, as an error type with a sentence for each number.
 
 mod rows;
 
 use rows::{ROWS, Row};
 use std::fmt;
 
-/// Why an order is refused. The numbers are document 01's; `rows.rs` has the words for each.
+/// Why an order is refused. The numbers are those of documents 01 and 02; `rows.rs` has the words for each.
 #[derive(Clone, Copy, Debug, PartialEq, Eq, Hash)]
 pub enum Refusal {
     /// 1
@@ -40,6 +40,10 @@ pub enum Refusal {
     WorkShort,
     /// 16
     NoSuitableList,
+    /// 17
+    MeterList,
+    /// 18
+    NoMeter,
     /// A number that this program's table does not have, kept as it came: a newer library may refuse for a new reason, and
     /// the caller must still see that it refused, and with which number.
     Unknown(u32),
@@ -48,7 +52,7 @@ pub enum Refusal {
 use Refusal::*;
 
 impl Refusal {
-    /// All of document 01's refusals, in the order of their numbers.
+    /// All refusals, in the order of their numbers.
     pub fn all() -> impl Iterator<Item = Refusal> {
         ROWS.iter().map(|row| row.refusal)
     }
@@ -64,7 +68,7 @@ impl Refusal {
         (1..).zip(ROWS).find(|(_, row)| row.refusal == *self)
     }
 
-    /// Document 01's number.
+    /// The paper's number.
     pub fn number(&self) -> u32 {
         match self {
             Unknown(n) => *n,

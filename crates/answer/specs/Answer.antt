@@ -1,4 +1,4 @@
--- Document 01, "Refused orders": the number that each answer gives back.
+-- Document 01, "Refused orders", and document 02 from 17 on: the number that each answer gives back.
 -- Assumes nothing.
 use Prim.Native.Nat.{ℕ}
 use Rattle.answer.specs.declared.Answer.{Answer}
@@ -20,6 +20,8 @@ use Rattle.answer.specs.declared.Answer.the-variants.{
   ResultShort,
   WorkShort,
   NoSuitableList,
+  MeterList,
+  NoMeter,
 }
 
 abbrev pub numberOf : Answer → ℕ
@@ -57,3 +59,7 @@ numberOf ResultShort = 14
 numberOf WorkShort = 15
 -- no suitable list
 numberOf NoSuitableList = 16
+-- the list of meters breaks its rules
+numberOf MeterList = 17
+-- no meter qualifies
+numberOf NoMeter = 18

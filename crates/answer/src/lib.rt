@@ -21,6 +21,8 @@ pub enum Answer {
     ResultShort,
     WorkShort,
     NoSuitableList,
+    MeterList,
+    NoMeter,
 }
 
 // The number of the table; 0 for a result.
@@ -45,5 +47,7 @@ pub fn number(a: Answer) -> u32
         Answer::ResultShort => 14,
         Answer::WorkShort => 15,
         Answer::NoSuitableList => 16,
+        Answer::MeterList => 17,
+        Answer::NoMeter => 18,
     }
 }

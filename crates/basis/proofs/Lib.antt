@@ -2,6 +2,7 @@ pub mod Split
 pub mod Bools
 pub mod Within
 pub mod Each
+pub mod Lowest
 pub mod Sum
 pub mod Slots
 pub mod Stored

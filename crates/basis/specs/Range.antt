@@ -1,7 +1,7 @@
--- Sums and tests over the whole numbers from 1 to n.
+-- Sums and tests over the whole numbers from 1 to n, and the lowest that passes a test.
 -- Assumes nothing.
 use Prim.Native.Nat.{ℕ, zero, suc, _+_}
-use mathlib.Core.Bool.{Bool, true, false, _&&_, _||_}
+use mathlib.Core.Bool.{Bool, true, false, _&&_, _||_, cond}
 use mathlib.Core.List.{List, [], _++_}
 use lib.Dec.{leb}
 
@@ -23,6 +23,11 @@ allTo (suc n) f = allTo n f && f (suc n)
 unfoldable pub anyTo : ℕ → (ℕ → Bool) → Bool
 anyTo zero f = false
 anyTo (suc n) f = anyTo n f || f (suc n)
+
+-- the lowest of 1 to n that passes a test, 0 where none does
+unfoldable pub lowestTo : ℕ → (ℕ → Bool) → ℕ
+lowestTo zero test = 0
+lowestTo (suc n) test = cond (anyTo n test) (lowestTo n test) (cond (test (suc n)) (suc n) 0)
 
 -- f 1, then f 2, .. and f n, in one list
 unfoldable pub concatTo : ℕ → (ℕ → List ℕ) → List ℕ

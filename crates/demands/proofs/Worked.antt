@@ -10,7 +10,7 @@ use lib.IntN.{pos}
 use lib.ListN.{length}
 use lib.Signed.{leZ}
 use Rattle.basis.specs.Sections.{pathFrom, pathOf}
-use Rattle.basis.specs.Range.{sumTo, allTo, anyTo}
+use Rattle.basis.specs.Range.{sumTo, allTo, anyTo, lowestTo}
 use Rattle.basis.specs.Round.{up, line}
 use Rattle.basis.specs.Slots.{tabulate, slots}
 use Rattle.basis.specs.Stored.{stored}
@@ -32,7 +32,7 @@ use Rattle.catalogue.specs.Layout.{boreOf, priceOf, partOf, flowAt, velocityAt,
 use Rattle.catalogue.specs.Rules.{shapeOk, rowOk, risesAt, rowsOk, sizeOk, sizesOk, catChecks, catNo}
 use Rattle.catalogue.specs.Reading.{between, servesAt, readRows}
 use Rattle.heads.specs.Signed.{greater, clamped}
-use Rattle.heads.specs.Heads.{reachOf, greatestTo, requiredOf, pumpAt, lowestTo, dictatingOf}
+use Rattle.heads.specs.Heads.{reachOf, greatestTo, requiredOf, pumpAt, dictatingOf}
 use Rattle.sizing.specs.Losses.{listOk, readingOf, overBy, overAt, overAny, lossOf, lossAt, lossesOf}
 use Rattle.acceptance.specs.Acceptance.{inputChecks}
 use Rattle.flow.specs.Calls.{flowNo, dutyNo}

@@ -1,4 +1,4 @@
-// The bytes of a job's fields, written from the front of a buffer.
+// The bytes of a job's fields, written from the front of a buffer, and a record's bytes with one field replaced.
 use fields::Header;
 use fields::Job;
 use fields::Section;
@@ -12,6 +12,7 @@ ghost use Rattle.basis.specs.Stored.{stored};
 ghost use Rattle.wire.specs.Wire.{bytesOf};
 ghost use Rattle.fields.specs.Fields.{blankSection, countOf};
 ghost use Rattle.record.specs.Record.{sectionsFrom, lengthOf, headerBytes, sectionBytes, encode};
+ghost use Rattle.record.specs.Edited.{edited};
 
 // The head fields.
 fn header_bytes(h: Header) -> [u8; 16]
@@ -95,6 +96,15 @@ fn put_sections(out: &mut [u8], sections: [Section; 64], count: usize)
         put_section(out, place_of(i), sections[i]);
         i += 1;
     }
+}
+
+// The record b from a place on, with n in the two bytes of one field.
+pub fn put_edited(out: &mut [u8], at: usize, b: &[u8], field: usize, n: u16)
+    requires { ⌜ (at + length (now b) ≤ length (now out)) × (field + 2 ≤ length (now b)) ⌝ }
+    ensures { λ _. ⌜ now (out .exit) ≡ stored (now (out .entry)) at (edited 2 (now (b .entry)) field n) ⌝ }
+{
+    wire::put(out, at, b);
+    wire::put_be16(out, at + field, n);
 }
 
 // The whole record.

@@ -19,7 +19,7 @@ use Rattle.heads.specs.Signed.{greater}
 use Rattle.heads.specs.Heads.{reachOf, greatestTo, dictatingOf}
 use Rattle.heads.proofs.Signed.{le-self, le-trans, le-total, less-not, not-less, greater-first, greater-second}
 use Rattle.heads.proofs.Maximum.{greatest-one, greatest-more, greatest-bound, greatest-ext}
-use Rattle.heads.proofs.Lowest.{Lowest, lowest-only}
+use Rattle.basis.proofs.Lowest.{Lowest, lowest-only}
 
 pub record Best (f : ℕ → ℤ) (n : ℕ) (most : ℤ) (section : ℕ) : Type 0 where
   pub greatest : most ≡ greatestTo n f

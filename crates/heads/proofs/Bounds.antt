@@ -21,7 +21,7 @@ use Rattle.heads.specs.Heads.{reachOf, greatestTo, requiredOf, dictating
 use Rattle.heads.specs.Contracts.{Given}
 use Rattle.heads.proofs.Signed.{add-mag}
 use Rattle.heads.proofs.Loss.{path-within, path-held}
-use Rattle.heads.proofs.Lowest.{lowest-within}
+use Rattle.basis.proofs.Lowest.{lowest-within}
 use Rattle.heads.proofs.Maximum.{Reached, greatest-reached}
 
 module _ {job : Job} {losses : List ℕ} (g : Given job losses) where

@@ -1,7 +1,6 @@
 pub mod Signed
 pub mod Loss
 pub mod Maximum
-pub mod Lowest
 pub mod Best
 pub mod Same
 pub mod Bounds

@@ -9,7 +9,7 @@ use Rattle.tree.specs.Tree.{parentOf, Rooted}
 use Rattle.heads.specs.Heads.{reachOf, greatestTo, requiredOf, pumpAt, pumpOf, dictatingOf}
 use Rattle.heads.proofs.Loss.{parent-lower}
 use Rattle.heads.proofs.Maximum.{greatest-ext}
-use Rattle.heads.proofs.Lowest.{lowest-ext}
+use Rattle.basis.proofs.Lowest.{lowest-ext}
 
 module _ (job : Job) (r : Rooted job) (some : 0 < countOf job) (loss loss′ : ℕ → ℕ)
     (e : (i : ℕ) → 0 < i → i ≤ countOf job → loss i ≡ loss′ i) where

@@ -1,10 +1,9 @@
 -- Document 01, "Rating and choosing": required head, pump head and dictating section, over losses as a function.
 -- Assumes nothing.
 use Prim.Native.Nat.{ℕ, zero, suc, _+_}
-use mathlib.Core.Bool.{Bool, cond}
 use lib.IntN.{ℤ, pos, _+ℤ_, _-ℤ_}
 use lib.Signed.{leZ}
-use Rattle.basis.specs.Range.{anyTo}
+use Rattle.basis.specs.Range.{lowestTo}
 use Rattle.basis.specs.Sections.{pathOf}
 use Rattle.fields.specs.declared.Job.{Job}
 use Rattle.fields.specs.Fields.{countOf, sectionOf}
@@ -31,11 +30,6 @@ pumpAt job loss guaranteed = clamped (requiredOf job loss -ℤ pos guaranteed)
 -- at the job's own G
 abbrev pub pumpOf : Job → (ℕ → ℕ) → ℕ
 pumpOf job loss = pumpAt job loss (job .header .guaranteed)
-
--- the lowest of 1 to n that passes a test, 0 where none does
-unfoldable pub lowestTo : ℕ → (ℕ → Bool) → ℕ
-lowestTo zero test = 0
-lowestTo (suc n) test = cond (anyTo n test) (lowestTo n test) (cond (test (suc n)) (suc n) 0)
 
 -- the dictating section: the lowest number that reaches the greatest
 unfoldable pub dictatingOf : Job → (ℕ → ℕ) → ℕ

@@ -8,6 +8,7 @@ use Rattle.answer.specs.Checks.{bufferAfter}
 use Rattle.record.specs.Record.{decode}
 use Rattle.job.specs.Calls.{copyNo}
 use Rattle.flow.specs.Calls.{flowNo, flowBytes, dutyNo, dutyBytes}
+use Rattle.metering.specs.Calls.{meterNo, meterBytes}
 use Rattle.rating.specs.Calls.{rateNo, rateBytes}
 
 -- the number, and the result buffer after it: the bytes at its front where the number is 0, else as it was
@@ -26,6 +27,10 @@ FlowGiven job out₀ out n = Gives (flowNo job (length out₀)) (flowBytes (deco
 -- duty: 1 to 9, 14, or the house's design flow
 abbrev pub DutyGiven : List ℕ → List ℕ → List ℕ → ℕ → Type 0
 DutyGiven job out₀ out n = Gives (dutyNo job (length out₀)) (dutyBytes (decode job)) out₀ out n
+
+-- the meter: 1 to 9, 17, 14, 18, or the place of the meter that wins and the record with its loss
+abbrev pub MeterGiven : List ℕ → List ℕ → List ℕ → List ℕ → ℕ → Type 0
+MeterGiven job meters out₀ out n = Gives (meterNo job meters (length out₀)) (meterBytes job meters) out₀ out n
 
 -- rating: 1 to 14, or the rating result
 abbrev pub Rated : List ℕ → List ℕ → List ℕ → List ℕ → List ℕ → ℕ → Type 0

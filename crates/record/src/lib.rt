@@ -3,6 +3,9 @@ ghost use mathlib.Core.Path.{_≡_};
 ghost use Prim.Native.Nat.{_≤_, _<_};
 ghost use Rattle.record.specs.Record.{lengthOf, placeOf};
 
+// Where the meter loss stands.
+pub const METER: usize = 8;
+
 // Where section i begins, from 1.
 pub fn place_of(i: usize) -> usize
     requires { ⌜ (0 < i) × (i ≤ 256) ⌝ }

@@ -1,4 +1,4 @@
-//! Document 01's table of refusals in words: what each means, what usually leads to it, and what to try. A request that adds
+//! The table of refusals in words: what each means, what usually leads to it, and what to try. A request that adds
 //! a number adds a row here and a case to [`Refusal`].
 
 use super::Refusal::{self, *};
@@ -239,6 +239,37 @@ pub const ROWS: &[Row] = &[
             "Add wider sizes to the table.",
             "Raise the velocity limit, if the rules for the house allow it.",
             "Look at the drawing: `office draw` draws such a house too, and marks where it fails.",
+        ],
+    },
+    Row {
+        refusal: MeterList,
+        text: "The list of meters breaks its rules. It has 1 to 8 meters of 5 bytes each, a meter's type is 1 (vane) or 2 \
+               (turbine), and its resistance and its service flow are at least 1.",
+        plain: "The list of meters is not whole, it has too many, or a meter has a figure that can't be right.",
+        causes: &[
+            "Another file was given: a house or a table of pipes.",
+            "The list was cut off while it was copied or sent, or it holds the supplier's whole range.",
+            "A resistance or a service flow was left out.",
+        ],
+        remedies: &[
+            "Look whether the files are in their order: the house first, then the meters.",
+            "Write the list as a readable table, with the meters that may be had for this house.",
+            "Correct the meter that is named.",
+        ],
+    },
+    Row {
+        refusal: NoMeter,
+        text: "No meter of the list qualifies. At the house's design flow a vane meter may lose at most 500 cm and a turbine \
+               meter at most 250 cm, and the mean hour is at most the meter's service flow.",
+        plain: "Every meter of the list is too small for this house.",
+        causes: &[
+            "The list has only meters for smaller houses.",
+            "A resistance or a service flow has the wrong unit.",
+            "Residents or fixtures of the house are too many.",
+        ],
+        remedies: &[
+            "Add larger meters to the list: they lose less and have a greater service flow.",
+            "Look at the limit that each meter breaks, and by how much.",
         ],
     },
 ];

@@ -6,11 +6,10 @@ use Prim.Native.Nat.{ℕ, zero, suc, _≤_, _<_}
 use native.Mathlib.Nat.{eq-or-lt-of-le}
 use native.Mathlib.Omega.{arith}
 use mathlib.Core.Bool.{Bool, true, false, cond}
-use Rattle.basis.specs.Range.{anyTo}
+use Rattle.basis.specs.Range.{anyTo, lowestTo}
 use Rattle.basis.proofs.Bools.{apart}
 use Rattle.basis.proofs.Split.{either, lt-or-ge}
 use Rattle.basis.proofs.Each.{Found, any-found, any-true, any-at, any-ext}
-use Rattle.heads.specs.Heads.{lowestTo}
 
 pub record Lowest (n : ℕ) (test : ℕ → Bool) (i : ℕ) : Type 0 where
   pub low : 0 < i
