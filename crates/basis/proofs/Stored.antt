@@ -1,4 +1,4 @@
--- A run written over a list: its length, the run after it, a single element, and what stands at each place.
+-- A run written over a list: its length, the run after it, a run inside it, a single element, and what stands at each place.
 -- Assumes nothing.
 use mathlib.Core.Path.{_≡_, sym, ap, _∙_}
 use mathlib.Core.List.{List, [], _∷_, _++_, append-assoc}
@@ -7,7 +7,7 @@ use native.Mathlib.Omega.{arith}
 use native.Mathlib.Numerals.{add-one}
 use native.Mathlib.Nat.{add-zero}
 use lib.ListN.{length, take, drop, getD, set, length-append, take-append-drop, List·getD-append}
-use lib.Seq.{length-take-le, take-at, drop-append-add, drop-drop, set-split, getD-take, getD-drop, getD-append-add, length-sets, sets-eq}
+use lib.Seq.{length-take-le, take-at, take-append-le, take-append-add, drop-append-le, drop-append-add, drop-drop, set-split, getD-take, getD-drop, getD-append-add, length-sets, sets-eq}
 use Rattle.basis.specs.Stored.{stored}
 
 -- the list as what stands before the end of the run, and what stands after it
@@ -44,6 +44,23 @@ stored-next l i x j y e h =
     rw (after, drop-append-add p (drop (i + length x) l) (length y), drop-drop (length y) (i + length x) l, sum) in
     rw (whole, take-at p (drop (i + length x) l) j w′, rest)
     (append-assoc (take i l) x (y ++ drop (i + length (x ++ y)) l) ∙ rw (append-assoc x y (drop (i + length (x ++ y)) l)))
+
+-- a run written inside another
+pub stored-inside : (l : List ℕ) (i : ℕ) (b : List ℕ) (j : ℕ) (x : List ℕ) → i ≤ length l → j + length x ≤ length b →
+    stored (stored l i b) (i + j) x ≡ stored l i (stored b j x)
+unfolding stored
+stored-inside l i b j x h k =
+    let rest : List ℕ = drop (i + length b) l in
+    let w : length (take i l) ≡ i = length-take-le i l h in
+    let at : i + j ≡ length (take i l) + j = rw w in
+    let past : i + j + length x ≡ length (take i l) + (j + length x) = rw w (omega arith) in
+    let before : take (i + j) (take i l ++ (b ++ rest)) ≡ take i l ++ take j b =
+    rw (at, take-append-add (take i l) (b ++ rest) j, take-append-le j b rest (omega arith)) in
+    let after : drop (i + j + length x) (take i l ++ (b ++ rest)) ≡ drop (j + length x) b ++ rest =
+    rw (past, drop-append-add (take i l) (b ++ rest) (j + length x), drop-append-le (j + length x) b rest k) in
+    rw (before, after, stored-length b j x k)
+    (append-assoc (take i l) (take j b) (x ++ (drop (j + length x) b ++ rest)) ∙
+    rw (append-assoc (take j b) (x ++ drop (j + length x) b) rest, append-assoc x (drop (j + length x) b) rest))
 
 pub stored-one : (l : List ℕ) (i a : ℕ) → i < length l → set l i a ≡ stored l i (a ∷ [])
 unfolding stored

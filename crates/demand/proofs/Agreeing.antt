@@ -17,7 +17,7 @@ use Rattle.demand.proofs.Shares.{share-zero}
 -- two jobs, each with a vector, whose shares agree
 module _ (a b : Job) (n n′ : ℕ → ℕ) (services : serviceOf a ≡ serviceOf b)
     (shares : (kind : ℕ) → 0 < kind → kind ≤ 12 → shareOf a n kind ≡ shareOf b n′ kind) where
-  m-agree : mOf a n ≡ mOf b n′
+  pub m-agree : mOf a n ≡ mOf b n′
   m-agree = m-is a n ∙ sum-ext 12 _ _ shares ∙ sym (m-is b n′)
 
   fixture-agree : (kind : ℕ) → normAt a kind .fixture ≡ normAt b kind .fixture
@@ -29,7 +29,7 @@ module _ (a b : Job) (n n′ : ℕ → ℕ) (services : serviceOf a ≡ serviceO
       sum-ext 12 _ _ (λ kind p q. ap (λ x. x * normAt a kind .fixture) (shares kind p q) ∙ ap (λ x. shareOf b n′ kind * x) (fixture-agree kind)) ∙
       sym (fixture-is b n′)
 
-  flow-agree : flowOf a n ≡ flowOf b n′
+  pub flow-agree : flowOf a n ≡ flowOf b n′
   flow-agree = flow-is a n ∙ rw (weighted-agree, m-agree) (sym (flow-is b n′))
 
 module _ (job : Job) (n n′ : ℕ → ℕ) (same : (kind : ℕ) → 0 < kind → kind ≤ 12 → n kind ≡ n′ kind) where

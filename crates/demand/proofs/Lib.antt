@@ -9,3 +9,4 @@ pub mod Totals
 pub mod Agreeing
 pub mod DesignFlows
 pub mod Deciding
+pub mod Same

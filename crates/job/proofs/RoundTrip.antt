@@ -90,7 +90,7 @@ module _ (job : Job) (room : ℕ) (done : writeNo job room ≡ 0) where
   same-checks : fieldChecks job ≡ fieldChecks (kept job)
   same-checks =
       let s : SameFields job (kept job) = kept-same in
-      checks-same job (kept job) (sym (s .header)) (sym (s .residents)) (λ i a h. sym (s .sections i a h))
+      checks-same job (kept job) (ap (λ h. h .sections) (sym (s .header))) (sym (s .residents)) (λ i a h. sym (s .sections i a h))
 
   -- and read again
   module _ (sixteen : SixteenBits job) where

@@ -6,7 +6,7 @@ use mathlib.Core.List.{List, [], append-nil}
 use Prim.Native.Nat.{ℕ, _+_, _-_, _*_, _%_, _^_, _≤_, _<_}
 use native.Mathlib.Omega.{arith}
 use lib.ListN.{length, set}
-use lib.Seq.{getD-set-same, set-set}
+use lib.Seq.{getD-set-same, set-set, ext-getD}
 use Rattle.basis.specs.Slots.{tabulate, slots}
 use Rattle.basis.proofs.Split.{lt-or-ge}
 use Rattle.basis.proofs.Stored.{stored-length, stored-in, stored-before, stored-after}
@@ -44,6 +44,27 @@ module _ {at width : ℕ} {b e : List ℕ} (same : SameBut at width b e) where
   -- a field that shares no byte with the one that was replaced
   pub field-kept : (w j : ℕ) → ((k : ℕ) → k < w → at ≤ j + k → j + k < at + width → ⊥) → beAt w e j ≡ beAt w b j
   field-kept w j apart = be-same w e b j j (λ k h. same .bytes (j + k) (apart k h))
+
+  -- whatever the field held, with n in it the record is the same
+  pub edited-over : (n : ℕ) → at + width ≤ length b → edited width e at n ≡ edited width b at n
+  edited-over n fits =
+      let size : length (bytesOf width n) ≡ width = bytes-length width n in
+      let one = edited-same width e at n (rw (same .long) fits) in
+      let other = edited-same width b at n fits in
+      let outside : (j : ℕ) → (at ≤ j → j < at + width → ⊥) → byteAt (edited width e at n) j ≡ byteAt (edited width b at n) j =
+      λ j apart. one .bytes j apart ∙ same .bytes j apart ∙ sym (other .bytes j apart) in
+      ext-getD 0 (edited width e at n) (edited width b at n) (one .long ∙ same .long ∙ sym (other .long))
+      (λ j h. ⊎-elim
+      (λ (before : j < at). outside j (λ c d. omega arith))
+      (λ (from : at ≤ j). ⊎-elim
+      (λ (inside : j < at + width).
+      let k : at + (j - at) ≡ j = omega arith in
+      let fit : j - at < length (bytesOf width n) = rw size (omega arith) in
+      let long : at ≤ length e = rw (same .long) (omega arith) in
+      rw (← k) (stored-in e at (bytesOf width n) (j - at) long fit ∙ sym (stored-in b at (bytesOf width n) (j - at) (omega arith) fit)))
+      (λ (past : at + width ≤ j). outside j (λ c d. omega arith))
+      (lt-or-ge j (at + width)))
+      (lt-or-ge j at))
 
   head-kept : 16 ≤ at → headerAt e ≡ headerAt b
   unfolding headerAt

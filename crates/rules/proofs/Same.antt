@@ -1,6 +1,6 @@
--- Two jobs with the same head, residents and sections 1 to S keep and break the same rules.
+-- Two jobs with the same S, residents and sections 1 to S keep and break the same rules.
 -- Assumes nothing.
-use mathlib.Core.Path.{_≡_, ap, _∙_}
+use mathlib.Core.Path.{_≡_, _∙_}
 use Prim.Native.Nat.{ℕ, _≤_, _<_}
 use lib.Dec.{eqb}
 use Rattle.basis.proofs.Each.{all-ext, any-ext}
@@ -11,11 +11,8 @@ use Rattle.rules.proofs.Ends.{childlessZeroAt}
 use Rattle.rules.proofs.House.{oddAt}
 use Rattle.rules.specs.Rules.{sectionOk, sectionsOk, childless, childlessZero, unmatched, fieldChecks}
 
-module _ (job job′ : Job) (heads : job .header ≡ job′ .header) (residents : job .residents ≡ job′ .residents)
+module _ (job job′ : Job) (counts : countOf job ≡ countOf job′) (residents : job .residents ≡ job′ .residents)
     (sections : (i : ℕ) → 0 < i → i ≤ countOf job → sectionOf job i ≡ sectionOf job′ i) where
-  counts : countOf job ≡ countOf job′
-  counts = ap (λ h. h .sections) heads
-
   sections-same : sectionsOk job ≡ sectionsOk job′
   unfolding sectionsOk
   sections-same = all-ext (countOf job) _ (λ i. sectionOk i (sectionOf job′ i)) (λ i h k. rw (sections i h k)) ∙ rw counts

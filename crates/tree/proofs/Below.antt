@@ -30,6 +30,16 @@ reach-one : (n : ℕ) (job : Job) (i j : ℕ) → reaches (suc n) job i j ≡ eq
 unfolding reaches
 reach-one n job i j = refl
 
+-- two jobs with the same sections
+parent-same : (a b : Job) → a .sections ≡ b .sections → (j : ℕ) → parentOf a j ≡ parentOf b j
+unfolding parentOf
+parent-same a b e j = rw e
+
+pub reach-same : (a b : Job) → a .sections ≡ b .sections → (n i j : ℕ) → reaches n a i j ≡ reaches n b i j
+reach-same a b e zero i j = reach-none a i j ∙ sym (reach-none b i j)
+reach-same a b e (suc n) i j =
+    reach-one n a i j ∙ rw (parent-same a b e j, reach-same a b e n i (parentOf b j)) (sym (reach-one n b i j))
+
 reach-self : (n : ℕ) (job : Job) (i : ℕ) → reaches n job i i ≡ true
 reach-self zero job i = reach-none job i i ∙ eq-eqb i i refl
 reach-self (suc n) job i = rw (reach-one n job i i, eq-eqb i i refl)

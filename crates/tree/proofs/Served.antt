@@ -30,7 +30,7 @@ use Rattle.fields.specs.declared.Job.{Job}
 use Rattle.fields.specs.Fields.{countOf, sectionOf}
 use Rattle.tree.specs.Tree.{below, ownOf, servedOf, houseOf, setOf, fixturesBelow, Rooted}
 use Rattle.tree.specs.Rows.{Kinds}
-use Rattle.tree.proofs.Below.{below-self, below-up, below-under, below-pump, child-below, below-child}
+use Rattle.tree.proofs.Below.{reach-same, below-self, below-up, below-under, below-pump, child-below, below-child}
 use Rattle.tree.proofs.Climb.{climb, climb-stop, climb-step}
 use Rattle.tree.proofs.Taken.{part}
 
@@ -184,3 +184,9 @@ pub house-same : (a b : Job) → countOf a ≡ countOf b → ((j : ℕ) → 0 < 
 unfolding houseOf ownOf
 house-same a b e same kind =
     sum-ext (countOf a) _ (λ j. ownOf b kind j) (λ j p q. rw (same j p q)) ∙ rw e
+
+-- and so are those that a section serves, in two jobs with the same sections
+pub served-same : (a b : Job) → countOf a ≡ countOf b → a .sections ≡ b .sections → (i kind : ℕ) → servedOf a i kind ≡ servedOf b i kind
+unfolding servedOf below ownOf
+served-same a b e same i kind =
+    sum-ext (countOf a) _ (λ j. cond (below b i j) (ownOf b kind j) 0) (λ j p q. rw (reach-same a b same 63 i j, same)) ∙ rw e
