@@ -1,4 +1,4 @@
--- The lowest of 1 to n that passes a test: it is at most n, it passes, none lower does, and only it is so.
+-- The lowest of 1 to n that passes a test: it is at most n, it passes, none lower does, and only it is so; 0 where none passes.
 -- Assumes nothing.
 use mathlib.Core.Path.{_≡_, refl}
 use mathlib.Core.Logic.{⊎-elim}
@@ -9,7 +9,7 @@ use mathlib.Core.Bool.{Bool, true, false, cond}
 use Rattle.basis.specs.Range.{anyTo, lowestTo}
 use Rattle.basis.proofs.Bools.{apart}
 use Rattle.basis.proofs.Split.{either, lt-or-ge}
-use Rattle.basis.proofs.Each.{Found, any-found, any-true, any-at, any-ext}
+use Rattle.basis.proofs.Each.{Found, any-found, any-true, any-at, any-each, any-ext}
 
 pub record Lowest (n : ℕ) (test : ℕ → Bool) (i : ℕ) : Type 0 where
   pub low : 0 < i
@@ -52,6 +52,12 @@ lowest-is (suc n) test t h k e =
     let e′ : test (suc n) ≡ true = rw last at e in
     rw (a, e′) (record { low = omega arith; high = omega arith; holds = e′; first = λ j p q. any-at n test a j p (omega arith) }))
     (either (anyTo n test)))
+
+-- none that passes: 0
+pub lowest-none : (n : ℕ) (test : ℕ → Bool) → ((i : ℕ) → 0 < i → i ≤ n → test i ≡ false) → lowestTo n test ≡ 0
+unfolding lowestTo
+lowest-none zero test e = refl
+lowest-none (suc n) test e = rw (any-each n test (λ i h k. e i h (omega arith)), e (suc n) (omega arith) (omega arith))
 
 pub lowest-only : (n : ℕ) (test : ℕ → Bool) (i : ℕ) → Lowest n test i → i ≡ lowestTo n test
 lowest-only n test i l =

@@ -37,7 +37,7 @@ fn meter_ok(m: Meter) -> bool
     if m.resistance == 0 {
         return false;
     }
-    m.service != 0
+    1 <= m.service
 }
 
 // 17 finds nothing.

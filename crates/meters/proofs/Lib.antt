@@ -1,0 +1,3 @@
+pub mod Bounds
+pub mod Qualifying
+pub mod Least
