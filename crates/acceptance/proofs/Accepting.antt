@@ -4,14 +4,16 @@ use mathlib.Core.Path.{_≡_}
 use mathlib.Core.Bool.{Bool}
 use mathlib.Core.List.{List, _++_}
 use Prim.{tt}
-use Prim.Native.Nat.{ℕ}
+use Prim.Native.Nat.{ℕ, _≤_}
+use lib.ListN.{length}
 use native.Mathlib.Omega.{arith}
 use Rattle.answer.specs.Checks.{firstNo}
 use Rattle.answer.proofs.First.{Numbered, numbered-append, first-after, first-before, first-split}
 use Rattle.fields.specs.declared.Job.{Job}
 use Rattle.record.specs.Record.{decode}
-use Rattle.job.specs.Calls.{readChecks, readNo, readJob, fieldsAfter}
+use Rattle.job.specs.Calls.{shapeChecks, readChecks, readNo, readJob, fieldsAfter}
 use Rattle.job.proofs.Stages.{stage-first, stage-second, fields-given}
+use Rattle.job.proofs.Shape.{shaped}
 use Rattle.job.proofs.Decided.{readable, read-numbered}
 use Rattle.job.proofs.RoundTrip.{read-header}
 use Rattle.demand.specs.Demand.{demandChecks, Valid, Accepted}
@@ -46,11 +48,19 @@ module _ (b : List ℕ) where
   pub read-valid : readNo b ≡ 0 → Valid (decode b)
   read-valid e = record { header = read-header b e; fields = readable b e .fields }
 
-  pub accept-accepted : jobNo b ≡ 0 → Accepted (decode b)
+  accept-parts : jobNo b ≡ 0 → (readNo b ≡ 0) × (firstNo (demandChecks (decode b)) ≡ 0)
   unfolding jobNo jobChecks readNo
-  accept-accepted e =
-      let parts = first-split (readChecks b) (demandChecks (decode b)) (read-numbered b) e in
-      record { valid = read-valid (parts .0); demand = parts .1 }
+  accept-parts e = first-split (readChecks b) (demandChecks (decode b)) (read-numbered b) e
+
+  pub accept-accepted : jobNo b ≡ 0 → Accepted (decode b)
+  accept-accepted e = let parts = accept-parts e in record { valid = read-valid (parts .0); demand = parts .1 }
+
+  -- it has all bytes of the head
+  pub accept-shape : jobNo b ≡ 0 → firstNo (shapeChecks b) ≡ 0
+  accept-shape e = readable b (accept-parts e .0) .shape
+
+  pub accept-long : jobNo b ≡ 0 → 40 ≤ length b
+  accept-long e = shaped b (accept-shape e) .long
 
   -- a call that takes a job goes on with the rest of its checks where the job is accepted
   module _ (rest : List (Bool × ℕ)) where

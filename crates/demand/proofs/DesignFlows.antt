@@ -6,11 +6,12 @@ use native.Mathlib.Nat.{mul-le-mul}
 use Rattle.basis.specs.Round.{up}
 use Rattle.basis.proofs.Round.{up-le}
 use Rattle.fields.specs.declared.Job.{Job}
+use Rattle.tree.specs.Tree.{houseOf}
 use Rattle.coefficient.specs.Alpha.{alphaOf}
 use Rattle.coefficient.proofs.Coefficient.{alpha-ceiling}
-use Rattle.demand.specs.Demand.{mOf, fixtureSumOf, flowOf, hourSumOf, hourlySumOf, hourOf}
+use Rattle.demand.specs.Demand.{mOf, fixtureSumOf, flowOf, houseFlow, hourSumOf, hourlySumOf, hourOf, Valid}
 use Rattle.demand.proofs.Equations.{flow-is, hour-is}
-use Rattle.demand.proofs.Totals.{fixture-sum-le, hourly-sum-le}
+use Rattle.demand.proofs.Totals.{fixture-sum-le, hourly-sum-le, house-m-pos}
 
 -- a sum of at most b times α
 pub alpha-product : (t b m : ℕ) → t ≤ b → t * alphaOf m ≤ b * 91900000
@@ -25,6 +26,9 @@ module _ (job : Job) (n : ℕ → ℕ) where
   flow-top h =
       rw (flow-is job n)
       (alpha-quotient (fixtureSumOf job n) (30 * mOf job n) (20000 * mOf job n) (mOf job n) (omega arith) (fixture-sum-le job n) (omega arith))
+
+pub house-flow-top : {job : Job} → Valid job → houseFlow job ≤ 137850
+house-flow-top {job} valid = flow-top job (houseOf job) (house-m-pos valid)
 
 module _ (job : Job) where
   pub hour-top : 0 < hourSumOf job → hourOf job ≤ 137850

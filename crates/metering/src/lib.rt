@@ -2,10 +2,23 @@
 use acceptance::accept;
 use answer::Answer;
 ghost use mathlib.Core.Path.{_≡_};
+ghost use mathlib.Core.List.{_∷_};
+ghost use Prim.Native.Nat.{_+_, _≤_};
 ghost use lib.ListN.{length};
+ghost use Rattle.basis.specs.Stored.{stored};
 ghost use Rattle.answer.specs.Answer.{numberOf};
 ghost use Rattle.answer.specs.Checks.{bufferAfter};
-ghost use Rattle.metering.specs.Calls.{meterNo, meterBytes};
+ghost use Rattle.record.specs.Edited.{meterPlace, edited};
+ghost use Rattle.metering.specs.Calls.{meterLength, meterNo, meterBytes};
+
+// The place, then the record with the loss in its meter loss field.
+fn put_result(out: &mut [u8], place: usize, b: &[u8], loss: u32)
+    requires { ⌜ (place ≤ 8) × (loss ≤ 500) × (meterPlace + 2 ≤ length (now b)) × (meterLength (length (now b)) ≤ length (now out)) ⌝ }
+    ensures { λ _. ⌜ now (out .exit) ≡ stored (now (out .entry)) 0 (place ∷ edited 2 (now (b .entry)) meterPlace loss) ⌝ }
+{
+    out[0] = place as u8;
+    encoding::put_edited(out, 1, b, record::METER, loss as u16);
+}
 
 // The place of the meter that wins and the job record with its loss at the front of the buffer, or a number and the buffer as it was.
 pub fn meter(b: &[u8], meters: &[u8], out: &mut [u8]) -> Answer
@@ -29,7 +42,6 @@ pub fn meter(b: &[u8], meters: &[u8], out: &mut [u8]) -> Answer
         return Answer::NoMeter;
     }
     let loss = meters::loss_of(meters::meter_at(meters, place), q);
-    out[0] = place as u8;
-    encoding::put_edited(out, 1, b, record::METER, loss as u16);
+    put_result(out, place, b, loss);
     answer
 }

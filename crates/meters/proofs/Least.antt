@@ -155,6 +155,13 @@ module _ (list : List ℕ) (q mean : ℕ) where
       (λ first. rw (leads-wins (l .leads)) at (first .1))
       (l .leads .held)
 
+  pub winner-zero : winnerOf list q mean ≡ 0 → noneQualifies list q mean ≡ true
+  winner-zero z =
+      ⊎-elim (λ e. e) (λ (e : noneQualifies list q mean ≡ false). absurd (omega (arith, winner-first e .low))) (either (noneQualifies list q mean))
+
+  pub winner-some : (winnerOf list q mean ≡ 0 → ⊥) → noneQualifies list q mean ≡ false
+  winner-some other = never (noneQualifies list q mean) (λ e. other (winner-none e))
+
   -- and none that qualifies loses less
   pub winner-bound : noneQualifies list q mean ≡ false → (u : ℕ) → 0 < u → u ≤ metersIn list → fits u ≡ true → loss (winnerOf list q mean) ≤ loss u
   winner-bound e u p k f =
