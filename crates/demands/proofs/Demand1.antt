@@ -15,10 +15,11 @@ use Rattle.demand.specs.Demand.{demandChecks}
 use Rattle.catalogue.specs.Rules.{catChecks}
 use Rattle.acceptance.specs.Acceptance.{jobChecks, inputChecks}
 use Rattle.flow.specs.Calls.{flowNo, dutyNo}
+use Rattle.metering.specs.Calls.{meterNo}
 use Rattle.rating.specs.Calls.{rateChecks, rateNo}
 use Rattle.choosing.specs.Calls.{chooseChecks, chooseNo, Chosen}
 use Rattle.order.specs.Promises.{Gives}
-use Rattle.demands.specs.Demand1.{Call, Read, Write, Copy, Flow, Duty, Rate, Choose, numbersOf, Among, Called, read, written, copied, flow-given, duty-given, rated, chosen, Answered, Demand1}
+use Rattle.demands.specs.Demand1.{Call, Read, Write, Copy, Flow, Duty, Meter, Rate, Choose, numbersOf, Among, Called, read, written, copied, flow-given, duty-given, meter-given, rated, chosen, Answered, Demand1}
 
 -- the numbers of a list of checks
 numbers : List (Bool × ℕ) → List ℕ
@@ -77,13 +78,14 @@ chosen-answered {b} {cat} {out₀} {work₀} {out} {work} {n} c =
 
 answered : {call : Call} {out₀ out work₀ work : List ℕ} {n : ℕ} → Called call out₀ out work₀ work n → Answered call out₀ out work₀ work n
 unfolding
-    numbers readNo writeNo writeChecks copyNo copyChecks flowNo dutyNo rateNo rateChecks
+    numbers readNo writeNo writeChecks copyNo copyChecks flowNo dutyNo meterNo rateNo rateChecks
     inputChecks jobChecks readChecks shapeChecks fieldChecks demandChecks catChecks
 answered (read b e) = checked Read (readChecks b) refl e (λ other. refl)
 answered (written job g) = gives-answered Write _ refl g
 answered (copied job g) = gives-answered Copy _ refl g
 answered (flow-given job g) = gives-answered Flow _ refl g
 answered (duty-given job g) = gives-answered Duty _ refl g
+answered (meter-given job meters g) = gives-answered Meter _ refl g
 answered (rated job cat sizes g) = gives-answered Rate _ refl g
 answered (chosen job cat c) = chosen-answered c
 

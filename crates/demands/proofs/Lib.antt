@@ -3,4 +3,5 @@ mod Flows
 mod Ratings
 pub mod Demand2
 pub mod Demand3
+pub mod Metering
 pub mod Worked

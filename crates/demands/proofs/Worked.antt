@@ -36,6 +36,8 @@ use Rattle.heads.specs.Heads.{reachOf, greatestTo, requiredOf, pumpAt, dictatin
 use Rattle.sizing.specs.Losses.{listOk, readingOf, overBy, overAt, overAny, lossOf, lossAt, lossesOf}
 use Rattle.acceptance.specs.Acceptance.{inputChecks}
 use Rattle.flow.specs.Calls.{flowNo, dutyNo}
+use Rattle.meters.specs.Meters.{meterAt, meterOk, metersOk, meterLoss, mostLoss, qualifies, noneQualifies, leastAt, winnerOf}
+use Rattle.metering.specs.Calls.{meterNo}
 use Rattle.rating.specs.Calls.{rateChecks, rateNo}
 use Rattle.sizing.proofs.Named.{list-long, list-names}
 use Rattle.acceptance.proofs.Accepting.{input-cat}
@@ -114,7 +116,7 @@ module _ {out₀ work₀ : List ℕ} where
 
 -- the rest is computed too, but for the statements over every list and over the call
 pub own-case : OwnCase
-unfolding computed dayNorms hourlySumOf hourOf dayOf meanOf clamped pumpAt lowestTo dictatingOf copyChecks copyNo flowNo dutyNo inputChecks rateChecks rateNo chooseChecks chooseNo
+unfolding computed dayNorms hourlySumOf hourOf dayOf meanOf clamped pumpAt lowestTo dictatingOf copyChecks copyNo flowNo dutyNo meterAt meterOk metersOk meterLoss mostLoss qualifies noneQualifies leastAt winnerOf meterNo inputChecks rateChecks rateNo chooseChecks chooseNo
 own-case =
     record {
       job = computed .own;
@@ -133,6 +135,11 @@ own-case =
       copied = refl;
       flowed = refl;
       duty-given = refl;
+      meter-given = refl;
+      meter-losses = (refl, refl);
+      meter-place = refl;
+      meter-room = refl;
+      meter-none = refl;
       rated = refl;
       velocity = refl;
       loss = refl;

@@ -15,6 +15,8 @@ use Rattle.heads.specs.Heads.{requiredOf, pumpOf, dictatingOf}
 use Rattle.sizing.specs.Losses.{readingOf, lossAt, lossesOf}
 use Rattle.job.specs.Calls.{copyNo}
 use Rattle.flow.specs.Calls.{flowNo, dutyNo}
+use Rattle.meters.specs.Meters.{meterAt, meterLoss}
+use Rattle.metering.specs.Calls.{placeFor, meterNo}
 use Rattle.rating.specs.Calls.{rateNo}
 use Rattle.choosing.specs.Suitable.{Suitable, costOf}
 use Rattle.choosing.specs.Calls.{Ample, chooseNo, Chosen}
@@ -42,6 +44,10 @@ job921 = jobOf 3 153
 
 abbrev pub job920 : List ℕ
 job920 = jobOf 3 152
+
+-- two vane meters of resistance 2 and 1, and of a service flow of two bytes, the first of which is 2
+abbrev pub metersOf : ℕ → List ℕ
+metersOf low = 1 ∷ 0 ∷ 2 ∷ 2 ∷ low ∷ 1 ∷ 0 ∷ 1 ∷ 2 ∷ low ∷ []
 
 -- document 01's figures of its own case, and what each call gives there
 pub record OwnCase : Type 0 where
@@ -75,6 +81,13 @@ pub record OwnCase : Type 0 where
   pub copied : copyNo ownJob 50 ≡ 0
   pub flowed : flowNo ownJob 16 ≡ 0
   pub duty-given : dutyNo ownJob 4 ≡ 0
+  -- document 02, L1: at a service flow of 740 both meters lose 1 cm, and the lower place wins; 50 bytes are too few for the result
+  pub meter-given : meterNo ownJob (metersOf 228) 51 ≡ 0
+  pub meter-losses : (meterLoss (meterAt (metersOf 228) 1) 2052 ≡ 1) × (meterLoss (meterAt (metersOf 228) 2) 2052 ≡ 1)
+  pub meter-place : placeFor (decode ownJob) (metersOf 228) ≡ 1
+  pub meter-room : meterNo ownJob (metersOf 228) 50 ≡ 14
+  -- 739 is below the mean hour
+  pub meter-none : meterNo ownJob (metersOf 227) 51 ≡ 18
   -- rating takes size 2
   pub rated : rateNo ownJob ownCat (2 ∷ []) 15 ≡ 0
   -- the velocity of size 2, mm/s

@@ -12,7 +12,7 @@ use borrow.Author.Tests.{le-leb, leb-true, not-true, not-false}
 use Rattle.basis.specs.Range.{allTo, anyTo, lowestTo}
 use Rattle.basis.proofs.Bools.{apart, left, right, never}
 use Rattle.basis.proofs.Split.{either, lt-or-ge}
-use Rattle.basis.proofs.Each.{Found, all-at, all-each, any-true, any-found}
+use Rattle.basis.proofs.Each.{Found, all-at, all-each, any-at, any-found}
 use Rattle.basis.proofs.Lowest.{Lowest, lowest-only, lowest-none}
 use Rattle.meters.specs.Meters.{metersIn, meterAt, meterLoss, qualifies, noneQualifies, leastAt, winnerOf}
 use Rattle.meters.proofs.Qualifying.{loss-top}
@@ -138,11 +138,15 @@ module _ (list : List ℕ) (q mean : ℕ) where
       (lt-or-ge (loss (suc n)) (l .least))
 
   -- no meter qualifies: no place wins
+  pub none-fits : noneQualifies list q mean ≡ true → (u : ℕ) → 0 < u → u ≤ metersIn list → fits u ≡ false
+  unfolding noneQualifies
+  none-fits e u p k = any-at (metersIn list) fits (not-true _ e) u p k
+
   pub winner-none : noneQualifies list q mean ≡ true → winnerOf list q mean ≡ 0
-  unfolding noneQualifies winnerOf
+  unfolding winnerOf
   winner-none e =
       lowest-none (metersIn list) (leastAt list q mean)
-      (λ u p k. never (leastAt list q mean u) (λ f. apart (any-true (metersIn list) u fits p k (least-fits u f)) (not-true _ e)))
+      (λ u p k. never (leastAt list q mean u) (λ f. apart (least-fits u f) (none-fits e u p k)))
 
   -- one does: the winner is the first of least loss
   pub winner-first : noneQualifies list q mean ≡ false → First (metersIn list) (winnerOf list q mean)

@@ -116,21 +116,22 @@ module _ {at width : ℕ} {b e : List ℕ} (same : SameBut at width b e) where
       )
 
 -- the meter loss
-pub edited-meter : (b : List ℕ) (n : ℕ) → meterPlace + 2 ≤ length b → n < 65536 → decode (edited 2 b meterPlace n) ≡ withMeter (decode b) n
+pub meter-changed : {b e : List ℕ} → SameBut meterPlace 2 b e → decode e ≡ withMeter (decode b) (beAt 2 e meterPlace)
 unfolding decode withMeter headerAt
-edited-meter b n fits h =
-    let same = edited-same 2 b meterPlace n fits in
+meter-changed same =
     rw (
       same .bytes 5 (λ c d. omega arith),
       same .bytes 6 (λ c d. omega arith),
       same .bytes 7 (λ c d. omega arith),
-      edited-field 2 b meterPlace n fits h,
       field-kept same 2 10 (λ k l c d. omega arith),
       field-kept same 2 12 (λ k l c d. omega arith),
       field-kept same 2 14 (λ k l c d. omega arith),
       residents-kept same (λ k l m o p. omega arith),
       sections-kept same (omega arith),
     )
+
+pub edited-meter : (b : List ℕ) (n : ℕ) → meterPlace + 2 ≤ length b → n < 65536 → decode (edited 2 b meterPlace n) ≡ withMeter (decode b) n
+edited-meter b n fits h = meter-changed (edited-same 2 b meterPlace n fits) ∙ rw (edited-field 2 b meterPlace n fits h)
 
 -- the residents of a kind
 pub edited-residents : (b : List ℕ) (kind n : ℕ) → 0 < kind → kind ≤ 12 → residentsPlace kind + 2 ≤ length b → n < 65536 →
