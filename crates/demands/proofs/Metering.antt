@@ -15,11 +15,11 @@ use Rattle.wire.specs.Wire.{byteAt, beAt}
 use Rattle.fields.specs.declared.Job.{Job}
 use Rattle.record.specs.Record.{decode}
 use Rattle.record.specs.Edited.{meterPlace, SameBut, withMeter}
-use Rattle.record.proofs.Edited.{edited-same, edited-field, meter-changed}
+use Rattle.record.proofs.Edited.{edited-same, edited-field, edited-over, meter-changed}
 use Rattle.demand.specs.Demand.{houseFlow, meanOf}
 use Rattle.acceptance.specs.Acceptance.{jobNo}
-use Rattle.acceptance.proofs.Accepting.{accept-long}
-use Rattle.acceptance.proofs.Metered.{metered-accepted}
+use Rattle.acceptance.proofs.Accepting.{accept-long, job-passes}
+use Rattle.acceptance.proofs.Metered.{metered-flow, metered-mean, metered-accepted}
 use Rattle.catalogue.specs.Rules.{catNo}
 use Rattle.choosing.specs.Calls.{Ample, Chosen}
 use Rattle.meters.specs.Meters.{meterAt, metersOk, noneQualifies}
@@ -27,7 +27,6 @@ use Rattle.meters.proofs.Qualifying.{loss-top}
 use Rattle.meters.proofs.Least.{none-fits, winner-first, winner-bound}
 use Rattle.metering.specs.Calls.{placeFor, lossFor, metered, meterBytes, meterLength, meterNo}
 use Rattle.metering.proofs.Ordering.{Clear, meter-clear, meter-none, meter-done}
-use Rattle.metering.proofs.Unmetered.{same-no, same-result}
 use Rattle.order.specs.Promises.{MeterGiven}
 use Rattle.demands.specs.Demand3.{SixteenOrList}
 use Rattle.demands.specs.Metering.{lossAt, Fits, Wins, placeIn, recordIn, withPlace, Metered, EighteenOrMeter, Metering}
@@ -128,6 +127,16 @@ module _ (job meters out₀ out : List ℕ) (n : ℕ) (accepted : jobNo job ≡ 
       })
       (either (noneQualifies meters (houseFlow (decode job)) (meanOf (decode job))))
 
+-- the meter loss that a job has plays no part
+module _ (job other meters : List ℕ) (same : SameBut meterPlace 2 job other) (accepted : jobNo job ≡ 0) where
+  same-no : jobNo other ≡ 0 → (room : ℕ) → meterNo other meters room ≡ meterNo job meters room
+  unfolding meterNo
+  same-no accepted′ room = job-passes other _ accepted′ ∙ rw (same .long, metered-flow same, metered-mean same) (sym (job-passes job _ accepted))
+
+  same-result : meterBytes other meters ≡ meterBytes job meters
+  unfolding meterBytes metered
+  same-result = rw (metered-flow same, metered-mean same, edited-over same _ (omega (arith, accept-long job accepted)))
+
 pub metering : Metering
 metering =
     record {
@@ -135,6 +144,6 @@ metering =
       eighteen = λ job meters out₀ out n accepted listed room g. eighteen-of job meters out₀ out n accepted listed room g;
       chosen = λ job meters out₀ out cat list₀ work₀ list work n g listed a c. chosen-of job meters out₀ out g listed a c;
       own-loss = λ job other meters out₀ out out′ n n′ same accepted accepted′ g g′.
-          let no = g′ .number ∙ same-no same meters accepted accepted′ (length out₀) ∙ sym (g .number) in
-          (no, g′ .buffer ∙ rw (no, same-result same meters accepted) (sym (g .buffer)));
+          let no = g′ .number ∙ same-no job other meters same accepted accepted′ (length out₀) ∙ sym (g .number) in
+          (no, g′ .buffer ∙ rw (no, same-result job other meters same accepted) (sym (g .buffer)));
     }
