@@ -5,9 +5,9 @@ import random
 import demand
 import job
 import meter
-from edit import OWN, head, house, people, put, section
+from edit import OWN, head, house, people, section
 from flow_vectors import end, flow_broken, inner, random_house
-from houses import chain, star
+from houses import TWO_ENDS, chain, star
 from vector import Call, Parts, Vector, buffer_bytes, buffer_line, listed, room_of, words
 
 # Types of meters.
@@ -452,7 +452,7 @@ def refusals():
         refused("kind 11 in ends of 50 and 200: only section 1 over", 9, (VANE, 1, 65_535),
                 record=house([end(11, 50), end(11, 200)], {11: 3200})),
         refused("residents of another kind", 7, own(1), record=people(OWN, {1: 1})),
-        refused("kind 13", 5, own(1), record=put(star(2), 51, 1, 13)),
+        refused("kind 13 in section 2", 5, own(1), record=section(TWO_ENDS, 2, kind=13)),
     ]
 
 
