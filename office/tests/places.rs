@@ -240,6 +240,7 @@ fn every_refusal_has_a_place() {
             Call::Copy => calls::copy(&case.job).err(),
             Call::Flow => calls::flow(&case.job).err(),
             Call::Duty => calls::duty(&case.job).err(),
+            Call::Meter => calls::meter(&case.job, &case.meters).err(),
             Call::Rate => calls::rate(&case.job, &case.cat, &case.sizes).err(),
             Call::Choose => calls::choose(&case.job, &case.cat).err(),
         };
