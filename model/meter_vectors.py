@@ -60,7 +60,7 @@ GREATEST = house([end(8, 4000)], {8: 4000})
 # 1 of kind 12: q 140 ml/s, mean hour 1 l/h; the loss is r x 19,600 / 100,000,000, up.
 LEAST = house([end(12, 65535)], {12: 1})
 
-# A job whose bytes from 5 to 15 all differ.
+# A job whose meter loss, G, H and limit have eight different bytes.
 VARIED = head(OWN, k=2, T=24, meter=0x0102, G=0x0304, H=0x0506, limit=0x0708)
 
 
@@ -89,7 +89,8 @@ def examples():
                 losses=(2182, 1112, 548)),
         won("document 001, appendix 6, dwelling of 109", 4, 236, *APPENDIX_6[:4], record=dwelling,
             losses=(2435, 1241, 612, 236)),
-        # 14.3 x 18.1868 is 260.07, and 0.81 of it is 14.73 m; 0.27 is 4.91 m, 0.08 is 1.45 m.
+        # 42.646 squared is 1,818.68: 0.143 of it is 260.07 m, 0.0081 is 14.73 m, 0.0027 is
+        # 4.91 m and 0.0008 is 1.455 m.
         won("document 001, appendix 6, the greatest flow", 8, 146, *APPENDIX_6, record=GREATEST,
             losses=(942_077, 480_132, 236_429, 90_935, 26_008, 1474, 492, 146)),
         # 5,000 x 19,600 is 98,000,000.
@@ -260,8 +261,8 @@ def least_out():
 
 
 def eight_at(place):
-    """Eight meters with falling losses before the place and rising ones after
-    it: 22, 43, 64, ... cm, each 500 more."""
+    """Eight meters whose losses fall up to the place and rise behind it: 22, 43,
+    64 cm and so on, of resistances 500, 1,000, 1,500."""
     return [own(500 + 500 * abs(each - place), TURBINE if each % 2 else VANE)
             for each in range(1, 9)]
 
@@ -326,7 +327,7 @@ def wide_losses():
         refused("turbine, loss 473", 18, (TURBINE, 26, 50_000), record=GREATEST),
         won("loss 237, turbine", 1, 237, (TURBINE, 13, 50_000), record=GREATEST),
         refused("service flow 49999", 18, (VANE, 26, 49_999), record=GREATEST),
-        won("resistance 65535 at the least flow", 1, 13, (TURBINE, 65_535, 1), record=LEAST),
+        won("turbine, resistance 65535 at the least flow", 1, 13, (TURBINE, 65_535, 1), record=LEAST),
         # 12.84, 12.00 and 11.76 cm.
         won("three at the least flow", 3, 12, (VANE, 65_535, 1), (VANE, 61_225, 1),
             (VANE, 60_000, 1), record=LEAST, losses=(13, 13, 12)),
@@ -361,7 +362,7 @@ def records():
         refused("own case, meter loss 0, no meter", 18, own(11_875), record=head(OWN, meter=0)),
         refused("own case, meter loss 1000, no meter", 18, own(11_875),
                 record=head(OWN, meter=1000)),
-        won("all bytes of the head's numbers differ", 1, 1, own(1), record=VARIED),
+        won("own case, eight different bytes from the meter loss on", 1, 1, own(1), record=VARIED),
         won("own case, H 0, G 0, limit 1", 1, 1, own(1), record=head(OWN, H=0, G=0, limit=1)),
         won("own case, H and G 6000, limit 3000", 1, 1, own(1),
             record=head(OWN, H=6000, G=6000, limit=3000)),
