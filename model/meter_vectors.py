@@ -327,7 +327,8 @@ def wide_losses():
         refused("turbine, loss 473", 18, (TURBINE, 26, 50_000), record=GREATEST),
         won("loss 237, turbine", 1, 237, (TURBINE, 13, 50_000), record=GREATEST),
         refused("service flow 49999", 18, (VANE, 26, 49_999), record=GREATEST),
-        won("turbine, resistance 65535 at the least flow", 1, 13, (TURBINE, 65_535, 1), record=LEAST),
+        won("turbine, resistance 65535 at the least flow", 1, 13, (TURBINE, 65_535, 1),
+            record=LEAST),
         # 12.84, 12.00 and 11.76 cm.
         won("three at the least flow", 3, 12, (VANE, 65_535, 1), (VANE, 61_225, 1),
             (VANE, 60_000, 1), record=LEAST, losses=(13, 13, 12)),
