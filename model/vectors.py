@@ -1,4 +1,4 @@
-"""Test vectors for job records, design flows, duties, ratings, sheets and choices.
+"""Test vectors for job records, design flows, duties, meters, ratings, sheets and choices.
 
     python3 model/vectors.py STDIN STDOUT
 
@@ -21,6 +21,7 @@ second part (2 each), and the first, second and third part. The room is at most
     a   an m (4 bytes) whose coefficient is wanted
     f   a job whose flows are wanted
     d   a job whose duty is wanted, the house's design flow
+    m   a job and a list of meters to pick from
     p   a job, a catalogue and a size list to rate
     s   an input whose sheet is wanted: its bytes, and the length is the number
         of zero bytes that follow them, in all at most 131,072
@@ -31,7 +32,7 @@ Output, a line for each line. A comment stands as it is. A number is four bytes,
 and a buffer is shown whole, as it is after the call.
     r   the number; when it is 0, the fields laid out as a record's from byte 5
         on, and the number and the buffer of writing
-    w, c, f, d, p   the number and the buffer
+    w, c, f, d, m, p   the number and the buffer
     a   the coefficient in millionths, four bytes
     s   the text
     l   the number and the buffer; where the number is 1 to 15, 01 if the whole
@@ -40,13 +41,14 @@ and a buffer is shown whole, as it is after the call.
         cheapest lists comes is free, and office/tests/stored.rs judges it
 
 Every vector has its number written by hand, those of `a` and `f` in
-flow_vectors.py, those of `d` in duty_vectors.py, those of `p` in
-rating_vectors.py, those of `s` in sheet_vectors.py and those of `l` and `k` in
-choosing_vectors.py. It is compared with the model (job.py, demand.py,
-catalogue.py, rating.py, sheet.py, choosing.py). Where `lines` is given, they
-stand in the model's answer in words one after another. Where `holds` is given,
-these are all the refusals whose condition holds; they stand in the comment, and
-office/tests/stored.rs compares them, and every answer, with the model of office/.
+flow_vectors.py, those of `d` in duty_vectors.py, those of `m` in
+meter_vectors.py, those of `p` in rating_vectors.py, those of `s` in
+sheet_vectors.py and those of `l` and `k` in choosing_vectors.py. It is compared
+with the model (job.py, demand.py, meter.py, catalogue.py, rating.py, sheet.py,
+choosing.py). Where `lines` is given, they stand in the model's answer in words
+one after another. Where `holds` is given, these are all the refusals whose
+condition holds; they stand in the comment, and office/tests/stored.rs compares
+them, and every answer, with the model of office/.
 """
 
 import collections
@@ -61,6 +63,7 @@ import demand
 import duty_vectors
 import flow_vectors
 import job
+import meter_vectors
 import rating_vectors
 import sheet_vectors
 from edit import OWN, fields, head, house, people, section, stating
@@ -500,8 +503,8 @@ GROUPS = [
     ("writer, section counts", writer_counts), ("writer, order", writing_order),
     ("writer, places", writer_places), ("writer, values", writer_values),
     ("writer, residents", writer_residents), ("copying", copies),
-] + (flow_vectors.GROUPS + duty_vectors.GROUPS + rating_vectors.GROUPS + sheet_vectors.GROUPS
-     + choosing_vectors.GROUPS)
+] + (flow_vectors.GROUPS + duty_vectors.GROUPS + meter_vectors.GROUPS + rating_vectors.GROUPS
+     + sheet_vectors.GROUPS + choosing_vectors.GROUPS)
 
 # The answers to the own case and to three of its copies, by hand.
 OWN_ANSWER = [
@@ -589,6 +592,7 @@ CALLS = {
     "c": Call("copy", roomed, copy_lines, copy_bytes),
     **flow_vectors.CALLS,
     **duty_vectors.CALLS,
+    **meter_vectors.CALLS,
     **rating_vectors.CALLS,
     **sheet_vectors.CALLS,
     **choosing_vectors.CALLS,
@@ -610,12 +614,16 @@ def model_number(vector):
     return CALLS[vector.letter].number(answer(vector))
 
 
+# The refusals in the order in which a call that has them gives them back.
+IN_ORDER = [1, 2, 3, 4, 5, 6, 7, 8, 9, 17, 10, 11, 12, 14, 15, 13, 16, 18]
+
+
 def check_number(vector):
     """The number by hand is the model's, and the first of the refusals whose
-    condition is said to hold; 14 comes before 13."""
+    condition is said to hold."""
     assert model_number(vector) == vector.expect, (vector.name, model_number(vector))
     if vector.holds is not None:
-        first = min(vector.holds, key=lambda number: (number == 13, number), default=0)
+        first = min(vector.holds, key=IN_ORDER.index, default=0)
         assert first == vector.expect, (vector.name, vector.holds)
 
 

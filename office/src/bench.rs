@@ -1,4 +1,4 @@
-//! The library against its rivals, on the same inputs and in one run: flow, rate and choose of the independent model, and
+//! The library against its rivals, on the same inputs and in one run: flow, meter, rate and choose of the independent model, and
 //! searches in safe Rust. Nobody clears a buffer between calls. Ratios are the library's time over the rival's, taken round
 //! by round with the sides in turn, so that a slow moment of the machine falls on all of them.
 
@@ -13,7 +13,7 @@ use crate::rivals::dense::{Dense, Form};
 use crate::rivals::fronts::Fronts;
 use crate::rivals::ranges::Ranges;
 use crate::rivals::tree::{Found, Tree};
-use houses::{Pipes, catalogue, house};
+use houses::{Pipes, catalogue, house, meters};
 use std::fmt::Write;
 use std::hint::black_box;
 use timing::{Side, Spread, micros, race};
@@ -37,9 +37,11 @@ pub fn bench() -> String {
             text += &choosing(&Load { sections, head: 6_000, sizes: 12, pipes });
         }
     }
-    let _ = writeln!(text, "\nflow and rating: library against the model (12 sizes of 64 rows)\n{OTHERS}");
+    let _ =
+        writeln!(text, "\nflow, meter and rating: library against the model (8 meters, 12 sizes of 64 rows)\n{OTHERS}");
     for sections in [8, 32, 63] {
         text += &other(Call::Flow, sections);
+        text += &other(Call::Meter, sections);
         text += &other(Call::Rate, sections);
     }
     text + &growth::table()
@@ -65,6 +67,7 @@ impl Load {
         Case {
             call: Call::Choose,
             job: house(self.sections, self.head, self.pipes),
+            meters: Vec::new(),
             cat: catalogue(self.sizes, 64, self.pipes),
             sizes: Vec::new(),
             work: Buffer { length: work_bytes(self.sections, self.head), pattern: Vec::new() },
@@ -105,21 +108,31 @@ fn side(cost: i128, mut search: impl FnMut() -> Found) -> impl FnMut() {
     move || drop(black_box(search()))
 }
 
-fn other(call: Call, sections: usize) -> String {
+/// A case of another call than choosing. The model is given no catalogue to read where the call takes none.
+fn other_case(call: Call, sections: usize) -> Case {
     let mut case = Load { sections, head: 3_000, sizes: 12, pipes: Pipes::AllServe }.case();
     case.call = call;
     match call {
-        // The flow call takes no catalogue, so the model is given none to read.
         Call::Flow => case.cat.clear(),
+        Call::Meter => {
+            case.cat.clear();
+            case.meters = meters();
+        }
         _ => case.sizes = (0..sections).map(|place| (place % 12) as u8 + 1).collect(),
     }
     case.out.length = result_bytes(call, sections);
+    case
+}
+
+fn other(call: Call, sections: usize) -> String {
+    let case = other_case(call, sections);
     let mut out = vec![0; case.out.length];
     let judged = judge(&case);
     assert_eq!(judged.number, 0, "the benchmark's house is accepted");
     let mut library = || {
         black_box(match call {
             Call::Flow => ffi::flow(black_box(&case.job), &mut out),
+            Call::Meter => ffi::meter(black_box(&case.job), &case.meters, &mut out),
             _ => ffi::rate(black_box(&case.job), &case.cat, &case.sizes, &mut out),
         });
     };
@@ -143,6 +156,16 @@ mod tests {
                     assert_eq!(judge(&case).number, 0, "{pipes} {sections} {head}");
                 }
             }
+        }
+    }
+
+    #[test]
+    fn each_meter_loses_less_than_the_one_before() {
+        for sections in [8, 32, 63] {
+            let judged = judge(&other_case(Call::Meter, sections));
+            let ranked = judged.meters.ranked(judged.demand.house_flow(), judged.demand.mean_hour());
+            let places: Vec<usize> = ranked.iter().map(|(_, place)| *place).collect();
+            assert_eq!(places, [8, 7, 6, 5, 4, 3, 2, 1], "{sections} sections: {ranked:?}");
         }
     }
 

@@ -12,9 +12,9 @@
 //! out 5 ff
 //! ```
 //!
-//! `call` is `flow`, `duty`, `rate`, `choose` or `copy`. `job`, `cat` and `sizes` are bytes in hex, where spaces do not count and
-//! several lines of one name are joined; a name without a line is empty. `work` and `out` are the buffers as they are before
-//! the call: a length, and bytes in hex that are repeated to fill it (none: zeros).
+//! `call` is `flow`, `duty`, `meter`, `rate`, `choose` or `copy`. `job`, `meters`, `cat` and `sizes` are bytes in hex, where spaces
+//! do not count and several lines of one name are joined; a name without a line is empty. `work` and `out` are the buffers as
+//! they are before the call: a length, and bytes in hex that are repeated to fill it (none: zeros).
 
 use std::fmt::Write;
 
@@ -23,18 +23,20 @@ pub enum Call {
     Copy,
     Flow,
     Duty,
+    Meter,
     Rate,
     Choose,
 }
 
 impl Call {
-    pub const ALL: [Call; 5] = [Call::Copy, Call::Flow, Call::Duty, Call::Rate, Call::Choose];
+    pub const ALL: [Call; 6] = [Call::Copy, Call::Flow, Call::Duty, Call::Meter, Call::Rate, Call::Choose];
 
     pub fn name(self) -> &'static str {
         match self {
             Call::Copy => "copy",
             Call::Flow => "flow",
             Call::Duty => "duty",
+            Call::Meter => "meter",
             Call::Rate => "rate",
             Call::Choose => "choose",
         }
@@ -53,6 +55,7 @@ pub struct Buffer {
 pub struct Case {
     pub call: Call,
     pub job: Vec<u8>,
+    pub meters: Vec<u8>,
     pub cat: Vec<u8>,
     pub sizes: Vec<u8>,
     pub work: Buffer,
@@ -81,7 +84,8 @@ impl Buffer {
 impl Case {
     pub fn text(&self) -> String {
         let mut text = format!("call {}\n", self.call.name());
-        for (name, bytes) in [("job", &self.job), ("cat", &self.cat), ("sizes", &self.sizes)] {
+        let lent = [("job", &self.job), ("meters", &self.meters), ("cat", &self.cat), ("sizes", &self.sizes)];
+        for (name, bytes) in lent {
             for line in bytes.chunks(48) {
                 let _ = writeln!(text, "{name} {}", hex(line));
             }
@@ -94,7 +98,7 @@ impl Case {
 
     pub fn parse(text: &str) -> Result<Case, String> {
         let mut call = None;
-        let (mut job, mut cat, mut sizes) = (Vec::new(), Vec::new(), Vec::new());
+        let (mut job, mut meters, mut cat, mut sizes) = (Vec::new(), Vec::new(), Vec::new(), Vec::new());
         let (mut work, mut out) = (Buffer::default(), Buffer::default());
         for (line, at) in text.lines().zip(1..) {
             let line = line.trim();
@@ -106,18 +110,19 @@ impl Case {
             match name {
                 "call" => {
                     let named = Call::ALL.into_iter().find(|call| call.name() == rest.trim());
-                    call = Some(named.ok_or_else(|| wrong("the calls are flow, duty, rate, choose and copy"))?);
+                    call = Some(named.ok_or_else(|| wrong("the calls are flow, duty, meter, rate, choose and copy"))?);
                 }
                 "job" => job.extend(unhex(rest).map_err(|what| wrong(&what))?),
+                "meters" => meters.extend(unhex(rest).map_err(|what| wrong(&what))?),
                 "cat" => cat.extend(unhex(rest).map_err(|what| wrong(&what))?),
                 "sizes" => sizes.extend(unhex(rest).map_err(|what| wrong(&what))?),
                 "work" => work = buffer(rest).map_err(|what| wrong(&what))?,
                 "out" => out = buffer(rest).map_err(|what| wrong(&what))?,
-                _ => return Err(wrong("a line starts with call, job, cat, sizes, work or out")),
+                _ => return Err(wrong("a line starts with call, job, meters, cat, sizes, work or out")),
             }
         }
         let call = call.ok_or("the file names no call")?;
-        Ok(Case { call, job, cat, sizes, work, out })
+        Ok(Case { call, job, meters, cat, sizes, work, out })
     }
 }
 
@@ -154,6 +159,7 @@ mod tests {
         let case = Case {
             call: Call::Choose,
             job: (0..=255).collect(),
+            meters: (1..=45).collect(),
             cat: vec![7],
             sizes: Vec::new(),
             work: Buffer { length: 17, pattern: vec![1, 2, 3] },

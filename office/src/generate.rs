@@ -10,6 +10,7 @@ mod draft;
 mod extremes;
 mod fitting;
 mod houses;
+mod meters;
 mod rng;
 
 use crate::case::{Buffer, Call, Case};
@@ -18,11 +19,24 @@ use catalogues::catalogue;
 use draft::catalogue_bytes;
 use rng::Rng;
 
+/// The calls, each as often as it is worth: one that does more is asked more often.
+const CALLS: [Call; 10] = [
+    Call::Copy,
+    Call::Flow,
+    Call::Flow,
+    Call::Duty,
+    Call::Meter,
+    Call::Meter,
+    Call::Rate,
+    Call::Rate,
+    Call::Choose,
+    Call::Choose,
+];
+
 /// The case of this index in the row of this seed.
 pub fn case(seed: u64, index: u64) -> Case {
     let rng = &Rng::new(seed, index);
-    let call =
-        rng.pick(&[Call::Copy, Call::Flow, Call::Flow, Call::Duty, Call::Rate, Call::Rate, Call::Choose, Call::Choose]);
+    let call = rng.pick(&CALLS);
     let mut case = sound(rng, call);
     let order = model::order_of(call);
     let mut spoilt = [0, 0];
@@ -57,11 +71,15 @@ fn sound(rng: &Rng, call: Call) -> Case {
     let mut case = Case {
         call,
         job: draft.bytes(),
+        meters: Vec::new(),
         cat: Vec::new(),
         sizes: Vec::new(),
         work: Buffer::default(),
         out: Buffer::default(),
     };
+    if call == Call::Meter {
+        case.meters = meters::offered(rng, &House::of(&case.job));
+    }
     if matches!(call, Call::Rate | Call::Choose) {
         let house = House::of(&case.job);
         let flows = fitting::flows(&house);

@@ -1,10 +1,11 @@
 //! What the generated cases reached, counted, so that a generator that goes dull is noticed.
 
+mod meters;
 mod notes;
 mod searches;
 
 use crate::case::Call;
-use crate::model;
+use crate::model::{self, faults::LAST};
 use std::fmt;
 
 macro_rules! situations {
@@ -69,6 +70,28 @@ situations! {
     HeadAllUsed: "a list chosen where the greatest losses would use more head than the pump has",
     SizeNotOffered: "a list chosen where a size is not worth offering from some head on",
     RefusedTogether: "no suitable list, though each section alone could be served from the pump",
+    MeterTie: "a meter given where a later one loses as much and has less resistance",
+    MetersAlike: "a meter given where two others that qualify lose as much",
+    TieOfDesigns: "a meter given where a later one of the other type loses as much",
+    VaneOver250: "a vane meter given that loses 251 to 500 cm",
+    MostLossVane: "a vane meter given that loses 500 cm",
+    MostLossTurbine: "a turbine meter given that loses 250 cm",
+    VaneOneOver: "18 with a vane meter that loses 501 cm",
+    TurbineOneOver: "18 with a turbine meter that loses 251 cm",
+    ServiceExact: "a meter given whose service flow is the mean hour",
+    ServiceOneShort: "18 with a service flow 1 under the mean hour",
+    ServiceAlone: "18 with a meter that fails by its service flow alone",
+    LossAlone: "18 with a meter that fails by its loss alone",
+    LeastLossOut: "a meter given where one that loses less does not qualify",
+    HouseFlowOwn: "a meter given where the house's flow is no section's",
+    SectionWouldDo: "18 by losses that would pass at every section's flow",
+    MeterFirst: "the first of eight meters given",
+    MeterLast: "the last of eight meters given",
+    WideLoss: "a meter whose loss is over 65,535 cm and would qualify if it were cut to 16 bits",
+    WideMean: "18 with a mean hour over 65,535 l/h",
+    LossKept: "a meter given that loses what the job had",
+    NoMeters: "17 with a list of no bytes",
+    NineMeters: "17 with nine meters",
     OutExact: "a result in a buffer of exactly its length",
     OutLonger: "a result in a longer buffer",
     OutOneShort: "14 with a buffer one byte short",
@@ -84,21 +107,25 @@ situations! {
     NoSizes: "a list of no sizes",
 }
 
+/// A count for each number, 0 too.
+type ByNumber = [u64; LAST as usize + 1];
+
 /// How often each thing was reached. Situations of a size read at a flow are counted reading by reading, the others case by
 /// case.
 #[derive(Clone, Debug)]
 pub struct Counters {
     pub cases: u64,
     /// By call, in the order of `Call::ALL`, and by the number given back.
-    answers: [[u64; 17]; Call::ALL.len()],
+    answers: [ByNumber; Call::ALL.len()],
     /// By call, and by two refusals that both applied where the first was given back.
-    pairs: [[[u64; 17]; 17]; Call::ALL.len()],
+    pairs: [[ByNumber; LAST as usize + 1]; Call::ALL.len()],
     reached: Vec<u64>,
 }
 
 impl Default for Counters {
     fn default() -> Counters {
-        let (answers, pairs) = ([[0; 17]; Call::ALL.len()], [[[0; 17]; 17]; Call::ALL.len()]);
+        let none: ByNumber = [0; LAST as usize + 1];
+        let (answers, pairs) = ([none; Call::ALL.len()], [[none; LAST as usize + 1]; Call::ALL.len()]);
         Counters { cases: 0, answers, pairs, reached: vec![0; TEXTS.len()] }
     }
 }

@@ -84,7 +84,8 @@ fn replay_and_the_model() {
     let buffer = |length: usize| Buffer { length, pattern: vec![0x5a] };
     for call in Call::ALL {
         let (job, cat) = (job.clone(), cat.clone());
-        let order = Case { call, job, cat, sizes: vec![6; 6], work: buffer(40_000), out: buffer(700) };
+        let meters = vec![1, 0, 1, 0xff, 0xff];
+        let order = Case { call, job, meters, cat, sizes: vec![6; 6], work: buffer(40_000), out: buffer(700) };
         let ran = office_with(&["replay", "-"], order.text().as_bytes());
         assert_eq!(ran.status, 0, "{}{}", ran.text(), ran.error);
         assert!(ran.text().contains("library and model agree: number 0"), "{}", ran.text());

@@ -1,6 +1,6 @@
 //! The safe calls on document 01's own case.
 
-use office::{Choice, Flow, Rated, Rating, Refusal, choose, copy, duty, flow, rate};
+use office::{Choice, Flow, Metered, Rated, Rating, Refusal, choose, copy, duty, flow, meter, rate};
 
 const JOB: [u8; 50] = [
     0, 0, 0, 50, 1, 3, 1, 24, 0, 50, 1, 0xf4, 4, 0xb0, 5, 0xdc, // length to limit
@@ -39,6 +39,39 @@ fn the_duty_of_the_own_case() {
     assert_eq!(house, 2052, "as many residents as the own case");
 }
 
+/// At 2,052 ml/s resistances 2 and 1 both lose 1 cm, and the first wins.
+#[test]
+fn the_meter_of_the_own_case() {
+    let meters = [1, 0, 2, 2, 0xe4, 2, 0, 1, 2, 0xe4];
+    let mut job = JOB;
+    job[9] = 1;
+    assert_eq!(meter(&JOB, &meters), Ok(Metered { place: 1, job: job.to_vec() }));
+    assert_eq!(meter(&JOB, &[1, 0, 2, 2, 0xe3]), Err(Refusal::NoMeter), "739 l/h are under the mean hour of 740");
+    assert_eq!(meter(&JOB, &meters[..9]), Err(Refusal::MeterList));
+    assert_eq!(meter(&JOB, &[]), Err(Refusal::MeterList));
+    assert_eq!(meter(&JOB[..49], &[]), Err(Refusal::JobLength));
+    // The record that comes is taken by the other calls: 921 cm with a meter loss of 50 are 872 with 1.
+    assert_eq!(rate(&job, &CATALOGUE, &[2]).map(|rating| rating.required), Ok(872));
+    assert_eq!(choose(&job, &CATALOGUE), Ok(Choice { cost: 130_000, sizes: vec![2] }));
+}
+
+/// Document 001's appendix 6 from 20 to 100 mm, as far as five bytes hold it, at 2,052 ml/s: 0.5 m per (l/s) squared lose 2.105
+/// m, and 7.66 ten-thousandths, here 8, lose 0.34 cm.
+#[test]
+fn the_meters_of_document_001() {
+    let vane = [(51_800, 2_000), (26_400, 2_800), (13_000, 4_000), (5_000, 6_400)].map(|of| (1, of));
+    let turbine = [(1_430, 12_000), (81, 17_000), (27, 36_000), (8, 65_000)].map(|of| (2, of));
+    let bytes = |(design, (resistance, service)): &(u8, (u16, u16))| {
+        [&[*design][..], &resistance.to_be_bytes(), &service.to_be_bytes()].concat()
+    };
+    let list: Vec<u8> = vane.iter().chain(&turbine).flat_map(bytes).collect();
+    let given = |list: &[u8]| meter(&JOB, list).map(|won| (won.place, won.job[8], won.job[9]));
+    assert_eq!(given(&list), Ok((8, 0, 1)));
+    assert_eq!(given(&list[..25]), Ok((5, 0, 61)));
+    assert_eq!(given(&list[..20]), Ok((4, 0, 211)));
+    assert_eq!(given(&list[..15]), Err(Refusal::NoMeter));
+}
+
 #[test]
 fn rating_of_the_own_case() {
     let sections = vec![Rated { velocity: 1026, loss: 71 }];
@@ -68,6 +101,8 @@ fn any_bytes_are_taken() {
         let job = vec![0xff; length];
         assert_eq!(flow(&job), Err(Refusal::JobLength));
         assert_eq!(choose(&job, &CATALOGUE), Err(Refusal::JobLength));
+        assert_eq!(meter(&job, &job), Err(Refusal::JobLength));
+        assert_eq!(meter(&JOB, &job), Err(Refusal::MeterList));
     }
     let mut stated = vec![0xff; 50];
     stated[..5].copy_from_slice(&[0, 0, 0, 50, 1]);

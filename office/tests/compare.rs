@@ -37,11 +37,12 @@ fn replaying_says_what_came_out() {
     let short = Case {
         call: Call::Flow,
         job: vec![1, 2, 3],
+        meters: Vec::new(),
         cat: Vec::new(),
         sizes: Vec::new(),
         work: Buffer::default(),
         out: Buffer { length: 4, pattern: vec![9] },
     };
     assert_eq!(replay(&short.text()).as_deref(), Ok("flow: library and model agree: number 1, result []"));
-    assert_eq!(replay("call walk"), Err("line 1: the calls are flow, duty, rate, choose and copy".to_string()));
+    assert_eq!(replay("call walk"), Err("line 1: the calls are flow, duty, meter, rate, choose and copy".to_string()));
 }

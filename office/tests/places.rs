@@ -2,7 +2,8 @@
 //! the missing head is true.
 
 use office::at::{At, Field};
-use office::case::Call;
+use office::case::{Call, Case};
+use office::model::faults::LAST;
 use office::places::{Asked, Place, places};
 use office::record::{Record, Section};
 use office::{Refusal, calls, generate, house, table};
@@ -230,28 +231,33 @@ fn the_missing_head() {
     check(found, 16, At::Section(1), why);
 }
 
+fn asked(case: &Case) -> Asked<'_> {
+    Asked { job: &case.job, cat: &case.cat, sizes: &case.sizes, meters: &case.meters }
+}
+
 /// Every refusal of the made-up orders has a place, and its place is of its own kind.
 #[test]
 fn every_refusal_has_a_place() {
-    let mut seen = [0; 17];
+    let mut seen = [0; LAST as usize + 1];
     for index in 0..60_000 {
         let case = generate::case(11, index);
         let refusal = match case.call {
             Call::Copy => calls::copy(&case.job).err(),
             Call::Flow => calls::flow(&case.job).err(),
             Call::Duty => calls::duty(&case.job).err(),
+            Call::Meter => calls::meter(&case.job, &case.meters).err(),
             Call::Rate => calls::rate(&case.job, &case.cat, &case.sizes).err(),
             Call::Choose => calls::choose(&case.job, &case.cat).err(),
         };
         let Some(refusal) = refusal else { continue };
-        let found = places(&refusal, &Asked { job: &case.job, cat: &case.cat, sizes: &case.sizes });
+        let found = places(&refusal, &asked(&case));
         assert!(!found.is_empty(), "no place for {refusal}\n{}", case.text());
         seen[refusal.number() as usize] += 1;
         if refusal == Refusal::NoSuitableList {
             the_least_head_is_true(&case.job, &case.cat, &found);
         }
     }
-    for number in (1..=13).chain([16]) {
+    for number in (1..=13).chain([16, 17, 18]) {
         assert!(seen[number] > 20, "refusal {number} came {} times", seen[number]);
     }
 }
@@ -275,11 +281,14 @@ fn the_least_head_is_true(job: &[u8], cat: &[u8], found: &[Place]) {
 fn any_bytes_are_taken() {
     for index in 0..20_000 {
         let case = generate::case(12, index);
-        for number in 1..=17 {
+        for number in 1..=LAST + 1 {
             let refusal = Refusal::from_number(number).expect("a refusal");
-            let found = places(&refusal, &Asked { job: &case.job, cat: &case.cat, sizes: &case.sizes });
+            let found = places(&refusal, &asked(&case));
             assert!(found.iter().all(|place| !place.why.is_empty()));
-            let crossed = places(&refusal, &Asked { job: &case.cat, cat: &case.job, sizes: &case.job });
+            let Case { job, meters, cat, .. } = &case;
+            let crossed = places(&refusal, &Asked { job: cat, cat: job, sizes: job, meters: job });
+            assert!(crossed.iter().all(|place| !place.why.is_empty()));
+            let crossed = places(&refusal, &Asked { job: meters, cat: meters, sizes: meters, meters: cat });
             assert!(crossed.iter().all(|place| !place.why.is_empty()));
         }
     }

@@ -8,7 +8,7 @@ mod stored;
 
 use office::case::{Buffer, Call, Case};
 use office::model::bytes::put;
-use office::model::faults::Faults;
+use office::model::faults::{Faults, LAST};
 use office::model::house::House;
 use office::model::{Expected, alpha, judge};
 use office::{ffi, replay};
@@ -27,6 +27,7 @@ fn call_of(letter: char) -> Option<Call> {
         'c' => Some(Call::Copy),
         'f' => Some(Call::Flow),
         'd' => Some(Call::Duty),
+        'm' => Some(Call::Meter),
         'p' => Some(Call::Rate),
         'l' | 'k' => Some(Call::Choose),
         _ => None,
@@ -35,10 +36,13 @@ fn call_of(letter: char) -> Option<Call> {
 
 fn case(call: Call, vector: &Vector) -> Case {
     let lent = |length| Buffer { length, pattern: vec![vector.fill] };
+    let second = vector.second.clone();
+    let (meters, cat) = if call == Call::Meter { (second, Vec::new()) } else { (Vec::new(), second) };
     Case {
         call,
         job: vector.first.clone(),
-        cat: vector.second.clone(),
+        meters,
+        cat,
         sizes: vector.third.clone(),
         work: lent(vector.length),
         out: lent(vector.room),
@@ -90,6 +94,7 @@ fn by_the_library(call: Call, vector: &Vector) -> String {
         Call::Copy => ffi::copy(&vector.first, &mut out),
         Call::Flow => ffi::flow(&vector.first, &mut out),
         Call::Duty => ffi::duty(&vector.first, &mut out),
+        Call::Meter => ffi::meter(&vector.first, &vector.second, &mut out),
         Call::Rate => ffi::rate(&vector.first, &vector.second, &vector.third, &mut out),
         Call::Choose => ffi::choose(&vector.first, &vector.second, &mut work, &mut out),
     };
@@ -98,7 +103,7 @@ fn by_the_library(call: Call, vector: &Vector) -> String {
 
 #[test]
 fn exported_calls() {
-    for vector in with("cfdplk") {
+    for vector in with("cfdmplk") {
         let call = call_of(vector.letter).expect("an exported call");
         assert_eq!(by_the_model(call, &vector), vector.answer, "the model: {}", vector.name);
         assert_eq!(by_the_library(call, &vector), vector.answer, "the library: {}", vector.name);
@@ -203,7 +208,7 @@ fn applying(vector: &Vector) -> Vec<u32> {
         'a' => Faults::default(),
         letter => judge(&case(call_of(letter).expect("an exported call"), vector)).faults,
     };
-    (1..=16).filter(|number| faults.has(*number)).collect()
+    (1..=LAST).filter(|number| faults.has(*number)).collect()
 }
 
 /// The refusals that a vector says to hold are by hand. Each call has each of its numbers in a vector where no other one holds;
@@ -220,12 +225,13 @@ fn refusals_that_hold() {
             alone.push((vector.letter, number));
         }
     }
-    let numbers: [(char, &[u32]); 8] = [
+    let numbers: [(char, &[u32]); 9] = [
         ('r', &[1, 2, 3, 4, 5, 6, 7]),
         ('w', &[3, 5, 6, 7, 14]),
         ('c', &[1, 2, 3, 4, 5, 6, 7, 14]),
         ('f', &[1, 2, 3, 4, 5, 6, 7, 8, 9, 14]),
         ('d', &[1, 2, 3, 4, 5, 6, 7, 8, 9, 14]),
+        ('m', &[1, 2, 3, 4, 5, 6, 7, 8, 9, 14, 17, 18]),
         ('p', &[1, 2, 3, 4, 5, 6, 7, 8, 9, 10, 11, 12, 13, 14]),
         ('s', &[2, 3, 4, 5, 6, 7, 8, 9, 10, 11, 12, 13]),
         ('l', &[1, 2, 3, 4, 5, 6, 7, 8, 9, 10, 11, 14, 15, 16]),

@@ -8,9 +8,11 @@ const JOB: &str = "0000003201030118003201f404b005dc 000000000000000000000000 004
                    000700500064025800c8";
 const CATALOGUE: &str = "0000002f010202 00280384 000003e803200028 00000bb80960012c \
                          00320514 000003e801f4000c 00000bb805dc005a";
+/// Two vane meters of resistances 2 and 1, each with the mean hour of 740 l/h as its service flow: both lose 1 cm.
+const METERS: &str = "01 0002 02e4  01 0001 02e4";
 
 fn own(call: Call) -> Case {
-    let file = format!("call {}\njob {JOB}\ncat {CATALOGUE}\nsizes 02\n", call.name());
+    let file = format!("call {}\njob {JOB}\nmeters {METERS}\ncat {CATALOGUE}\nsizes 02\n", call.name());
     let mut case = Case::parse(&file).expect("the own case");
     case.out = Buffer { length: 100, pattern: vec![0xa5] };
     case.work = Buffer { length: 17_608 + 8_000, pattern: vec![0x5a, 1, 2] };
@@ -67,6 +69,7 @@ fn edits_of_the_job() {
     for (expected, edit) in edits {
         assert_eq!(number(&edited(Call::Flow, edit)), *expected, "{edit:?}");
         assert_eq!(number(&edited(Call::Duty, edit)), *expected, "duty: {edit:?}");
+        assert_eq!(number(&edited(Call::Meter, edit)), *expected, "meter: {edit:?}");
         let read = if [8, 9].contains(expected) { 0 } else { *expected };
         assert_eq!(number(&edited(Call::Copy, edit)), read, "copied: {edit:?}");
     }
@@ -100,6 +103,68 @@ fn edits_of_the_catalogue() {
     assert_eq!(number(&longer), 10);
 }
 
+/// The flow is 2,052 ml/s: 11,874 x 2,052 x 2,052 is 499.98 of the 100,000,000 that make a cm, 5,937 is 249.99.
+#[test]
+fn edits_of_the_meters() {
+    let edits: &[(u32, &[u8])] = &[
+        (17, &[]),
+        (17, &[1, 0, 1, 2]),
+        (0, &[1, 0, 1, 2, 0xe4]),
+        (17, &[1, 0, 1, 2, 0xe4, 1]),
+        (17, &[0, 0, 1, 2, 0xe4]),
+        (0, &[2, 0, 1, 2, 0xe4]),
+        (17, &[3, 0, 1, 2, 0xe4]),
+        (17, &[1, 0, 0, 2, 0xe4]),
+        (17, &[1, 0, 1, 0, 0]),
+        (18, &[1, 0, 1, 2, 0xe3]),
+        (0, &[1, 0x2e, 0x62, 2, 0xe4]),
+        (18, &[1, 0x2e, 0x63, 2, 0xe4]),
+        (18, &[2, 0x2e, 0x62, 2, 0xe4]),
+        (0, &[2, 0x17, 0x31, 2, 0xe4]),
+        (18, &[2, 0x17, 0x32, 2, 0xe4]),
+        (0, &[1, 0x17, 0x32, 2, 0xe4]),
+    ];
+    for (expected, list) in edits {
+        let mut case = own(Call::Meter);
+        case.meters = list.to_vec();
+        assert_eq!(number(&case), *expected, "{list:?}");
+    }
+    for (count, expected) in [(8, 0), (9, 17), (256, 17), (257, 17)] {
+        let mut case = own(Call::Meter);
+        case.meters = [1, 0, 1, 2, 0xe4].repeat(count);
+        assert_eq!(number(&case), expected, "{count} meters");
+    }
+}
+
+/// What library and model give where a meter wins: its place, the two bytes of its loss, and whether the rest is the job.
+fn won(case: &Case) -> (u8, u16, bool) {
+    let printed = replay(&case.text()).unwrap_or_else(|what| panic!("{what}\n{}", case.text()));
+    let bytes = printed.split_once("number 0, result [").and_then(|(_, rest)| rest.strip_suffix(']'));
+    let bytes: Vec<u8> = bytes.expect("a meter wins").split(", ").map(|byte| byte.parse().expect("a byte")).collect();
+    let kept = bytes.len() == 1 + case.job.len() && bytes[1..9] == case.job[..8] && bytes[11..] == case.job[10..];
+    (bytes[0], u16::from_be_bytes([bytes[9], bytes[10]]), kept)
+}
+
+#[test]
+fn the_meter_that_wins() {
+    assert_eq!(won(&own(Call::Meter)), (1, 1, true));
+    // The meter loss that the job has plays no part.
+    for loss in [[0, 0], [0, 1], [1, 0], [3, 0xe8]] {
+        assert_eq!(won(&edited(Call::Meter, &[(8, &loss)])), (1, 1, true), "{loss:?}");
+    }
+    // Resistances 1, 24 and 11,874 lose 1, 2 and 500 cm, a turbine of 6,000 loses 253 cm.
+    for (list, expected) in [
+        ("01 0018 02e4  01 0001 02e4", (2, 1, true)),
+        ("01 0001 02e3  01 0018 02e4", (2, 2, true)),
+        ("02 1770 02e4  01 2e62 02e4", (2, 500, true)),
+        ("01 2e62 02e4  02 1770 ffff", (1, 500, true)),
+        ("02 0001 02e4  01 0001 02e4", (1, 1, true)),
+    ] {
+        let listed = Case::parse(&format!("call meter\nmeters {list}")).expect("a list");
+        assert_eq!(won(&Case { meters: listed.meters, ..own(Call::Meter) }), expected, "{list}");
+    }
+}
+
 #[test]
 fn lists_and_buffers() {
     for (list, length, expected) in [
@@ -120,6 +185,10 @@ fn lists_and_buffers() {
         let mut case = own(Call::Duty);
         case.out.length = out;
         assert_eq!(number(&case), expected, "duty into {out} bytes");
+    }
+    for (list, out, expected) in [("", 50, 17), ("01 0001 02e3", 50, 14), ("01 0001 02e3", 51, 18), (METERS, 51, 0)] {
+        let file = format!("call meter\njob {JOB}\nmeters {list}\nout {out} a5\n");
+        assert_eq!(number(&Case::parse(&file).expect("a case")), expected, "meters {list} into {out} bytes");
     }
     for (out, work, expected) in [(4, 0, 14), (5, 17_607, 15), (5, 17_608, 0)] {
         let mut case = own(Call::Choose);

@@ -1,5 +1,5 @@
 // The calls. A line's bytes are the room of the result buffer (2), the byte that fills what is lent (1), a length (4), the lengths of
-// the next two parts (2 each), and then the parts: in most calls a job, a catalogue and a size list.
+// the next two parts (2 each), and then the parts: in most calls a job, then a catalogue or a list of meters, then a size list.
 // Bytes that are not such give an empty line.
 use crate::jobs;
 use crate::print;
@@ -49,7 +49,7 @@ fn call(
     fill: u8,
     length: usize,
     job: &[u8],
-    catalogue: &[u8],
+    second: &[u8],
     list: &[u8],
     out: &mut [u8],
 ) {
@@ -60,9 +60,10 @@ fn call(
         b'a' => alpha(job),
         b'f' => flow(job, out),
         b'd' => duty(job, out),
-        b'p' => rate(job, catalogue, list, out),
+        b'm' => meter(job, second, out),
+        b'p' => rate(job, second, list, out),
         b's' => sheet(job, length, out),
-        b'l' | b'k' => choose(letter, fill, length, job, catalogue, out),
+        b'l' | b'k' => choose(letter, fill, length, job, second, out),
         _ => {}
     }
 }
@@ -87,6 +88,11 @@ fn flow(record: &[u8], out: &mut [u8]) {
 
 fn duty(record: &[u8], out: &mut [u8]) {
     let answer = flow::duty(record, out);
+    print::given(answer, out);
+}
+
+fn meter(record: &[u8], meters: &[u8], out: &mut [u8]) {
+    let answer = metering::meter(record, meters, out);
     print::given(answer, out);
 }
 

@@ -1,4 +1,4 @@
-//! The benchmark's houses and catalogues.
+//! The benchmark's houses, meters and catalogues.
 
 use crate::model::norms;
 use std::fmt;
@@ -141,6 +141,13 @@ pub fn catalogue(sizes: usize, rows: usize, pipes: Pipes) -> Vec<u8> {
         }
     }
     state_length(cat)
+}
+
+/// Eight meters that qualify in the houses of the flow call, each with less loss than the one before, so that the best so far
+/// changes at each.
+pub fn meters() -> Vec<u8> {
+    let meter = |place: u16| [&[2][..], &(150 * (9 - place)).to_be_bytes(), &[0xff, 0xff]].concat();
+    (1..=8).flat_map(meter).collect()
 }
 
 fn state_length(mut bytes: Vec<u8>) -> Vec<u8> {

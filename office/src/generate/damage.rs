@@ -27,16 +27,19 @@ pub fn spoil(rng: &Rng, case: &mut Case, number: u32) {
             set16(&mut case.job, 8, 1_000);
             set16(&mut case.job, 12, rng.pick(&[0, 100]));
         }
+        17 => meters(rng, &mut case.meters),
+        18 => small_meters(rng, &mut case.meters),
         _ => {}
     }
 }
 
 /// One to four bytes anywhere, or a piece cut out or put in.
 pub fn scratch(rng: &Rng, case: &mut Case) {
-    let target = match rng.below(8) {
-        0 if !case.sizes.is_empty() => &mut case.sizes,
-        1..4 if !case.cat.is_empty() => &mut case.cat,
-        _ => &mut case.job,
+    let (target, stated) = match rng.below(8) {
+        0 if !case.sizes.is_empty() => (&mut case.sizes, true),
+        0..4 if !case.meters.is_empty() => (&mut case.meters, false),
+        1..4 if !case.cat.is_empty() => (&mut case.cat, true),
+        _ => (&mut case.job, true),
     };
     for _ in 0..rng.between(1, 4) {
         let end = target.len() as u64;
@@ -49,7 +52,7 @@ pub fn scratch(rng: &Rng, case: &mut Case) {
             _ => {}
         }
     }
-    if rng.once_in(2) {
+    if stated && rng.once_in(2) {
         restate(target);
     }
 }
@@ -61,6 +64,8 @@ pub fn junk(rng: &Rng, case: &mut Case) {
     if matches!(case.call, Call::Rate | Call::Choose) && rng.once_in(2) {
         case.cat = bytes;
         restate(&mut case.cat);
+    } else if case.call == Call::Meter && rng.once_in(2) {
+        case.meters = rng.bytes(rng.pick(&[0, 1, 4, 5, 6, 10, 40, 41, 45, 80]));
     } else {
         case.job = bytes;
         if !rng.once_in(4) {
@@ -276,6 +281,33 @@ fn list(rng: &Rng, case: &mut Case) {
         _ => {
             let place = rng.below(case.sizes.len() as u64) as usize;
             case.sizes[place] = rng.pick(&[0, sizes.saturating_add(1), 255]);
+        }
+    }
+}
+
+/// 17: a list of another length, or a field of one of its meters against its rules.
+fn meters(rng: &Rng, list: &mut Vec<u8>) {
+    let at = 5 * rng.below((list.len() as u64 / 5).max(1)) as usize;
+    match rng.below(8) {
+        0 => list.clear(),
+        1 => drop(list.pop()),
+        2 => list.push(rng.pick(&[0, 1, 2])),
+        3 => *list = list.iter().copied().cycle().take(rng.pick(&[45, 45, 50, 1_285])).collect(),
+        4 => set16(list, at + 1, 0),
+        5 => set16(list, at + 3, 0),
+        _ => set(list, at, rng.pick(&[0, 3, 49, 255])),
+    }
+}
+
+/// 18: every meter with the least service flow, the most resistance or both. In a house of few residents some still qualify.
+fn small_meters(rng: &Rng, list: &mut [u8]) {
+    for at in (0..list.len()).step_by(5) {
+        let which = rng.below(3);
+        if which < 2 {
+            set16(list, at + 3, 1);
+        }
+        if which > 0 {
+            set16(list, at + 1, 65_535);
         }
     }
 }

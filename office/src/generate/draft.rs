@@ -1,4 +1,4 @@
-//! A job and a catalogue as fields, before they become bytes.
+//! A job, a list of meters and a catalogue as fields, before they become bytes.
 
 #[derive(Clone, Debug)]
 pub struct DraftSection {
@@ -47,6 +47,24 @@ impl Draft {
     pub fn kinds(&self) -> Vec<usize> {
         (1..=12).filter(|kind| self.fixtures(*kind) > 0).collect()
     }
+}
+
+#[derive(Clone, Debug)]
+pub struct DraftMeter {
+    pub design: u8,
+    pub resistance: u16,
+    pub service: u16,
+}
+
+/// A list's bytes.
+pub fn meter_bytes(list: &[DraftMeter]) -> Vec<u8> {
+    let mut bytes = Vec::new();
+    for meter in list {
+        bytes.push(meter.design);
+        bytes.extend(meter.resistance.to_be_bytes());
+        bytes.extend(meter.service.to_be_bytes());
+    }
+    bytes
 }
 
 #[derive(Clone, Debug)]

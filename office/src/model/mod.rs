@@ -1,6 +1,6 @@
-//! An independent model of document 01, written from the paper alone and by other means than the proved library: whole
-//! numbers of 128 bits, sets of sections, every rule asked of every input, brute force and fronts in place of rows of heads.
-//! The tests compare the two.
+//! An independent model of document 01 and of the requests of document 02 that have landed, written from the papers alone and
+//! by other means than the proved library: whole numbers of 128 bits, sets of sections, every rule asked of every input, brute
+//! force and fronts in place of rows of heads, meters put in order. The tests compare the two.
 
 pub mod alpha;
 pub mod brute;
@@ -10,6 +10,7 @@ pub mod demand;
 pub mod faults;
 pub mod fronts;
 pub mod house;
+pub mod meters;
 pub mod norms;
 pub mod rating;
 pub mod set;
@@ -20,16 +21,19 @@ use catalogue::Catalogue;
 use demand::Demand;
 use faults::Faults;
 use house::House;
+use meters::Meters;
 use rating::{Order, Rating};
 
-/// What document 01 says of one call.
+/// What the papers say of one call.
 pub struct Judged {
     pub house: House,
     pub demand: Demand,
+    pub meters: Meters,
     pub cat: Catalogue,
     /// Each section's flow; empty where the job is refused.
     pub flows: Vec<i128>,
-    /// All refusals that apply. 13 and 16 can be asked only of an accepted job and catalogue.
+    /// All refusals that apply. 13 and 16 can be asked only of an accepted job and catalogue, 18 of an accepted job and a list
+    /// of meters by its rules.
     pub faults: Faults,
     /// What the call gives back.
     pub number: u32,
@@ -40,7 +44,7 @@ pub struct Judged {
 pub enum Expected {
     /// The call is refused and writes nothing.
     Nothing,
-    /// A copy, a flow result, a duty.
+    /// A copy, a flow result, a duty, a place with a job.
     Bytes(Vec<u8>),
     Rated(Rating),
     /// A suitable list of this cost, the least; the list here is one of them.
@@ -55,6 +59,7 @@ pub fn order_of(call: Call) -> &'static [u32] {
     match call {
         Call::Copy => &[1, 2, 3, 4, 5, 6, 7, 14],
         Call::Flow | Call::Duty => &[1, 2, 3, 4, 5, 6, 7, 8, 9, 14],
+        Call::Meter => &[1, 2, 3, 4, 5, 6, 7, 8, 9, 17, 14, 18],
         Call::Rate => &[1, 2, 3, 4, 5, 6, 7, 8, 9, 10, 11, 12, 14, 13],
         Call::Choose => &[1, 2, 3, 4, 5, 6, 7, 8, 9, 10, 11, 14, 15, 16],
     }
@@ -66,6 +71,7 @@ pub fn result_bytes(call: Call, sections: usize) -> usize {
         Call::Copy => 40 + 10 * sections,
         Call::Flow => 12 + 4 * sections,
         Call::Duty => 4,
+        Call::Meter => 41 + 10 * sections,
         Call::Rate => 9 + 6 * sections,
         Call::Choose => 4 + sections,
     }
@@ -76,16 +82,20 @@ pub fn work_bytes(sections: usize, delivered: usize) -> usize {
     4 * (sections + 1) * (delivered + 1_001)
 }
 
-/// What document 01 says of a case.
+/// What the papers say of a case.
 pub fn judge(case: &Case) -> Judged {
     let house = House::of(&case.job);
     let demand = Demand::of(&house);
+    let meters = Meters::of(&case.meters);
     let cat = Catalogue::of(&case.cat);
     let mut faults = house.faults();
     if case.call != Call::Copy {
         faults.join(demand.faults());
     }
     let flows = if faults.any() || case.call == Call::Copy { Vec::new() } else { demand.flows() };
+    if case.call == Call::Meter {
+        faults.join(meters.faults());
+    }
     if matches!(case.call, Call::Rate | Call::Choose) {
         faults.join(cat.faults());
     }
@@ -93,7 +103,8 @@ pub fn judge(case: &Case) -> Judged {
     if case.call == Call::Rate {
         faults.note(12, order.list_wrong(&case.sizes));
     }
-    let mut result = if faults.any() { Expected::Nothing } else { result_of(case, &order, &demand, &mut faults) };
+    let mut result =
+        if faults.any() { Expected::Nothing } else { result_of(case, &order, &demand, &meters, &mut faults) };
     let sections = house.sections.len();
     faults.note(14, case.out.length < result_bytes(case.call, sections));
     if case.call == Call::Choose {
@@ -103,11 +114,11 @@ pub fn judge(case: &Case) -> Judged {
     if number != 0 {
         result = Expected::Nothing;
     }
-    Judged { house, demand, cat, flows, faults, number, result }
+    Judged { house, demand, meters, cat, flows, faults, number, result }
 }
 
-/// The result of inputs in which nothing was found so far, or 13 or 16.
-fn result_of(case: &Case, order: &Order, demand: &Demand, faults: &mut Faults) -> Expected {
+/// The result of inputs in which nothing was found so far, or 13, 16 or 18.
+fn result_of(case: &Case, order: &Order, demand: &Demand, meters: &Meters, faults: &mut Faults) -> Expected {
     match case.call {
         Call::Copy => Expected::Bytes(case.job.clone()),
         Call::Flow => Expected::Bytes(flow_bytes(demand, order.flows)),
@@ -116,6 +127,13 @@ fn result_of(case: &Case, order: &Order, demand: &Demand, faults: &mut Faults) -
             put(&mut bytes, demand.house_flow(), 4);
             Expected::Bytes(bytes)
         }
+        Call::Meter => match meters.ranked(demand.house_flow(), demand.mean_hour()).first() {
+            Some((loss, place)) => Expected::Bytes(metered(&case.job, *loss, *place)),
+            None => {
+                faults.note(18, true);
+                Expected::Nothing
+            }
+        },
         Call::Rate => match order.rate(&case.sizes) {
             Some(rating) => Expected::Rated(rating),
             None => {
@@ -138,6 +156,16 @@ impl Judged {
     pub fn order(&self) -> Order<'_> {
         Order { house: &self.house, cat: &self.cat, flows: &self.flows }
     }
+}
+
+/// A place, and the job with another meter loss.
+fn metered(job: &[u8], loss: i128, place: usize) -> Vec<u8> {
+    let mut bytes = Vec::new();
+    put(&mut bytes, place as i128, 1);
+    bytes.extend(&job[..8]);
+    put(&mut bytes, loss, 2);
+    bytes.extend(&job[10..]);
+    bytes
 }
 
 fn flow_bytes(demand: &Demand, flows: &[i128]) -> Vec<u8> {

@@ -9,7 +9,7 @@ impl Counters {
     pub fn note(&mut self, case: &Case, judged: &Judged) {
         self.cases += 1;
         self.answers[case.call as usize][judged.number as usize] += 1;
-        for later in (1..=16).filter(|later| judged.faults.has(*later) && *later != judged.number) {
+        for later in (1..=model::faults::LAST).filter(|later| judged.faults.has(*later) && *later != judged.number) {
             self.pairs[case.call as usize][judged.number as usize][later as usize] += 1;
         }
         self.note_lent(case, judged);
@@ -24,6 +24,9 @@ impl Counters {
                 self.note_search(judged);
             }
             _ => {}
+        }
+        if case.call == Call::Meter {
+            self.note_meters(case, judged);
         }
         if matches!(case.call, Call::Rate | Call::Choose) && (1..=12).all(|number| !judged.faults.has(number)) {
             self.note_readings(case, judged);

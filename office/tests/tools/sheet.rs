@@ -17,6 +17,7 @@ pub fn of(input: &[u8]) -> (String, Faults) {
     let case = Case {
         call: Call::Rate,
         job: job.to_vec(),
+        meters: Vec::new(),
         cat: cat.to_vec(),
         sizes: sizes.to_vec(),
         work: Buffer::default(),
