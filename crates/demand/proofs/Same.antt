@@ -1,9 +1,7 @@
 -- Two jobs with the same service, S, residents and sections have the same flows and the same 8 and 9, and with the same T the same mean hour.
 -- Assumes nothing.
 use mathlib.Core.Path.{_≡_, ap, sym, _∙_}
-use mathlib.Core.Bool.{_||_}
 use Prim.Native.Nat.{ℕ, _*_, _≤_, _<_}
-use Rattle.basis.specs.Range.{anyTo}
 use Rattle.basis.proofs.Sum.{sum-ext}
 use Rattle.basis.proofs.Each.{any-ext}
 use Rattle.fields.specs.declared.Job.{Job}

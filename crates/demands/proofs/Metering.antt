@@ -1,6 +1,6 @@
 -- The meter call's promise, read back from the bytes of its result.
 -- Assumes nothing.
-use mathlib.Core.Path.{_≡_, refl, sym, _∙_}
+use mathlib.Core.Path.{_≡_, sym, _∙_}
 use mathlib.Core.Bool.{true, false}
 use mathlib.Core.Logic.{_⊎_, inl, inr, ⊎-elim}
 use mathlib.Core.List.{List, [], _∷_, _++_}
@@ -9,9 +9,9 @@ use native.Mathlib.Omega.{arith}
 use lib.ListN.{length, drop}
 use Rattle.basis.proofs.Bools.{apart}
 use Rattle.basis.proofs.Part.{part-front, part-right}
-use Rattle.basis.proofs.Split.{either, lt-or-ge, eq-or-ne}
+use Rattle.basis.proofs.Split.{either, lt-or-ge}
 use Rattle.basis.proofs.Stored.{stored-front}
-use Rattle.wire.specs.Wire.{byteAt, beAt}
+use Rattle.wire.specs.Wire.{beAt}
 use Rattle.fields.specs.declared.Job.{Job}
 use Rattle.record.specs.Record.{decode}
 use Rattle.record.specs.Edited.{meterPlace, SameBut, withMeter}
@@ -29,7 +29,7 @@ use Rattle.metering.specs.Calls.{placeFor, lossFor, metered, meterBytes, meterL
 use Rattle.metering.proofs.Ordering.{Clear, meter-clear, meter-none, meter-done}
 use Rattle.order.specs.Promises.{MeterGiven}
 use Rattle.demands.specs.Demand3.{SixteenOrList}
-use Rattle.demands.specs.Metering.{lossAt, Fits, Wins, placeIn, recordIn, withPlace, Metered, EighteenOrMeter, Metering}
+use Rattle.demands.specs.Metering.{lossAt, Wins, placeIn, recordIn, withPlace, Metered, EighteenOrMeter, Metering}
 use Rattle.demands.proofs.Demand3.{demand-3}
 
 -- the winner of the definition

@@ -1,13 +1,13 @@
 -- The numbers of the meter call, each check after those before it.
 -- Assumes nothing.
 use mathlib.Core.Path.{_≡_, _∙_}
-use mathlib.Core.Bool.{true, false, not}
+use mathlib.Core.Bool.{true, false}
 use mathlib.Core.List.{List, [], _∷_}
 use Prim.Native.Nat.{ℕ, _≤_, _<_}
 use native.Mathlib.Omega.{arith}
 use lib.ListN.{length}
 use borrow.Author.Tests.{not-false}
-use Rattle.answer.specs.Checks.{firstNo, tooShort}
+use Rattle.answer.specs.Checks.{firstNo}
 use Rattle.answer.proofs.First.{first-none, first-found, first-next, short-found, short-next, first-clear, first-split}
 use Rattle.record.specs.Record.{decode}
 use Rattle.demand.specs.Demand.{meanOf, houseFlow}

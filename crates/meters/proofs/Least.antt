@@ -1,19 +1,18 @@
 -- The meter of least loss among the first n, one meter more at a time; over the whole list it is the winner.
 -- Assumes nothing.
 use mathlib.Core.Path.{_≡_, refl, sym, _∙_}
-use mathlib.Core.Bool.{Bool, true, false, not, _&&_, _||_}
+use mathlib.Core.Bool.{Bool, true, false, not, _||_}
 use mathlib.Core.Logic.{_⊎_, inl, inr, ⊎-elim}
 use mathlib.Core.List.{List}
-use Prim.Native.Nat.{ℕ, zero, suc, _+_, _-_, _≤_, _<_}
+use Prim.Native.Nat.{ℕ, zero, suc, _-_, _≤_, _<_}
 use native.Mathlib.Nat.{eq-or-lt-of-le}
 use native.Mathlib.Omega.{arith}
 use lib.Dec.{leb}
 use borrow.Author.Tests.{le-leb, leb-true, not-true, not-false}
-use Rattle.basis.specs.Range.{allTo, anyTo, lowestTo}
 use Rattle.basis.proofs.Bools.{apart, left, right, never}
 use Rattle.basis.proofs.Split.{either, lt-or-ge}
 use Rattle.basis.proofs.Each.{Found, all-at, all-each, any-at, any-found}
-use Rattle.basis.proofs.Lowest.{Lowest, lowest-only, lowest-none}
+use Rattle.basis.proofs.Lowest.{lowest-only, lowest-none}
 use Rattle.meters.specs.Meters.{metersIn, meterAt, meterLoss, qualifies, noneQualifies, leastAt, winnerOf}
 use Rattle.meters.proofs.Qualifying.{loss-top}
 

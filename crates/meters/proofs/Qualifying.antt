@@ -8,10 +8,8 @@ use native.Mathlib.Omega.{arith}
 use native.Mathlib.Nat.{mul-le-mul}
 use lib.Dec.{leb, eqb}
 use borrow.Author.Tests.{le-leb, leb-true}
-use Rattle.basis.specs.Round.{up}
 use Rattle.basis.proofs.Bools.{left, right, never}
 use Rattle.basis.proofs.Split.{either}
-use Rattle.basis.proofs.Round.{up-le}
 use Rattle.meters.specs.declared.Meter.{Meter}
 use Rattle.meters.specs.Meters.{meterLoss, mostLoss, qualifies}
 
