@@ -72,8 +72,8 @@ uint32_t order_flow(const uint8_t *job, size_t job_length, uint8_t *out, size_t 
 
 /* The design flow of the whole house, which its pump set has to deliver.
  * job: a job record. out: at least 4 bytes.
- * Result: the house's design flow in ml/s (4 bytes): that of the house's m, which is no section's where several hang on
- * the pump.
+ * Result: the house's design flow in ml/s (4 bytes): that of the house's m, which need not be any section's where
+ * several hang on the pump.
  * Refusals: 1 to 9, 14. */
 uint32_t order_duty(const uint8_t *job, size_t job_length, uint8_t *out, size_t out_length);
 
@@ -83,9 +83,10 @@ uint32_t order_duty(const uint8_t *job, size_t job_length, uint8_t *out, size_t 
  * A meter's loss in cm is resistance * q * q / 100,000,000, up, with q the house's design flow in ml/s as order_duty gives
  * it. A meter qualifies if its loss is at most 500 (vane) or 250 (turbine), and the mean hour that order_flow gives is at
  * most its service flow. Of those that qualify the one of least loss is given, of several the first. The meter loss that the
- * job has plays no part.
- * Result: the meter's place in the list, from 1 (1 byte), then the job record with that meter's loss in bytes 8 and 9 and
- * every other byte as it was. That record is accepted by every call that takes a job.
+ * job has must be in its range, as in every job (else 3), and plays no part beyond that.
+ * Result: the meter's place in the list, from 1 (1 byte), then the job record with that meter's loss in bytes 8 and 9 (of
+ * the record: 9 and 10 of out) and every other byte as it was. The record is out + 1 with the length of the job, ready to be
+ * lent: every call that takes a job accepts it.
  * Refusals: 1 to 9, 17, 14, 18, in this order. */
 uint32_t order_meter(const uint8_t *job, size_t job_length, const uint8_t *meters, size_t meters_length,
                      uint8_t *out, size_t out_length);

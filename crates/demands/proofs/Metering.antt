@@ -25,11 +25,11 @@ use Rattle.choosing.specs.Calls.{Ample, Chosen}
 use Rattle.meters.specs.Meters.{meterAt, metersOk, noneQualifies}
 use Rattle.meters.proofs.Qualifying.{loss-top}
 use Rattle.meters.proofs.Least.{none-fits, winner-first, winner-bound}
-use Rattle.metering.specs.Calls.{placeFor, lossFor, metered, meterBytes, meterLength, meterNo}
+use Rattle.metering.specs.Calls.{placeFor, lossFor, meteredRecord, meterBytes, meterLength, meterNo}
 use Rattle.metering.proofs.Ordering.{Clear, meter-clear, meter-none, meter-done}
 use Rattle.order.specs.Promises.{MeterGiven}
 use Rattle.demands.specs.Demand3.{SixteenOrList}
-use Rattle.demands.specs.Metering.{lossAt, Wins, placeIn, recordIn, withPlace, Metered, EighteenOrMeter, Metering}
+use Rattle.demands.specs.Metering.{meterLossAt, Wins, placeIn, recordIn, withPlace, Metered, EighteenOrMeter, Metering}
 use Rattle.demands.proofs.Demand3.{demand-3}
 
 -- the winner of the definition
@@ -40,15 +40,15 @@ wins-of job meters some =
     let first = winner-first meters q mean some in
     let t = placeFor job meters in
     record {
-      fits = record { low = first .low; high = first .high; qualified = first .fit };
+      qualified = record { low = first .low; high = first .high; by = first .fit };
       least = λ u f.
           ⊎-elim
-          (λ (under : u < t). inl (first .lower u (f .low) under (f .qualified)))
+          (λ (under : u < t). inl (first .lower u (f .low) under (f .by)))
           (λ (over : t ≤ u).
           ⊎-elim
-          (λ (less : lossAt job meters t < lossAt job meters u). inl less)
-          (λ (ge : lossAt job meters u ≤ lossAt job meters t). let le = winner-bound meters q mean some u (f .low) (f .high) (f .qualified) in inr (omega arith, over))
-          (lt-or-ge (lossAt job meters t) (lossAt job meters u)))
+          (λ (less : meterLossAt job meters t < meterLossAt job meters u). inl less)
+          (λ (ge : meterLossAt job meters u ≤ meterLossAt job meters t). let le = winner-bound meters q mean some u (f .low) (f .high) (f .by) in inr (omega arith, over))
+          (lt-or-ge (meterLossAt job meters t) (meterLossAt job meters u)))
           (lt-or-ge u t);
     }
 
@@ -60,28 +60,28 @@ module _ (job meters out₀ out : List ℕ) (g : MeterGiven job meters out₀ ou
   long : 40 ≤ length job
   long = accept-long job (clear .accepted)
 
-  written : SameBut meterPlace 2 job (metered job meters)
-  unfolding metered
+  written : SameBut meterPlace 2 job (meteredRecord job meters)
+  unfolding meteredRecord
   written = edited-same 2 job meterPlace (lossFor (decode job) meters) (omega (arith, long))
 
-  result : out ≡ placeFor (decode job) meters ∷ (metered job meters ++ drop (length (meterBytes job meters)) out₀)
+  result : out ≡ placeFor (decode job) meters ∷ (meteredRecord job meters ++ drop (length (meterBytes job meters)) out₀)
   unfolding meterBytes
   result = g .buffer ∙ stored-front out₀ (meterBytes job meters)
 
   place-is : placeIn out ≡ placeFor (decode job) meters
   place-is = rw result
 
-  record-is : recordIn job out ≡ metered job meters
+  record-is : recordIn job out ≡ meteredRecord job meters
   record-is =
       rw result
-      (part-right (placeFor (decode job) meters ∷ []) (metered job meters ++ _) 0 (length job) ∙
-      part-front (metered job meters) _ (length job) (written .long))
+      (part-right (placeFor (decode job) meters ∷ []) (meteredRecord job meters ++ _) 0 (length job) ∙
+      part-front (meteredRecord job meters) _ (length job) (written .long))
 
   small : lossFor (decode job) meters ≤ 500
   small = loss-top (meterAt meters (placeFor (decode job) meters)) _ _ (winner-first meters _ _ (clear .some) .fit)
 
-  loss-is : beAt 2 (metered job meters) meterPlace ≡ lossFor (decode job) meters
-  unfolding metered
+  loss-is : beAt 2 (meteredRecord job meters) meterPlace ≡ lossFor (decode job) meters
+  unfolding meteredRecord
   loss-is = edited-field 2 job meterPlace (lossFor (decode job) meters) (omega (arith, long)) (omega (arith, small))
 
   metered-of : Metered job meters out
@@ -114,7 +114,7 @@ module _ (job meters out₀ out : List ℕ) (n : ℕ) (accepted : jobNo job ≡ 
       (λ (e : noneQualifies meters (houseFlow (decode job)) (meanOf (decode job)) ≡ true).
       let no = g .number ∙ meter-none job meters (length out₀) accepted listed room e in
       record {
-        none = λ z t f. apart (f .qualified) (none-fits meters _ _ e t (f .low) (f .high));
+        none = λ z t f. apart (f .by) (none-fits meters _ _ e t (f .low) (f .high));
         only = λ z. no;
         otherwise = λ other. absurd (other no);
       })
@@ -122,7 +122,7 @@ module _ (job meters out₀ out : List ℕ) (n : ℕ) (accepted : jobNo job ≡ 
       let no = g .number ∙ meter-done job meters (length out₀) accepted listed room e in
       record {
         none = λ z t f. omega arith;
-        only = λ z. absurd (z _ (wins-of (decode job) meters e .fits));
+        only = λ z. absurd (z _ (wins-of (decode job) meters e .qualified));
         otherwise = λ other. (no, metered-of job meters out₀ out (rw no at g));
       })
       (either (noneQualifies meters (houseFlow (decode job)) (meanOf (decode job))))
@@ -134,7 +134,7 @@ module _ (job other meters : List ℕ) (same : SameBut meterPlace 2 job other) (
   same-no accepted′ room = job-passes other _ accepted′ ∙ rw (same .long, metered-flow same, metered-mean same) (sym (job-passes job _ accepted))
 
   same-result : meterBytes other meters ≡ meterBytes job meters
-  unfolding meterBytes metered
+  unfolding meterBytes meteredRecord
   same-result = rw (metered-flow same, metered-mean same, edited-over same _ (omega (arith, accept-long job accepted)))
 
 pub metering : Metering
@@ -143,6 +143,7 @@ metering =
       metered = λ job meters out₀ out g. let clear = meter-clear job meters (length out₀) (sym (g .number)) in (clear .accepted, clear .listed, metered-of job meters out₀ out g);
       eighteen = λ job meters out₀ out n accepted listed room g. eighteen-of job meters out₀ out n accepted listed room g;
       chosen = λ job meters out₀ out cat list₀ work₀ list work n g listed a c. chosen-of job meters out₀ out g listed a c;
+      in-range = λ job other same accepted few. metered-accepted same accepted few;
       own-loss = λ job other meters out₀ out out′ n n′ same accepted accepted′ g g′.
           let no = g′ .number ∙ same-no job other meters same accepted accepted′ (length out₀) ∙ sym (g .number) in
           (no, g′ .buffer ∙ rw (no, same-result job other meters same accepted) (sym (g .buffer)));

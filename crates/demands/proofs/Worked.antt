@@ -37,7 +37,7 @@ use Rattle.sizing.specs.Losses.{listOk, readingOf, overBy, overAt, overAny, los
 use Rattle.acceptance.specs.Acceptance.{inputChecks}
 use Rattle.flow.specs.Calls.{flowNo, dutyNo}
 use Rattle.meters.specs.Meters.{meterAt, meterOk, metersOk, meterLoss, mostLoss, qualifies, noneQualifies, leastAt, winnerOf}
-use Rattle.metering.specs.Calls.{meterNo}
+use Rattle.metering.specs.Calls.{meteredRecord, meterBytes, meterNo}
 use Rattle.rating.specs.Calls.{rateChecks, rateNo}
 use Rattle.sizing.proofs.Named.{list-long, list-names}
 use Rattle.acceptance.proofs.Accepting.{input-cat}
@@ -116,7 +116,7 @@ module _ {out₀ work₀ : List ℕ} where
 
 -- the rest is computed too, but for the statements over every list and over the call
 pub own-case : OwnCase
-unfolding computed dayNorms hourlySumOf hourOf dayOf meanOf clamped pumpAt lowestTo dictatingOf copyChecks copyNo flowNo dutyNo meterAt meterOk metersOk meterLoss mostLoss qualifies noneQualifies leastAt winnerOf meterNo inputChecks rateChecks rateNo chooseChecks chooseNo
+unfolding computed dayNorms hourlySumOf hourOf dayOf meanOf clamped pumpAt lowestTo dictatingOf copyChecks copyNo flowNo dutyNo meterAt meterOk metersOk meterLoss mostLoss qualifies noneQualifies leastAt winnerOf stored meteredRecord meterBytes meterNo inputChecks rateChecks rateNo chooseChecks chooseNo
 own-case =
     record {
       job = computed .own;
@@ -135,11 +135,14 @@ own-case =
       copied = refl;
       flowed = refl;
       duty-given = refl;
+      meter-losses = (refl, refl, refl);
       meter-given = refl;
-      meter-losses = (refl, refl);
-      meter-place = refl;
-      meter-room = refl;
+      meter-bytes = refl;
       meter-none = refl;
+      meter-room = refl;
+      meter-list = refl;
+      equal-losses = (refl, refl);
+      equal-place = refl;
       rated = refl;
       velocity = refl;
       loss = refl;

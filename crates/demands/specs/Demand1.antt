@@ -1,6 +1,7 @@
 -- Demand 1: "Whoever wrote the job, the catalogue or the list of sizes, each call comes back with a result or with a number from the
 -- table in document 01, nobody has to check the input first, and a refusal leaves the result buffer untouched."
--- Each call comes back: the check shows of every function that it ends. Nobody has to check the input first: no call has a `requires`.
+-- Each call comes back: the check shows of every function that it ends. Nobody has to check the input first: none of these calls has a
+-- `requires`.
 -- Assumes nothing.
 use mathlib.Core.Path.{_≡_}
 use mathlib.Core.Logic.{_⊎_}

@@ -16,7 +16,7 @@ use Rattle.sizing.specs.Losses.{readingOf, lossAt, lossesOf}
 use Rattle.job.specs.Calls.{copyNo}
 use Rattle.flow.specs.Calls.{flowNo, dutyNo}
 use Rattle.meters.specs.Meters.{meterAt, meterLoss}
-use Rattle.metering.specs.Calls.{placeFor, meterNo}
+use Rattle.metering.specs.Calls.{placeFor, meterBytes, meterNo}
 use Rattle.rating.specs.Calls.{rateNo}
 use Rattle.choosing.specs.Suitable.{Suitable, costOf}
 use Rattle.choosing.specs.Calls.{Ample, chooseNo, Chosen}
@@ -45,9 +45,13 @@ job921 = jobOf 3 153
 abbrev pub job920 : List ℕ
 job920 = jobOf 3 152
 
--- two vane meters of resistance 2 and 1, and of a service flow of two bytes, the first of which is 2
+-- a turbine meter of resistance 5,938 and two vane meters of 6,000 and 5,000; the service flow is 512 more than its low byte
 abbrev pub metersOf : ℕ → List ℕ
-metersOf low = 1 ∷ 0 ∷ 2 ∷ 2 ∷ low ∷ 1 ∷ 0 ∷ 1 ∷ 2 ∷ low ∷ []
+metersOf low = 2 ∷ 23 ∷ 50 ∷ 2 ∷ low ∷ 1 ∷ 23 ∷ 112 ∷ 2 ∷ low ∷ 1 ∷ 19 ∷ 136 ∷ 2 ∷ low ∷ []
+
+-- two vane meters of resistance 2 and 1, service flow 740
+abbrev pub equalMeters : List ℕ
+equalMeters = 1 ∷ 0 ∷ 2 ∷ 2 ∷ 228 ∷ 1 ∷ 0 ∷ 1 ∷ 2 ∷ 228 ∷ []
 
 -- document 01's figures of its own case, and what each call gives there
 pub record OwnCase : Type 0 where
@@ -81,13 +85,19 @@ pub record OwnCase : Type 0 where
   pub copied : copyNo ownJob 50 ≡ 0
   pub flowed : flowNo ownJob 16 ≡ 0
   pub duty-given : dutyNo ownJob 4 ≡ 0
-  -- document 02, L1: at a service flow of 740 both meters lose 1 cm, and the lower place wins; 50 bytes are too few for the result
+  -- document 02, L1: the turbine meter loses 251 cm, one more than it may, and the vane meters 253 and 211
+  pub meter-losses : (meterLoss (meterAt (metersOf 228) 1) 2052 ≡ 251) × (meterLoss (meterAt (metersOf 228) 2) 2052 ≡ 253) ×
+      (meterLoss (meterAt (metersOf 228) 3) 2052 ≡ 211)
+  -- at a service flow of 740 place 3 wins, and the result is 3 and the record with 211 in place of 50
   pub meter-given : meterNo ownJob (metersOf 228) 51 ≡ 0
-  pub meter-losses : (meterLoss (meterAt (metersOf 228) 1) 2052 ≡ 1) × (meterLoss (meterAt (metersOf 228) 2) 2052 ≡ 1)
-  pub meter-place : placeFor (decode ownJob) (metersOf 228) ≡ 1
-  pub meter-room : meterNo ownJob (metersOf 228) 50 ≡ 14
-  -- 739 is below the mean hour
+  pub meter-bytes : meterBytes ownJob (metersOf 228) ≡ 3 ∷ stored ownJob 8 (0 ∷ 211 ∷ [])
+  -- 739 is below the mean hour; 50 bytes are too few for a result, which is found first; and 16 bytes are no list
   pub meter-none : meterNo ownJob (metersOf 227) 51 ≡ 18
+  pub meter-room : meterNo ownJob (metersOf 227) 50 ≡ 14
+  pub meter-list : meterNo ownJob (1 ∷ metersOf 228) 50 ≡ 17
+  -- two meters that both lose 1 cm: the lower place wins, whatever the resistances
+  pub equal-losses : (meterLoss (meterAt equalMeters 1) 2052 ≡ 1) × (meterLoss (meterAt equalMeters 2) 2052 ≡ 1)
+  pub equal-place : placeFor (decode ownJob) equalMeters ≡ 1
   -- rating takes size 2
   pub rated : rateNo ownJob ownCat (2 ∷ []) 15 ≡ 0
   -- the velocity of size 2, mm/s

@@ -21,12 +21,12 @@ abbrev pub lossFor : Job → List ℕ → ℕ
 lossFor job meters = meterLoss (meterAt meters (placeFor job meters)) (houseFlow job)
 
 -- the job record with that loss in its meter loss field and every other byte as it was
-unfoldable pub metered : List ℕ → List ℕ → List ℕ
-metered b meters = edited 2 b meterPlace (lossFor (decode b) meters)
+unfoldable pub meteredRecord : List ℕ → List ℕ → List ℕ
+meteredRecord b meters = edited 2 b meterPlace (lossFor (decode b) meters)
 
 -- the result: the place (1), then that record
 unfoldable pub meterBytes : List ℕ → List ℕ → List ℕ
-meterBytes b meters = placeFor (decode b) meters ∷ metered b meters
+meterBytes b meters = placeFor (decode b) meters ∷ meteredRecord b meters
 
 -- the length of a result for a record of so many bytes
 abbrev pub meterLength : ℕ → ℕ

@@ -14,7 +14,7 @@ use Rattle.meters.specs.declared.Meter.{Meter}
 use Rattle.meters.specs.Meters.{metersIn, meterAt, meterOk, metersOk}
 
 pub record MeterIn (m : Meter) : Type 0 where
-  pub design : Within 1 2 (m .design)
+  pub form : Within 1 2 (m .form)
   pub resistance : 1 ≤ m .resistance
   pub service : 1 ≤ m .service
 
@@ -22,17 +22,17 @@ module _ (m : Meter) where
   meter-in : meterOk m ≡ true → MeterIn m
   unfolding meterOk
   meter-in e =
-      let rest = right (within 1 2 (m .design)) _ e in
+      let rest = right (within 1 2 (m .form)) _ e in
       record {
-        design = within-in 1 2 (m .design) (left _ _ e);
+        form = within-in 1 2 (m .form) (left _ _ e);
         resistance = leb-true 1 (m .resistance) (left _ _ rest);
         service = leb-true 1 (m .service) (right (leb 1 (m .resistance)) _ rest);
       }
 
   -- the last test decides where the others hold
-  pub meter-last : Within 1 2 (m .design) → 1 ≤ m .resistance → leb 1 (m .service) ≡ meterOk m
+  pub meter-last : Within 1 2 (m .form) → 1 ≤ m .resistance → leb 1 (m .service) ≡ meterOk m
   unfolding meterOk
-  meter-last d r = rw (in-within 1 2 (m .design) d, le-leb 1 (m .resistance) r)
+  meter-last d r = rw (in-within 1 2 (m .form) d, le-leb 1 (m .resistance) r)
 
   pub meter-refused : (MeterIn m → ⊥) → false ≡ meterOk m
   meter-refused n = sym (never (meterOk m) (λ e. n (meter-in e)))

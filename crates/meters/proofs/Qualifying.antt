@@ -25,9 +25,9 @@ module _ (m : Meter) where
   unfolding mostLoss
   most-top =
       ⊎-elim
-      (λ (e : eqb (m .design) 1 ≡ true). rw e (omega arith))
-      (λ (e : eqb (m .design) 1 ≡ false). rw e (omega arith))
-      (either (eqb (m .design) 1))
+      (λ (e : eqb (m .form) 1 ≡ true). rw e (omega arith))
+      (λ (e : eqb (m .form) 1 ≡ false). rw e (omega arith))
+      (either (eqb (m .form) 1))
 
   module _ (q mean : ℕ) where
     -- as the definition reads

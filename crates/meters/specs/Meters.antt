@@ -18,11 +18,11 @@ metersIn list = length list / 5
 -- the meter at place t: type (1), resistance (2), service flow (2)
 unfoldable pub meterAt : List ℕ → ℕ → Meter
 meterAt list t =
-    record { design = byteAt list (5 * (t - 1)); resistance = beAt 2 list (5 * (t - 1) + 1); service = beAt 2 list (5 * (t - 1) + 3) }
+    record { form = byteAt list (5 * (t - 1)); resistance = beAt 2 list (5 * (t - 1) + 1); service = beAt 2 list (5 * (t - 1) + 3) }
 
 -- type 1 (vane) or 2 (turbine), resistance and service flow at least 1
 unfoldable pub meterOk : Meter → Bool
-meterOk m = within 1 2 (m .design) && (leb 1 (m .resistance) && leb 1 (m .service))
+meterOk m = within 1 2 (m .form) && (leb 1 (m .resistance) && leb 1 (m .service))
 
 -- 17 finds nothing: 1 to 8 meters of five bytes, each by its rules
 unfoldable pub metersOk : List ℕ → Bool
@@ -33,9 +33,9 @@ metersOk list =
 unfoldable pub meterLoss : Meter → ℕ → ℕ
 meterLoss m q = up (m .resistance * q * q) 100000000
 
--- the most loss: 500 cm (vane) or 250 cm (turbine)
+-- the most loss: 500 cm (vane), else 250 cm (turbine)
 unfoldable pub mostLoss : Meter → ℕ
-mostLoss m = cond (eqb (m .design) 1) 500 250
+mostLoss m = cond (eqb (m .form) 1) 500 250
 
 -- a meter qualifies if its loss is at most that, and the mean hour is at most its service flow
 unfoldable pub qualifies : Meter → ℕ → ℕ → Bool
@@ -51,6 +51,6 @@ leastAt list q mean t =
     qualifies (meterAt list t) q mean &&
     allTo (metersIn list) (λ u. not (qualifies (meterAt list u) q mean) || leb (meterLoss (meterAt list t) q) (meterLoss (meterAt list u) q))
 
--- the least loss wins, then the lower place
+-- the least loss wins, then the lower place; 0 where no meter qualifies
 unfoldable pub winnerOf : List ℕ → ℕ → ℕ → ℕ
 winnerOf list q mean = lowestTo (metersIn list) (leastAt list q mean)

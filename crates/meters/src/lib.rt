@@ -7,9 +7,9 @@ ghost use Prim.Native.Nat.{_*_, _≤_, _<_};
 ghost use lib.ListN.{length};
 ghost use Rattle.meters.specs.Meters.{meterAt, meterOk, metersOk, meterLoss, mostLoss, qualifies, winnerOf};
 
-// A meter: its type (1 vane, 2 turbine), resistance in ten-thousandths of m per (l/s) squared, and service flow in l/h.
+// A meter: its form, the paper's type (1 vane, 2 turbine), its resistance in ten-thousandths of m per (l/s) squared, and service flow in l/h.
 pub struct Meter {
-    pub design: u8,
+    pub form: u8,
     pub resistance: u16,
     pub service: u16,
 }
@@ -21,7 +21,7 @@ pub fn meter_at(list: &[u8], t: usize) -> Meter
 {
     let at = 5 * (t - 1);
     Meter {
-        design: list[at],
+        form: list[at],
         resistance: wire::be16(list, at + 1),
         service: wire::be16(list, at + 3),
     }
@@ -30,7 +30,7 @@ pub fn meter_at(list: &[u8], t: usize) -> Meter
 fn meter_ok(m: Meter) -> bool
     ensures { λ r. ⌜ r ≡ meterOk m ⌝ }
 {
-    match m.design {
+    match m.form {
         1..=2 => {}
         _ => return false,
     }
@@ -62,7 +62,7 @@ pub fn meters_ok(list: &[u8]) -> bool
     true
 }
 
-// A meter's loss in cm at the house's design flow. It reaches 12,454,000, which a loss field does not hold.
+// A meter's loss in cm at the house's design flow. It stays under 12,454,000, which the field of a record does not hold.
 pub fn loss_of(m: Meter, q: u32) -> u32
     requires { ⌜ q ≤ 137850 ⌝ }
     ensures { λ r. ⌜ r ≡ meterLoss m q ⌝ }
@@ -75,7 +75,7 @@ pub fn loss_of(m: Meter, q: u32) -> u32
 fn most_loss(m: Meter) -> u32
     ensures { λ r. ⌜ r ≡ mostLoss m ⌝ }
 {
-    if m.design == 1 { 500 } else { 250 }
+    if m.form == 1 { 500 } else { 250 }
 }
 
 fn qualifies(m: Meter, q: u32, mean: u32) -> bool

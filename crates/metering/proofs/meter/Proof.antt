@@ -17,7 +17,7 @@ use Rattle.meters.specs.Meters.{metersOk, noneQualifies}
 use Rattle.meters.proofs.Bounds.{list-in}
 use Rattle.meters.proofs.Qualifying.{loss-top}
 use Rattle.meters.proofs.Least.{winner-zero, winner-some, winner-first}
-use Rattle.metering.specs.Calls.{placeFor, lossFor, metered, meterBytes}
+use Rattle.metering.specs.Calls.{placeFor, lossFor, meteredRecord, meterBytes}
 use Rattle.metering.proofs.Ordering.{meter-refused, meter-listed, meter-short, meter-none, meter-done}
 use Rattle.metering.proofs.meter.Statement.{statement}
 use Rattle.metering.proofs.meter.Tie as tie
@@ -113,7 +113,7 @@ put-result-requires c κs =
     )
 
 returns-5 : tie.Need-returns-5
-unfolding meterBytes metered
+unfolding meterBytes meteredRecord
 returns-5 c =
     let put = c .before .before in
     let lost = put .before .before in
