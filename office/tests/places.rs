@@ -177,7 +177,7 @@ fn the_advice_of_eight_and_nine_holds_in_the_library() {
 
 fn rated(job: &[u8], cat: &[u8], sizes: &[u8]) -> (u32, Vec<Place>) {
     let refusal = calls::rate(job, cat, sizes).expect_err("refused");
-    (refusal.number(), places(&refusal, &Asked { job, cat, sizes }))
+    (refusal.number(), places(&refusal, &Asked { job, cat, sizes, ..Asked::default() }))
 }
 
 #[test]
@@ -213,21 +213,84 @@ fn catalogues_and_lists() {
 fn the_missing_head() {
     let (own, cat) = (with(&job(), &[(12, 3), (13, 0x98)]), cat());
     let refusal = calls::choose(&own, &cat).expect_err("920 cm are one too few");
-    let found = (refusal.number(), places(&refusal, &Asked { job: &own, cat: &cat, sizes: &[] }));
+    let found = (refusal.number(), places(&refusal, &Asked { job: &own, cat: &cat, ..Asked::default() }));
     check(found.clone(), 16, At::Field(Field::Delivered), "no list of sizes needs less than 921 cm, 1 cm more");
     check(found, 16, At::Section(1), "sizes 2");
     let slow = with(&job(), &[(14, 1), (15, 0)]);
     let refusal = calls::choose(&slow, &cat).expect_err("256 mm/s are too slow");
-    let found = (refusal.number(), places(&refusal, &Asked { job: &slow, cat: &cat, sizes: &[] }));
+    let found = (refusal.number(), places(&refusal, &Asked { job: &slow, cat: &cat, ..Asked::default() }));
     check(found.clone(), 16, At::Section(1), "at 2052 ml/s the least velocity is 1026 mm/s, in size 2 (50 mm)");
     // 2,052,000 cubic mm a second at 256 mm/s take 8,016 square mm, a bore of 101.02 mm.
     check(found, 16, At::Section(1), "and the limit is 256 mm/s; a bore of about 102 mm would do");
     let small = with(&cat, &[(21, 7), (22, 0xd0), (41, 7), (42, 0xd0)]);
     let refusal = calls::choose(&job(), &small).expect_err("the rows end at 2,000 ml/s");
-    let found = (refusal.number(), places(&refusal, &Asked { job: &job(), cat: &small, sizes: &[] }));
+    let found = (refusal.number(), places(&refusal, &Asked { job: &job(), cat: &small, ..Asked::default() }));
     let why = "no size serves its flow of 2052 ml/s; the greatest flow in the table is 2000 ml/s, and the limit is 1500 mm/s; \
         a bore of about 51 mm would do";
     check(found, 16, At::Section(1), why);
+}
+
+fn metered(job: &[u8], meters: &[u8]) -> (u32, Vec<Place>) {
+    let refusal = calls::meter(job, meters).expect_err("refused");
+    (refusal.number(), places(&refusal, &Asked { job, meters, ..Asked::default() }))
+}
+
+/// A meter's five bytes.
+fn meter(design: u8, resistance: u16, service: u16) -> Vec<u8> {
+    [vec![design], resistance.to_be_bytes().to_vec(), service.to_be_bytes().to_vec()].concat()
+}
+
+#[test]
+fn the_rules_of_a_list_of_meters() {
+    let own = job();
+    let (vane, turbine) = (meter(1, 5_000, 6_400), meter(2, 1_430, 12_000));
+    let both = [&vane[..], &turbine].concat();
+    check(metered(&own, &[]), 17, At::Meters, "the file is empty: it has 0 bytes; a meter has 5");
+    check(metered(&own, &both[..9]), 17, At::Meter(2), "the list has 9 bytes, 5 for each meter: 1 are missing here");
+    check(metered(&own, &vane.repeat(9)), 17, At::Meter(9), "one too many: the list has 9 meters, and the most is 8");
+    let of = |odd: Vec<u8>| metered(&own, &[&vane[..], &odd, &turbine].concat());
+    check(of(meter(0, 1, 1)), 17, At::Meter(2), "type 0 is none of 1 (vane) and 2 (turbine)");
+    check(of(meter(3, 1, 1)), 17, At::Meter(2), "type 3 is none of");
+    check(of(meter(1, 0, 1)), 17, At::Meter(2), "resistance 0; the least is 0.0001 m/(l/s)2");
+    check(of(meter(2, 1, 0)), 17, At::Meter(2), "service flow 0 l/h; the least is 1");
+    assert_eq!(of(meter(9, 0, 0)).1.len(), 3, "all that is wrong with a meter");
+    check(metered(&own, &own), 17, At::Meters, "these bytes are a job record by their length; are two files swapped?");
+    check(metered(&own, &cat()), 17, At::Meters, "these bytes are a catalogue by their length");
+    // A refusal of the house comes first, and its place is the house's.
+    check(metered(&own[..49], &[]), 1, At::Field(Field::Stated), "states 50 bytes and has 49");
+}
+
+/// The own case has 2,052 ml/s and a mean hour of 740 l/h; 2,052 × 2,052 is 4,210,704.
+#[test]
+fn why_no_meter_qualifies() {
+    let own = job();
+    // 13,000 × 4,210,704 / 100,000,000 is 547.4.
+    let dn_32 = "at 2052 ml/s it loses 548 cm, 48 cm over the 500 cm of a vane meter";
+    check(metered(&own, &meter(1, 13_000, 4_000)), 18, At::Meter(1), dn_32);
+    let small = metered(&own, &[meter(2, 5_938, 740), meter(1, 1, 739), meter(2, 26_000, 100)].concat());
+    assert_eq!(small.1.len(), 4, "each meter, and what would do");
+    // 5,938 × 4,210,704 / 100,000,000 is 250.03.
+    check(small.clone(), 18, At::Meter(1), "it loses 251 cm, 1 cm over the 250 cm of a turbine meter");
+    check(small.clone(), 18, At::Meter(2), "the mean hour of 740 l/h is 1 l/h over its service flow of 739 l/h");
+    check(
+        small.clone(),
+        18,
+        At::Meter(3),
+        "845 cm over the 250 cm of a turbine meter; the mean hour of 740 l/h is 640",
+    );
+    let would = "a vane meter of at most 1.1874 m/(l/s)2 or a turbine meter of at most 0.5937 m/(l/s)2 with a service flow \
+        of at least 740 l/h would do";
+    check(small, 18, At::House, would);
+    // What would do does, and no more resistance does.
+    for (design, most) in [(1, 11_874), (2, 5_937)] {
+        assert!(calls::meter(&own, &meter(design, most, 740)).is_ok());
+        assert_eq!(calls::meter(&own, &meter(design, most + 1, 740)), Err(Refusal::NoMeter));
+    }
+    // 4,000 residents of kind 1 with 400 litres each on the greatest day, all of it in one hour.
+    let mut crowded = crowd(&[(1, 4_000, 60_000)]);
+    crowded.hours = 1;
+    let crowded = metered(&crowded.bytes(), &meter(2, 1, 65_535));
+    check(crowded, 18, At::House, "its mean hour is 1600000 l/h, and a list holds service flows to 65535 l/h");
 }
 
 /// Every refusal of the made-up orders has a place, and its place is of its own kind.
@@ -244,7 +307,8 @@ fn every_refusal_has_a_place() {
             Call::Choose => calls::choose(&case.job, &case.cat).err(),
         };
         let Some(refusal) = refusal else { continue };
-        let found = places(&refusal, &Asked { job: &case.job, cat: &case.cat, sizes: &case.sizes });
+        let asked = Asked { job: &case.job, cat: &case.cat, sizes: &case.sizes, ..Asked::default() };
+        let found = places(&refusal, &asked);
         assert!(!found.is_empty(), "no place for {refusal}\n{}", case.text());
         seen[refusal.number() as usize] += 1;
         if refusal == Refusal::NoSuitableList {
@@ -275,11 +339,13 @@ fn the_least_head_is_true(job: &[u8], cat: &[u8], found: &[Place]) {
 fn any_bytes_are_taken() {
     for index in 0..20_000 {
         let case = generate::case(12, index);
-        for number in 1..=17 {
+        for number in 1..=19 {
             let refusal = Refusal::from_number(number).expect("a refusal");
-            let found = places(&refusal, &Asked { job: &case.job, cat: &case.cat, sizes: &case.sizes });
+            let asked = Asked { job: &case.job, cat: &case.cat, sizes: &case.sizes, meters: &case.sizes };
+            let found = places(&refusal, &asked);
             assert!(found.iter().all(|place| !place.why.is_empty()));
-            let crossed = places(&refusal, &Asked { job: &case.cat, cat: &case.job, sizes: &case.job });
+            let crossed = Asked { job: &case.cat, cat: &case.job, sizes: &case.job, meters: &case.job };
+            let crossed = places(&refusal, &crossed);
             assert!(crossed.iter().all(|place| !place.why.is_empty()));
         }
     }
