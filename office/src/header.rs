@@ -84,7 +84,9 @@ impl Columns {
         let covered = |place: usize| self.places.contains(&place) || self.words().any(|words| words == place);
         let mut cells = row.cells.iter().enumerate();
         let (_, cell) = cells.find(|(place, cell)| !covered(*place) && !cell.is_empty())?;
-        Some(row.mistake(format!("`{cell}` stands under no column"), "as many cells as the header has"))
+        let comma = if row.separator == ',' { "; a comma within a number makes two cells of it" } else { "" };
+        let expected = format!("as many cells as the header has{comma}");
+        Some(row.mistake(format!("`{cell}` stands under no column"), expected))
     }
 }
 

@@ -254,8 +254,13 @@ fn the_rules_of_a_list_of_meters() {
     check(of(meter(1, 0, 1)), 17, At::Meter(2), "resistance 0; the least is 0.0001 m/(l/s)2");
     check(of(meter(2, 1, 0)), 17, At::Meter(2), "service flow 0 l/h; the least is 1");
     assert_eq!(of(meter(9, 0, 0)).1.len(), 3, "all that is wrong with a meter");
-    check(metered(&own, &own), 17, At::Meters, "these bytes are a job record by their length; are two files swapped?");
-    check(metered(&own, &cat()), 17, At::Meters, "these bytes are a catalogue by their length");
+    for (other, what) in
+        [(&own, "a job record; are the two files swapped?"), (&cat(), "a catalogue; a list of meters is")]
+    {
+        let found = metered(&own, other);
+        assert_eq!(found.1.len(), 1, "what else is wrong says nothing");
+        check(found, 17, At::Meters, &format!("these bytes have the length of {what}"));
+    }
     // A refusal of the house comes first, and its place is the house's.
     check(metered(&own[..49], &[]), 1, At::Field(Field::Stated), "states 50 bytes and has 49");
 }

@@ -15,13 +15,16 @@ use std::io::IsTerminal;
 /// A readable file as a record's bytes, with the library's refusal beside it.
 pub fn pack(arguments: &Arguments) -> Result<Outcome, Misuse> {
     let file = arguments.file(0);
+    let name = file.name();
     let text = match file.some_content()? {
         Content::Text(text) => text,
-        Content::Record(bytes) | Content::Meters(bytes) => {
-            let first = bytes.first().copied().unwrap_or(0);
-            let why = "`office show` shows a record, `--text` reads a text that begins so";
-            let name = file.name();
-            return Err(Misuse::Words(format!("{name} is no readable file: its first byte is {first:02X}; {why}")));
+        Content::Record(_) => {
+            let why = "its first byte is 00; `office show` shows a record, `--text` reads a text that begins so";
+            return Err(Misuse::Words(format!("{name} is no readable file: {why}")));
+        }
+        Content::Meters(_) => {
+            let why = "it is the record of a list of meters; `office show` shows it";
+            return Err(Misuse::Words(format!("{name} is no readable file: {why}")));
         }
     };
     let which = Which::of(&text);

@@ -204,8 +204,10 @@ impl File<'_> {
             Content::Text(text) => match Which::of(&text) {
                 Which::Table if table::read(&text).is_ok() => Err(self.another(Which::Table, Which::Meters)),
                 Which::House if house::read(&text).is_ok() => Err(self.another(Which::House, Which::Meters)),
-                Which::House => Err(self.headless(Which::Meters, meters::FORM.header(','))),
-                Which::Table | Which::Meters => self.list(&text),
+                Which::House if readable::lines(&text).next().is_some() => {
+                    Err(self.headless(Which::Meters, meters::FORM.header(',')))
+                }
+                _ => self.list(&text),
             },
         }
     }

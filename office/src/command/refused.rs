@@ -69,7 +69,9 @@ impl Given<'_> {
     fn warnings(&self) -> Vec<Place> {
         let record = self.job.and_then(|job| Record::read(&job.bytes).ok());
         let catalogue = self.cat.and_then(|cat| Catalogue::read(&cat.bytes).ok());
-        let meters = self.meters.and_then(|meters| meter::read(&meters.bytes).ok());
+        // Bytes that are no list of meters have a refusal, and nothing that they hold is a slip.
+        let meters = self.meters.filter(|meters| meter::is_list(&meters.bytes));
+        let meters = meters.and_then(|meters| meter::read(&meters.bytes).ok());
         let mut found: Vec<Place> = record.iter().flat_map(warnings).collect();
         found.extend(catalogue.as_ref().and_then(off_velocity));
         found.extend(meters.as_deref().and_then(off_service));

@@ -14,7 +14,7 @@ const TYPE: usize = 0;
 const RESISTANCE: usize = 1;
 const SERVICE: usize = 2;
 
-/// The meters read so far, with their lines and names. One with a mistake in it counts too.
+/// The meters read so far, with the lines and names of the first. One with a mistake in it counts too.
 #[derive(Default)]
 pub struct Given {
     meters: Vec<Meter>,
@@ -33,11 +33,14 @@ impl Given {
         mistakes.extend(columns.words().find_map(|place| pushed(row, place, columns)));
         let mut noted = |found: Result<i64, Mistake>| found.map_err(|mistake| mistakes.add(mistake)).unwrap_or(0);
         let design = noted(design(row, columns)) as u8;
-        let resistance = noted(resistance(row, columns)) as u16;
-        let service = noted(columns.number(row, &FORM, SERVICE)) as u16;
+        let resistance = noted(advised(row, columns, RESISTANCE, of_resistance)) as u16;
+        let service = noted(advised(row, columns, SERVICE, of_service)) as u16;
         self.meters.push(Meter { design, resistance, service });
-        self.lines.note(At::Meter(self.meters.len()), row.line);
-        self.names.push(columns.name.map_or(String::new(), |place| echo::shown(row.written(place))));
+        // Of a list that is far too long no more is told than which meter is the first too many.
+        if self.meters.len() <= meter::MOST + 1 {
+            self.lines.note(At::Meter(self.meters.len()), row.line);
+            self.names.push(columns.name.map_or(String::new(), |place| echo::shown(row.written(place))));
+        }
     }
 
     pub fn packed(self) -> Packed {
@@ -71,18 +74,17 @@ fn design(row: &Cells, columns: &Columns) -> Result<i64, Mistake> {
     }
 }
 
-/// The resistance, with advice where it is too fine or too great for its bytes.
-fn resistance(row: &Cells, columns: &Columns) -> Result<i64, Mistake> {
-    let found = columns.number(row, &FORM, RESISTANCE);
-    let text = row.at(columns.places[RESISTANCE]);
-    found.map_err(|mistake| match advice(text) {
+/// A number, with advice where its bytes don't hold it.
+fn advised(row: &Cells, columns: &Columns, column: usize, advice: fn(&str) -> Option<String>) -> Result<i64, Mistake> {
+    let text = row.at(columns.places[column]);
+    columns.number(row, &FORM, column).map_err(|mistake| match advice(text) {
         Some(advice) => Mistake { expected: format!("{}; {advice}", mistake.expected), ..mistake },
         None => mistake,
     })
 }
 
 /// What to do about a resistance that the bytes don't hold. A list may state more loss than a meter has, never less.
-fn advice(text: &str) -> Option<String> {
+fn of_resistance(text: &str) -> Option<String> {
     let (measure, kept) = (&measure::RESISTANCE, measure::RESISTANCE.decimals());
     match measure.number(text, kept) {
         Err(Fault::TooFine) => {
@@ -92,17 +94,22 @@ fn advice(text: &str) -> Option<String> {
             Some(format!("{} is the next that states no less loss", measure.show(above)))
         }
         Ok(value) if !measure.holds(value) => {
-            let tenths = measure.number(text, 0).ok().filter(|value| measure.holds(*value));
-            Some(match tenths {
-                Some(value) => format!(
-                    "{text} ten-thousandths are {}; or are resistance and service flow swapped?",
-                    measure.show(value)
-                ),
+            let own = measure.number(text, 0).ok().filter(|own| measure.holds(*own)).map(|own| measure.show(own));
+            Some(match own {
+                Some(own) => {
+                    format!("{text} ten-thousandths are {own}; or are resistance and service flow swapped?")
+                }
                 None => "a meter of more resistance can't be listed".to_string(),
             })
         }
         _ => None,
     }
+}
+
+/// What to write for a service flow with a point, which is likely one in m3/h.
+fn of_service(text: &str) -> Option<String> {
+    let litres = measure::SERVICE.number(text, 3).ok().filter(|litres| measure::SERVICE.holds(*litres))?;
+    text.contains('.').then(|| format!("{text} m3/h are {litres} l/h"))
 }
 
 /// A name or a note that is a number alone, behind a column of numbers in a line whose cells are parted by commas: it may be

@@ -10,7 +10,10 @@ use crate::record::Record;
 
 /// 17: the list's length, and every field of a meter that is none.
 pub fn rules(list: &[u8]) -> Vec<Place> {
-    let mut found: Vec<Place> = another(list).into_iter().collect();
+    if let Some(why) = another(list) {
+        return vec![Place::new(At::Meters, why)];
+    }
+    let mut found = Vec::new();
     let (given, rest) = (list.len(), list.len() % METER);
     let whole = given / METER;
     if given == 0 {
@@ -43,16 +46,14 @@ fn of_meter(meter: &Meter) -> Vec<String> {
     faults.into_iter().filter(|(wrong, _)| *wrong).map(|(_, why)| why).collect()
 }
 
-/// A house or a table of pipes lent as the list: this place is named before the others.
-fn another(list: &[u8]) -> Option<Place> {
+/// A house or a table of pipes lent as the list: what else is wrong with it says nothing.
+fn another(list: &[u8]) -> Option<&'static str> {
     let stated = list.first_chunk::<4>().is_some_and(|four| u32::from_be_bytes(*four) as usize == list.len());
-    let what = match (Record::read(list), Catalogue::read(list)) {
-        (Ok(_), _) => "job record",
-        (_, Ok(_)) => "catalogue",
-        _ => return None,
-    };
-    let why = format!("these bytes are a {what} by their length; are two files swapped?");
-    stated.then(|| Place::new(At::Meters, why))
+    match (Record::read(list), Catalogue::read(list)) {
+        (Ok(_), _) if stated => Some("these bytes have the length of a job record; are the two files swapped?"),
+        (_, Ok(_)) if stated => Some("these bytes have the length of a catalogue; a list of meters is expected"),
+        _ => None,
+    }
 }
 
 /// 18: for each meter the limits that it breaks, and what would do for the house.
