@@ -93,11 +93,12 @@ impl Columns {
 /// What a column may be called that is for people alone.
 const NOTES: [&str; 6] = ["notes", "note", "remarks", "remark", "comments", "comment"];
 
-/// A header's cell as the format has it: a unit may stand in brackets or behind a comma, and in Cyrillic letters, and its
-/// powers may be raised.
+/// A header's cell as the format has it: a unit may stand in brackets or behind a comma, in Cyrillic letters, and with its power
+/// raised. The brackets within a unit are its own.
 fn plain(cell: &str) -> String {
-    let level = cell.replace('²', "2").replace("^2", "2").replace("м/(л/с)2", "m/(l/s)2");
-    let words = level.split(|c: char| c.is_whitespace() || "()[],".contains(c)).filter(|word| !word.is_empty());
+    let level = cell.replace('²', "2").replace("^2", "2");
+    let whole = level.replace("м/(л/с)2", "m/(l/s)2").replace("m/(l/s)2", "m/{l/s}2");
+    let words = whole.split(|c: char| c.is_whitespace() || "()[],".contains(c)).filter(|word| !word.is_empty());
     words.map(latin).collect::<Vec<_>>().join(" ")
 }
 
