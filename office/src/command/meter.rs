@@ -55,3 +55,40 @@ fn with_the_loss(file: &File, read: Vec<u8>, job: &Source, metered: &[u8]) -> Re
         Misuse::Words(format!("{name} with the meter's loss in it would not be read as the library's record"))
     })
 }
+
+#[cfg(test)]
+mod tests {
+    use super::*;
+    use office::at::Lines;
+    use std::ffi::OsStr;
+
+    const HOUSE: &str = "local losses 0.3\nhours 24\nmeter loss 50 cm\nguaranteed head 500 cm\ndelivered head 1200 cm\n\
+        velocity limit 1500 mm/s\nresidents dwelling 84\n\
+        section 1 from pump length 10 m elevation 600 cm kind dwelling fixtures 80 free 200 cm\n";
+
+    fn written(read: &[u8], metered: &[u8]) -> Option<Vec<u8>> {
+        let file = File { file: OsStr::new("house"), reading: Reading::ByContent };
+        let bytes = house::pack(HOUSE).expect("a house");
+        let job = Source { name: "house".to_string(), bytes, lines: Lines::default() };
+        with_the_loss(&file, read.to_vec(), &job, metered).ok()
+    }
+
+    /// Bytes that would be read as another record than the library's are not written, whatever the library gave.
+    #[test]
+    fn what_is_not_read_as_the_librarys_record_is_not_written() {
+        let job = house::pack(HOUSE).expect("a house");
+        let with = |at: usize, byte: u8| {
+            let mut other = job.clone();
+            other[at] = byte;
+            other
+        };
+        let metered = with(9, 61);
+        assert_eq!(written(HOUSE.as_bytes(), &metered), Some(HOUSE.replace("50 cm", "61 cm").into_bytes()));
+        assert_eq!(written(&job, &metered), Some(metered));
+        // Another field than the meter loss, a length that no house has, and a first byte that makes it no record.
+        for other in [with(7, 23), with(49, 7), job[..49].to_vec(), Vec::new()] {
+            assert_eq!(written(HOUSE.as_bytes(), &other), None, "{other:?}");
+        }
+        assert_eq!(written(&job, &with(0, 1)), None, "it would be read as a text");
+    }
+}

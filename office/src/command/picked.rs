@@ -148,3 +148,42 @@ const LEGEND: &str = "\
 loss: at the design flow; limit: the most that a meter of its type may lose
 A meter qualifies if its loss is at most its limit and the mean hour at most its service flow; * marks the one that is picked.
 ";
+
+#[cfg(test)]
+mod tests {
+    use super::*;
+    use crate::command::input::Source;
+    use office::at::Lines;
+    use office::{calls, house};
+
+    const OWN: &str = "local losses 0.3\nhours 24\nmeter loss 50 cm\nguaranteed head 500 cm\ndelivered head 1200 cm\n\
+        velocity limit 1500 mm/s\nresidents hotel-75 71\n\
+        section 1 from pump length 10 m elevation 600 cm kind hotel-75 fixtures 80 free 200 cm\n";
+
+    /// An answer of the library that the table would not show gives no table.
+    #[test]
+    fn an_answer_that_differs_is_not_shown() {
+        let bytes = vec![1, 0x13, 0x88, 0x19, 0x00, 2, 0x05, 0x96, 0x2e, 0xe0];
+        let source = Source { name: "list".to_string(), bytes, lines: Lines::default() };
+        let list = Meters { source, names: Vec::new() };
+        let job = house::pack(OWN).expect("document 01's own case");
+        let found = calls::meter(&job, &list.source.bytes).expect("one qualifies");
+        let picked = Picked::of(&job, &list, Ok(found.clone())).ok().expect("the two agree");
+        assert_eq!((picked.place, picked.loss, picked.former), (2, 61, 50));
+        let mut changed = found.clone();
+        changed.job[7] = 23;
+        for other in [
+            Ok(Metered { place: 1, ..found.clone() }),
+            Ok(Metered { place: 2, job: job.clone() }),
+            Ok(changed),
+            Err(Refusal::NoMeter),
+        ] {
+            assert!(matches!(Picked::of(&job, &list, other), Err(Unpicked::Differs(_))));
+        }
+        // A refusal of the house, and a meter for a house that is refused.
+        let short = &job[..49];
+        let refused = Picked::of(short, &list, Err(Refusal::JobLength));
+        assert!(matches!(refused, Err(Unpicked::Refused(Refusal::JobLength))));
+        assert!(matches!(Picked::of(short, &list, Ok(found)), Err(Unpicked::Differs(_))));
+    }
+}

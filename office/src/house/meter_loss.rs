@@ -65,6 +65,15 @@ mod tests {
     }
 
     #[test]
+    fn the_line_may_be_the_first_or_the_last() {
+        let rest = HOUSE.replace("meter loss 50 cm # as built\n", "");
+        let first = |line: &str| format!("\u{feff}{line}\n{rest}").into_bytes();
+        let last = |line: &str| format!("{rest}{line}\u{1a}").into_bytes();
+        assert_eq!(with_meter_loss(&first("meter loss 50cm"), 7), Some(first("meter loss 7cm")));
+        assert_eq!(with_meter_loss(&last("meter loss 50cm"), 7), Some(last("meter loss 7cm")));
+    }
+
+    #[test]
     fn metres_have_no_more_decimals_than_they_need() {
         let metres = HOUSE.replace("50 cm #", "0.5 m #");
         for (loss, written) in [(1, "0.01"), (20, "0.2"), (200, "2"), (500, "5"), (105, "1.05")] {

@@ -97,7 +97,7 @@ fn would_do(duty: u32, mean_hour: u32) -> String {
     let most = u16::MAX;
     if mean_hour > u32::from(most) {
         return format!(
-            "its mean hour is {mean_hour} l/h, and a list holds service flows to {most} l/h: it can hold no meter for it"
+            "its mean hour is {mean_hour} l/h, and a list holds service flows to {most} l/h: no list can hold a meter for it"
         );
     }
     // Resistance × flow × flow / 100,000,000 is at most the limit.
