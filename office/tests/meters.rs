@@ -6,8 +6,9 @@ mod json;
 mod run;
 
 use json::Value;
-use office::at::At;
+use office::at::{At, Field};
 use office::mistake::Mistake;
+use office::places::{Asked, Place, places};
 use office::{Refusal, calls, house, meter, meters, table};
 use run::{office, office_with, read, scratch};
 
@@ -497,4 +498,81 @@ fn the_house_written_is_chosen_for() {
     assert_eq!(printed.number("cost_tenths"), i64::from(choice.cost));
     let rating = calls::rate(&job, &cat, &choice.sizes).expect("rated");
     assert_eq!(printed.number("required_head_cm"), i64::from(rating.required));
+}
+
+/// Document 01's own case as a record.
+fn own_job() -> Vec<u8> {
+    house::pack(&read(OWN)).expect("a house")
+}
+
+/// The number of a refusal and its places.
+fn refused(job: &[u8], meters: &[u8]) -> (u32, Vec<Place>) {
+    let refusal = calls::meter(job, meters).expect_err("refused");
+    (refusal.number(), places(&refusal, &Asked { job, meters, ..Asked::default() }))
+}
+
+fn check(found: (u32, Vec<Place>), number: u32, at: At, why: &str) {
+    let words: Vec<String> = found.1.iter().map(Place::to_string).collect();
+    assert_eq!(found.0, number, "{words:?}");
+    assert!(found.1.iter().any(|place| place.at == at && place.why.contains(why)), "{number} {why}: {words:?}");
+}
+
+#[test]
+fn the_rules_of_a_list_of_meters() {
+    let own = own_job();
+    let (vane, turbine) = (list(&[(1, 5_000, 6_400)]), list(&[(2, 1_430, 12_000)]));
+    let both = [&vane[..], &turbine].concat();
+    check(refused(&own, &[]), 17, At::Meters, "the file is empty: it has 0 bytes; a meter has 5");
+    check(refused(&own, &both[..9]), 17, At::Meter(2), "the list has 9 bytes, 5 for each meter: 1 are missing here");
+    check(refused(&own, &vane.repeat(9)), 17, At::Meter(9), "one too many: the list has 9 meters, and the most is 8");
+    let of = |odd: Vec<u8>| refused(&own, &[&vane[..], &odd, &turbine].concat());
+    check(of(list(&[(0, 1, 1)])), 17, At::Meter(2), "type 0 is none of 1 (vane) and 2 (turbine)");
+    check(of(list(&[(3, 1, 1)])), 17, At::Meter(2), "type 3 is none of");
+    check(of(list(&[(1, 0, 1)])), 17, At::Meter(2), "resistance 0; the least is 0.0001 m/(l/s)2");
+    check(of(list(&[(2, 1, 0)])), 17, At::Meter(2), "service flow 0 l/h; the least is 1");
+    assert_eq!(of(list(&[(9, 0, 0)])).1.len(), 3, "all that is wrong with a meter");
+    let cat = table::pack(&read("examples/own-case.csv")).expect("a table");
+    for (other, what) in
+        [(&own, "a job record; are the two files swapped?"), (&cat, "a catalogue; a list of meters is")]
+    {
+        let found = refused(&own, other);
+        assert_eq!(found.1.len(), 1, "what else is wrong says nothing");
+        check(found, 17, At::Meters, &format!("these bytes have the length of {what}"));
+    }
+    // A refusal of the house comes first, and its place is the house's.
+    check(refused(&own[..49], &[]), 1, At::Field(Field::Stated), "states 50 bytes and has 49");
+}
+
+/// The own case has 2,052 ml/s and a mean hour of 740 l/h; 2,052 × 2,052 is 4,210,704.
+#[test]
+fn why_no_meter_qualifies() {
+    let own = own_job();
+    // 13,000 × 4,210,704 / 100,000,000 is 547.4.
+    let dn_32 = "at 2052 ml/s it loses 548 cm, 48 cm over the 500 cm of a vane meter";
+    check(refused(&own, &list(&[(1, 13_000, 4_000)])), 18, At::Meter(1), dn_32);
+    let small = refused(&own, &list(&[(2, 5_938, 740), (1, 1, 739), (2, 26_000, 100)]));
+    assert_eq!(small.1.len(), 4, "each meter, and what would do");
+    // 5,938 × 4,210,704 / 100,000,000 is 250.03.
+    check(small.clone(), 18, At::Meter(1), "it loses 251 cm, 1 cm over the 250 cm of a turbine meter");
+    check(small.clone(), 18, At::Meter(2), "the mean hour of 740 l/h is 1 l/h over its service flow of 739 l/h");
+    check(
+        small.clone(),
+        18,
+        At::Meter(3),
+        "845 cm over the 250 cm of a turbine meter; the mean hour of 740 l/h is 640",
+    );
+    let would = "a vane meter of at most 1.1874 m/(l/s)2 or a turbine meter of at most 0.5937 m/(l/s)2 with a service flow \
+        of at least 740 l/h would do";
+    check(small, 18, At::House, would);
+    // What would do does, and no more resistance does.
+    for (design, most) in [(1, 11_874), (2, 5_937)] {
+        assert!(calls::meter(&own, &list(&[(design, most, 740)])).is_ok());
+        assert_eq!(calls::meter(&own, &list(&[(design, most + 1, 740)])), Err(Refusal::NoMeter));
+    }
+    // 4,000 residents of kind 1 with 400 litres each on the greatest day, all of it in one hour.
+    let crowded =
+        read(OWN).replace("hours           24", "hours 1").replace("residents hotel-75 71", "residents dwelling 4000");
+    let crowded = crowded.replace("kind hotel-75 fixtures 80", "kind dwelling fixtures 60000");
+    let crowded = refused(&house::pack(&crowded).expect("a house"), &list(&[(2, 1, 65_535)]));
+    check(crowded, 18, At::House, "its mean hour is 1600000 l/h, and a list holds service flows to 65535 l/h");
 }
