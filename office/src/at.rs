@@ -34,7 +34,7 @@ impl Field {
     }
 }
 
-/// A place in a job, a catalogue or a list of sizes. Sections, sizes and rows count from 1.
+/// A place in a job, a catalogue, a list of sizes or a list of meters. Sections, sizes, rows and meters count from 1.
 #[derive(Clone, Copy, Debug, PartialEq, Eq)]
 pub enum At {
     /// The job record as a whole.
@@ -53,6 +53,10 @@ pub enum At {
     List,
     /// The size number given for a section.
     Entry(usize),
+    /// The list of meters as a whole.
+    Meters,
+    /// A meter by its place in the list.
+    Meter(usize),
 }
 
 impl fmt::Display for At {
@@ -68,6 +72,8 @@ impl fmt::Display for At {
             At::Row(size, row) => write!(f, "size {size} row {row}"),
             At::List => write!(f, "list of sizes"),
             At::Entry(place) => write!(f, "size number {place} of the list"),
+            At::Meters => write!(f, "list of meters"),
+            At::Meter(place) => write!(f, "meter {place}"),
         }
     }
 }

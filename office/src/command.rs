@@ -9,9 +9,11 @@ mod input;
 mod json;
 mod keep;
 mod kinds;
+mod meter;
 mod network;
 mod new;
 mod outcome;
+mod picked;
 mod rating;
 mod refused;
 mod report;
@@ -63,8 +65,13 @@ fn perform(arguments: &Arguments) -> Result<Outcome, Misuse> {
         Some(file) if outcome.answered => {
             let name = outcome::word(&file.to_string_lossy());
             let lost = |why| Misuse::Words(format!("{name} can't be written: {why}"));
-            keep::keep(file, &outcome.output).map_err(lost)?;
-            Ok(Outcome { output: Vec::new(), ..outcome })
+            match &outcome.kept {
+                Some(kept) => keep::keep(file, kept).map_err(lost).map(|()| outcome),
+                None => {
+                    keep::keep(file, &outcome.output).map_err(lost)?;
+                    Ok(Outcome { output: Vec::new(), ..outcome })
+                }
+            }
         }
         _ => Ok(outcome),
     }
@@ -78,6 +85,7 @@ fn answer(arguments: &Arguments) -> Result<Outcome, Misuse> {
         "pack" => files::pack(arguments),
         "show" => files::show(arguments),
         "flow" => network::flow(arguments),
+        "meter" => meter::meter(arguments),
         "rate" => network::rate(arguments),
         "choose" => network::choose(arguments),
         "draw" => network::draw(arguments),

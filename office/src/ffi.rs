@@ -89,16 +89,7 @@ pub fn duty(job: &[u8], out: &mut [u8]) -> u32 {
 /// The meter that wins from a list and the job with its loss into `out`; 0, or the number of the refusal.
 pub fn meter(job: &[u8], meters: &[u8], out: &mut [u8]) -> u32 {
     // SAFETY: see the top of the file; the library reads the first two and writes inside `out`.
-    unsafe {
-        linked::order_meter(
-            job.as_ptr(),
-            job.len(),
-            meters.as_ptr(),
-            meters.len(),
-            out.as_mut_ptr(),
-            out.len(),
-        )
-    }
+    unsafe { linked::order_meter(job.as_ptr(), job.len(), meters.as_ptr(), meters.len(), out.as_mut_ptr(), out.len()) }
 }
 
 /// The record read and written again into `out`; 0, or the number of the refusal.

@@ -5,6 +5,7 @@
 //! [`pack`] packs what it showed into the same bytes. `docs/FILES.md` describes the format.
 
 mod head;
+mod meter_loss;
 mod sections;
 
 use crate::at::{At, Field, Lines};
@@ -13,6 +14,7 @@ use crate::measure::Quantity;
 use crate::mistake::{Mistake, Mistakes};
 use crate::readable;
 use crate::record::{NoRecord, Record};
+pub use meter_loss::with_meter_loss;
 
 /// A readable house as bytes, with the lines that its fields came from.
 #[derive(Clone, Debug, PartialEq, Eq)]

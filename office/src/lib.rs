@@ -4,7 +4,7 @@
 //! - `ffi` has the same calls on lent buffers, and the only unsafe code.
 //! - `model` is document 01 once more, written independently; [`soak`] and [`replay`] compare the two.
 //! - [`bench()`] times the library against the model and against `rivals`, searches in safe Rust.
-//! - [`house`] and [`table`] are the readable files, [`places`] says where a refusal lies, [`draw`] draws a house; the command
+//! - [`house`], [`table`] and [`meters`] are the readable files, [`places`] says where a refusal lies, [`draw`] draws a house; the command
 //!   `office` puts them before people.
 
 #![deny(unsafe_code)]
@@ -29,12 +29,16 @@ pub use situations::Counters;
 // What people touch: readable files, the places of refusals, drawings.
 pub mod at;
 pub mod catalogue;
+mod cells;
 pub mod draw;
 pub mod echo;
+mod header;
 pub mod house;
 pub mod kinds;
 mod line;
 pub mod measure;
+pub mod meter;
+pub mod meters;
 pub mod mistake;
 pub mod pipes;
 pub mod places;
@@ -42,3 +46,4 @@ pub mod readable;
 pub mod record;
 pub mod table;
 pub mod warnings;
+pub mod which;

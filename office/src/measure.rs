@@ -1,5 +1,5 @@
-//! Quantities with units: 12.5 m in a readable file, 125 dm in the record. Exact, no floating point. Houses and tables are
-//! read by the same rule.
+//! Quantities with units: 12.5 m in a readable file, 125 dm in the record. Exact, no floating point. Houses, tables and lists
+//! of meters are read by the same rule.
 
 /// A quantity of the readable file and what the record's bytes can hold of it.
 pub struct Measure {
@@ -98,8 +98,20 @@ pub const SLOPE: Measure = bare("mm/m", 65_535, "1 to 65535", 40);
 pub const ROWS: Measure = bare("rows", 255, "2 to 64", 8);
 pub const STATED: Measure = bare("bytes", 4_294_967_295, "the catalogue's own length", 47);
 
+// The columns of a list of meters; their units stand in its header.
+/// A meter's resistance: two bytes, ten-thousandths of m per (l/s) squared.
+pub const RESISTANCE: Measure = Measure {
+    units: &[("", 4)],
+    counts: "ten-thousandths",
+    least: 0,
+    most: 65_535,
+    taken: "0.0001 to 6.5535",
+    example: 5_000,
+};
+pub const SERVICE: Measure = bare("l/h", 65_535, "1 to 65535", 6_400);
+
 /// Units in Cyrillic letters and the ones they are.
-const CYRILLIC: [(&str, &str); 8] = [
+const CYRILLIC: [(&str, &str); 9] = [
     ("см", "cm"),
     ("м", "m"),
     ("дм", "dm"),
@@ -108,6 +120,7 @@ const CYRILLIC: [(&str, &str); 8] = [
     ("мм", "mm"),
     ("мл/с", "ml/s"),
     ("мм/м", "mm/m"),
+    ("л/ч", "l/h"),
 ];
 
 /// A unit in Latin letters.
@@ -139,6 +152,16 @@ impl Measure {
         let (unit, power) = self.units[0];
         let number = shown(value, power);
         if unit.is_empty() { number } else { format!("{number} {unit}") }
+    }
+
+    /// The decimals that are kept of the unit that is shown.
+    pub fn decimals(&self) -> u32 {
+        self.units[0].1
+    }
+
+    /// By how much a value passes what the bytes hold, as a number of the unit that is shown.
+    pub fn over(&self, value: i64) -> String {
+        shown(value - self.most, self.decimals())
     }
 
     /// The power of ten of a unit, if it is one of this quantity's.

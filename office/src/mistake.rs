@@ -76,6 +76,12 @@ impl Mistakes {
     }
 }
 
+impl Extend<Mistake> for Mistakes {
+    fn extend<T: IntoIterator<Item = Mistake>>(&mut self, found: T) {
+        found.into_iter().for_each(|mistake| self.add(mistake));
+    }
+}
+
 impl From<Mistake> for Mistakes {
     fn from(mistake: Mistake) -> Mistakes {
         Mistakes { list: vec![mistake], more: 0 }

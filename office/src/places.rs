@@ -6,6 +6,7 @@
 mod choice;
 mod demand;
 mod list;
+mod meters;
 mod pipe;
 mod sections;
 mod shape;
@@ -36,12 +37,13 @@ impl fmt::Display for Place {
     }
 }
 
-/// What the refused call was given. A call that takes no catalogue or no sizes has none here.
+/// What the refused call was given. A call that takes no catalogue, no sizes or no meters has none here.
 #[derive(Clone, Copy, Debug, Default)]
 pub struct Asked<'a> {
     pub job: &'a [u8],
     pub cat: &'a [u8],
     pub sizes: &'a [u8],
+    pub meters: &'a [u8],
 }
 
 /// All places at which this refusal lies, in the order of the file.
@@ -61,6 +63,8 @@ pub fn places(refusal: &Refusal, asked: &Asked) -> Vec<Place> {
         Refusal::SizeList => list::names(asked),
         Refusal::SizeTooSmall => list::too_small(asked),
         Refusal::NoSuitableList => choice::none_suits(asked),
+        Refusal::MeterList => meters::rules(asked.meters),
+        Refusal::NoMeter => meters::none_qualifies(asked),
         Refusal::ResultShort | Refusal::WorkShort | Refusal::Unknown(_) => Vec::new(),
     }
 }

@@ -1,8 +1,10 @@
 //! The bytes of a readable file as text, and its lines. What a comment holds is nobody's business, unless some program shows a
-//! line of a house or a table in it; everywhere else each byte must be a letter that can be read in one way only.
+//! line of a house, a table or a list of meters in it; everywhere else each byte must be a letter that can be read in one way only.
 
 use crate::echo;
+use crate::meter;
 use crate::mistake::{Mistake, Mistakes};
+use std::ops::Range;
 
 /// Far above any house or table, and below what would trouble a small computer.
 pub const MOST_BYTES: usize = 1 << 20;
@@ -27,27 +29,63 @@ fn is_wide(bytes: &[u8]) -> bool {
     plain(0) || plain(1)
 }
 
+/// The bytes of a readable file behind its mark, each line's letters as UTF-8 or as an older code page has them.
+pub struct Saved {
+    pub bytes: Vec<u8>,
+    mark: &'static [u8],
+}
+
+const UTF_8: &[u8] = &[0xef, 0xbb, 0xbf];
+const BIG: &[u8] = &[0xfe, 0xff];
+const LITTLE: &[u8] = &[0xff, 0xfe];
+
+impl Saved {
+    pub fn of(bytes: &[u8]) -> Result<Saved, Mistakes> {
+        let mark = [UTF_8, BIG, LITTLE].into_iter().find(|mark| bytes.starts_with(mark)).unwrap_or(&[]);
+        let bytes = if mark.len() == 2 { utf_16(bytes)?.into_bytes() } else { bytes[mark.len()..].to_vec() };
+        Ok(Saved { bytes, mark })
+    }
+
+    /// The byte at which lines end: in a file without any newline it is the carriage return.
+    fn end(&self) -> u8 {
+        if self.bytes.contains(&b'\n') { b'\n' } else { b'\r' }
+    }
+
+    /// Where a line stands, from 1; a carriage return before its newline belongs to it.
+    pub fn line(&self, number: usize) -> Option<Range<usize>> {
+        let end = self.end();
+        let mut lines = self.bytes.split(|byte| *byte == end);
+        let before: usize = lines.by_ref().take(number.checked_sub(1)?).map(|line| line.len() + 1).sum();
+        lines.next().map(|line| before..before + line.len())
+    }
+
+    /// The file's bytes with other letters in one place.
+    pub fn with(&self, place: Range<usize>, letters: &[u8]) -> Vec<u8> {
+        let bytes = [&self.bytes[..place.start], letters, &self.bytes[place.end..]].concat();
+        let units = || String::from_utf8_lossy(&bytes).encode_utf16().collect::<Vec<u16>>();
+        match self.mark {
+            BIG => [BIG.to_vec(), units().into_iter().flat_map(u16::to_be_bytes).collect()].concat(),
+            LITTLE => [LITTLE.to_vec(), units().into_iter().flat_map(u16::to_le_bytes).collect()].concat(),
+            mark => [mark, &bytes].concat(),
+        }
+    }
+}
+
 /// The text of a readable file, its lines ended by newlines, or what is no text in it, by line and byte.
 pub fn text(bytes: &[u8]) -> Result<String, Mistakes> {
-    let wide: Vec<u8>;
-    let marked = bytes.starts_with(&[0xff, 0xfe]) || bytes.starts_with(&[0xfe, 0xff]);
-    let mut bytes = if marked {
-        wide = utf_16(bytes)?.into_bytes();
-        &wide[..]
-    } else if is_wide(bytes) {
+    let saved = Saved::of(bytes)?;
+    if saved.mark.len() != 2 && is_wide(bytes) {
         let wrong = format!(
             "byte 1 of the line, {:02X}, and the next belong together: this is UTF-16 without its mark",
             bytes[0]
         );
         return Err(Mistake::on(1, "", wrong, "the file saved as UTF-8").into());
-    } else {
-        bytes.strip_prefix(b"\xef\xbb\xbf").unwrap_or(bytes)
-    };
+    }
+    let (end, mut bytes) = (saved.end(), &saved.bytes[..]);
     // Older programs end a text so.
     while let [rest @ .., 0x1a] = bytes {
         bytes = rest;
     }
-    let end = if bytes.contains(&b'\n') { b'\n' } else { b'\r' };
     let mut mistakes = Mistakes::default();
     let mut text = String::with_capacity(bytes.len());
     let lines: usize = 1 + bytes.iter().filter(|byte| **byte == end).count();
@@ -103,8 +141,10 @@ fn begins_a_line(c: char) -> bool {
 /// What a comment holds that some program shows as a line of a house or as a row: its author would miss it without a word.
 fn hidden(comment: &str) -> Option<&str> {
     let row = |line: &str| {
+        let cells: Vec<String> = line.split([',', ';', '\t']).map(str::to_lowercase).collect();
         let begun = line.starts_with(|c: char| c.is_ascii_digit() || ",;\"".contains(c));
-        begun && line.split([',', ';', '\t']).count() > 2
+        let meter = cells.iter().any(|cell| meter::design(cell.trim_matches([' ', '"'])).is_some());
+        (begun || meter) && cells.len() > 2
     };
     let house = |line: &str| OF_A_HOUSE.iter().any(|word| line.to_lowercase().starts_with(word));
     let mut shown = comment.split(begins_a_line).skip(1).map(|line| line.trim_start_matches([' ', '\t']));

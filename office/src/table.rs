@@ -3,21 +3,31 @@
 //! As with houses: packing refuses only what is no line of the format and what can't be written as bytes; the rules of
 //! document 01 are the library's. `docs/FILES.md` describes the format.
 
-mod cells;
-mod header;
 mod odd;
 mod sizes;
 
 use crate::at::Lines;
 use crate::catalogue::{Catalogue, NoCatalogue};
-use crate::measure::Quantity;
+use crate::cells::{self, Cells};
+use crate::header::{self, Column, Form};
+use crate::measure::{self, Quantity};
 use crate::mistake::{Mistake, Mistakes};
 use crate::readable;
-use cells::Cells;
 use odd::Odd;
 
-/// The columns, in the order in which they are shown; a file may have them in another.
-pub const COLUMNS: [&str; 6] = ["size", "bore mm", "price", "flow ml/s", "velocity mm/s", "slope mm/m"];
+/// The columns of a table; a file may have them in another order.
+pub const FORM: Form = Form {
+    what: "table",
+    columns: &[
+        Column::of("size", "", &measure::SIZE),
+        Column::of("bore mm", "mm", &measure::BORE),
+        Column::of("price", "", &measure::PRICE),
+        Column::of("flow ml/s", "ml/s", &measure::FLOW),
+        Column::of("velocity mm/s", "mm/s", &measure::SPEED),
+        Column::of("slope mm/m", "mm/m", &measure::SLOPE),
+    ],
+    name: None,
+};
 
 /// A readable table as bytes, with the lines that its rows came from.
 #[derive(Clone, Debug, PartialEq, Eq)]
@@ -56,7 +66,7 @@ pub fn read(text: &str) -> Result<Packed, Mistakes> {
     let mut mistakes = Mistakes::default();
     readable::lines(text).filter_map(|line| line.fault()).for_each(|fault| mistakes.add(fault));
     mistakes.none(())?;
-    let (separator, from) = cells::separator(text)?;
+    let (separator, from) = cells::separator(text, &FORM, odd::knows)?;
     // A line of nothing but separators is empty: spreadsheets fill short lines up with empty cells.
     let lines = readable::lines(text).skip(from).map(|line| Cells::of(&line, separator));
     let mut lines = lines.filter(Cells::is_filled).peekable();
@@ -65,12 +75,12 @@ pub fn read(text: &str) -> Result<Packed, Mistakes> {
         odd.take(&line)?;
     }
     let Some(header) = lines.next() else {
-        return Err(Mistake::lacking("the file has no header line", format!("`{}`", COLUMNS.join(","))).into());
+        return Err(Mistake::lacking("the file has no header line", format!("`{}`", FORM.header(','))).into());
     };
-    let (columns, mut mistakes) = header::columns(&header);
+    let (columns, mut mistakes) = header::columns(&header, &FORM);
     let Some(columns) = columns else { return Err(mistakes) };
-    if columns.begin_with_notes() {
-        cells::hidden(text, &header).for_each(|row| mistakes.add(row));
+    if columns.begin_with_words() {
+        mistakes.extend(cells::hidden(text, &header));
     }
     let mut given = sizes::Given::default();
     for line in lines {
@@ -95,7 +105,7 @@ pub fn quantities() -> Vec<Quantity> {
 pub fn show(bytes: &[u8]) -> Result<String, NoCatalogue> {
     let catalogue = Catalogue::read(bytes)?;
     let mut text = odd::show(&catalogue);
-    text.push_str(&COLUMNS.join(","));
+    text.push_str(&FORM.header(','));
     text.push('\n');
     for (number, size) in (1..).zip(&catalogue.sizes) {
         text.push_str(&sizes::show(number, size));

@@ -3,6 +3,7 @@
 
 use crate::at::{At, Field};
 use crate::catalogue::{Catalogue, Row};
+use crate::meter::{self, Meter};
 use crate::places::Place;
 use crate::record::{Record, Section};
 
@@ -99,4 +100,34 @@ pub fn off_velocity(catalogue: &Catalogue) -> Option<Place> {
 fn of_flow(bore: u16, row: &Row) -> Option<u64> {
     let square = u64::from(bore) * u64::from(bore);
     (u64::from(row.flow) * 4_000 * 113).checked_div(355 * square)
+}
+
+/// What meters lose at their own service flow, in cm. Source document 001 has 158 to 161 for vane meters and 12 to 159 for turbine
+/// meters; a meter that is built to lose 10 m there is not on the market.
+const MOST_AT_SERVICE: u64 = 1_000;
+const LEAST_OF_VANES: u64 = 40;
+const LEAST_OF_TURBINES: u64 = 4;
+
+/// The warning of a list of meters: the first meter whose resistance and service flow don't go together.
+pub fn off_service(meters: &[Meter]) -> Option<Place> {
+    let off = |meter: &Meter| {
+        let least = if meter.design == 1 { LEAST_OF_VANES } else { LEAST_OF_TURBINES };
+        !(least..=MOST_AT_SERVICE).contains(&at_service(meter))
+    };
+    // What the library refuses for being 0 has its own place.
+    let known = |meter: &Meter| meter.limit().is_some() && meter.resistance > 0 && meter.service > 0;
+    let (place, meter) = (1..).zip(meters).find(|(_, meter)| known(meter) && off(meter))?;
+    let (loss, service, name) = (at_service(meter), meter.service, meter::name(meter.design));
+    let why = format!(
+        "at its own service flow of {service} l/h it would lose {loss} cm, and {name} meters lose {} there; is the service flow \
+         in l/h and the resistance in m/(l/s)2?",
+        if meter.design == 1 { "about 160 cm" } else { "10 to 160 cm" }
+    );
+    Some(Place::new(At::Meter(place), why))
+}
+
+/// A meter's loss at its own service flow, in whole cm. A flow in l/h over 3.6 is one in ml/s, and 3.6 × 3.6 is 324 / 25.
+fn at_service(meter: &Meter) -> u64 {
+    let square = u64::from(meter.service) * u64::from(meter.service);
+    u64::from(meter.resistance) * square * 25 / (324 * 100_000_000)
 }

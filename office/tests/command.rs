@@ -11,6 +11,7 @@ use run::{office, office_with, read, scratch, top};
 
 const HOUSE: &str = "examples/house.txt";
 const TABLE: &str = "examples/table.csv";
+const METERS: &str = "examples/meters.csv";
 
 fn example() -> (Vec<u8>, Vec<u8>) {
     (house::pack(&read(HOUSE)).expect("a house"), table::pack(&read(TABLE)).expect("a table"))
@@ -174,9 +175,10 @@ fn the_documented_messages_are_the_real_ones() {
     }
     assert!(files.len() >= 12);
     for file in files {
-        let ran = match file.ends_with(".csv") {
-            true => office(&["choose", HOUSE, &file]),
-            false => office(&["flow", &file]),
+        let ran = match (file.ends_with(".csv"), file.contains("/meters-")) {
+            (true, true) => office(&["meter", HOUSE, &file]),
+            (true, false) => office(&["choose", HOUSE, &file]),
+            (false, _) => office(&["flow", &file]),
         };
         let printed = if ran.status == 1 { ran.text() } else { ran.error };
         assert!(ran.status > 0 && printed.contains(" line "), "{file}: {printed}");
@@ -188,7 +190,10 @@ fn the_documented_messages_are_the_real_ones() {
 
 #[test]
 fn misuse_has_status_2_and_says_why() {
-    let cases: [(&[&str], &str); 20] = [
+    let cases: [(&[&str], &str); 23] = [
+        (&["meter", HOUSE], "`meter` takes 2 words, not 1\nusage: office meter JOB METERS [-o HOUSE]"),
+        (&["meter", HOUSE, METERS, "-o", "no-such-folder/file"], "no-such-folder/file can't be written"),
+        (&["meter", "-", "-"], "standard input can be read only once"),
         (&["frobnicate"], "there is no command `frobnicate`; the commands are pack, show"),
         (&["flow"], "`flow` takes 1 word, not 0\nusage: office flow JOB"),
         (&["rate", HOUSE, TABLE], "`rate` takes 3 words, not 2"),
@@ -230,12 +235,16 @@ fn misuse_has_status_2_and_says_why() {
 /// In each table the right edge of a column of numbers is the same in every line, and nothing hangs over.
 #[test]
 fn tables_align() {
-    for words in [&["flow", HOUSE][..], &["choose", HOUSE, TABLE][..]] {
+    for (words, rows) in
+        [(&["flow", HOUSE][..], 12), (&["choose", HOUSE, TABLE][..], 12), (&["meter", HOUSE, METERS][..], 8)]
+    {
         let text = office(words).text();
         let (_, chart) = text.split_once("\n\n").expect("figures, then the chart");
-        let lines: Vec<&str> = chart.lines().filter(|line| !line.starts_with("left:")).collect();
+        let legend = |line: &&str| ["left:", "loss:", "A meter"].iter().any(|start| line.starts_with(start));
+        let lines: Vec<&str> = chart.lines().filter(|line| !legend(line)).collect();
         let header = lines[0];
-        for name in ["section", "size", "bore", "length", "fixtures", "flow", "velocity", "loss", "left", "free"] {
+        let section = ["section", "size", "bore", "length", "fixtures", "flow", "velocity", "loss", "left", "free"];
+        for name in section.into_iter().chain(["meter", "resistance", "service flow", "limit"]) {
             let Some(start) = header.find(name) else { continue };
             let edge = start + name.len();
             for line in &lines[2..] {
@@ -244,7 +253,7 @@ fn tables_align() {
                 assert!(line[edge..].is_empty() || line[edge..].starts_with(' '), "{name}: {line}");
             }
         }
-        assert_eq!(lines.len(), 2 + 12);
+        assert_eq!(lines.len(), 2 + rows);
         assert!(text.lines().all(|line| !line.ends_with(' ')));
     }
 }

@@ -6,7 +6,7 @@ mod json;
 mod run;
 
 use json::Value;
-use office::{Refusal, house, kinds, table};
+use office::{Refusal, house, kinds, meters, table};
 use run::{Ran, office, office_with, read, scratch};
 
 fn answered(words: &[&str]) -> String {
@@ -63,19 +63,20 @@ fn blocks(text: &str) -> Vec<String> {
 #[test]
 fn the_examples_of_the_help_on_files_are_packed_from_that_text() {
     let examples = blocks(&answered(&["help", "files"]));
-    let [house, table] = &examples[..] else { panic!("a house and a table: {examples:?}") };
-    for (text, packed) in [(house, house::pack(house)), (table, table::pack(table))] {
+    let [house, table, list] = &examples[..] else { panic!("a house, a table and a list: {examples:?}") };
+    for (text, packed) in [(house, house::pack(house)), (table, table::pack(table)), (list, meters::pack(list))] {
         let ran = office_with(&["pack", "-", "--strict"], text.as_bytes());
         assert_eq!((ran.status, ran.error.as_str()), (0, ""), "{text}");
         assert_eq!(Ok(ran.output), packed);
     }
-    assert_eq!([house, table].map(String::as_str), [&answered(&["new", "house"]), &answered(&["new", "table"])]);
+    let new = ["house", "table", "meters"].map(|what| answered(&["new", what]));
+    assert_eq!([house, table, list].map(String::as_str), new.each_ref().map(String::as_str));
 }
 
 #[test]
 fn the_help_on_files_has_every_field() {
     let text = answered(&["help", "files"]);
-    for quantity in house::quantities().iter().chain(&table::quantities()) {
+    for quantity in house::quantities().iter().chain(&table::quantities()).chain(&meters::quantities()) {
         let wanted = unfolded(&format!("{} {} {}", quantity.name, quantity.taken, quantity.units));
         assert!(text.lines().any(|line| unfolded(line) == wanted), "{wanted}");
     }
@@ -83,8 +84,8 @@ fn the_help_on_files_has_every_field() {
 
 #[test]
 fn new_files_are_taken_without_refusal_or_warning() {
-    let (house, table) = (scratch("new-house.txt"), scratch("new-table.csv"));
-    for (what, file) in [("house", &house), ("table", &table)] {
+    let (house, table, list) = (scratch("new-house.txt"), scratch("new-table.csv"), scratch("new-meters.csv"));
+    for (what, file) in [("house", &house), ("table", &table), ("meters", &list)] {
         let _ = std::fs::remove_file(file);
         assert_eq!(answered(&["new", what, "-o", file]), "");
         assert_eq!(std::fs::read_to_string(file).expect("written"), answered(&["new", what]));
@@ -94,6 +95,8 @@ fn new_files_are_taken_without_refusal_or_warning() {
     let sizes = chosen.lines().find_map(|line| line.strip_prefix("sizes  ")).expect("a list of sizes");
     assert!(sizes.contains('1') && sizes.contains('2'), "the example mixes sizes: {sizes}");
     answered(&["rate", &house, &table, sizes, "--strict"]);
+    assert!(answered(&["meter", &house, &list, "--strict"]).contains("* qualifies"));
+    assert!(answered(&["meter", "examples/house.txt", "examples/meters.csv", "--strict"]).contains("* qualifies"));
     answered(&["choose", &house, "examples/table.csv", "--strict"]);
     answered(&["choose", "examples/house.txt", "examples/table.csv", "--strict"]);
 }
@@ -158,6 +161,9 @@ fn the_help_says_what_is_so_of_blanks_units_and_files() {
     let files = unfolded(&answered(&["help", "files"]));
     assert!(files.contains("How many blanks stand between words doesn't matter"));
     assert!(files.contains("A unit is never left out where there is one."));
+    let meter = unfolded(&answered(&["help", "meter"]));
+    assert!(meter.contains("in the form that JOB has: of a readable house one number is another and all else stays"));
+    assert!(meter.contains("a vane meter loses at most 500 cm, a turbine meter at most 250 cm"), "{meter}");
     let draw = unfolded(&answered(&["help", "draw"]));
     assert!(draw.contains("`draw` with refusal 16, do their work and write the file all the same"), "{draw}");
 }
@@ -168,7 +174,7 @@ fn new_replaces_no_file() {
     std::fs::write(&file, "my own house").expect("written");
     misused(office(&["new", "house", "-o", &file]), "is there already, and `new` replaces no file");
     assert_eq!(std::fs::read_to_string(&file).expect("as it was"), "my own house");
-    misused(office(&["new", "shed"]), "`new` gives no `shed`; it gives house or table");
+    misused(office(&["new", "shed"]), "`new` gives no `shed`; it gives house, table or meters");
     misused(office(&["new"]), "`new` takes 1 word, not 0");
     // What is no file of the disk is written as it is, as by every command.
     if cfg!(unix) {
@@ -243,5 +249,5 @@ fn every_command_of_the_list_has_its_help_and_its_line_on_the_page() {
         assert_eq!(help, answered(&[name, "--help"]));
         assert!(page.contains(&format!("\n|`office {name}")), "docs/COMMAND.md has no line for `office {name}`");
     }
-    assert!(usages().len() >= 13, "{:?}", usages());
+    assert!(usages().len() >= 14, "{:?}", usages());
 }

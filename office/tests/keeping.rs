@@ -10,6 +10,7 @@ use std::process::{Command, Output};
 
 const HOUSE: &str = "examples/house.txt";
 const TABLE: &str = "examples/table.csv";
+const METERS: &str = "examples/meters.csv";
 
 /// A shell's line, run at the top of the repository, with the command's path in `$office`.
 fn shell(line: &str) -> Output {
@@ -52,6 +53,10 @@ fn a_file_that_is_read_is_known_by_every_name() {
         let ran = shell(&format!("\"$office\" flow - -o '{out}' < '{house}'"));
         assert_eq!(ran.status.code(), Some(2), "standard input");
         assert!(String::from_utf8_lossy(&ran.stderr).contains("would overwrite the file that is read"));
+        for words in [["meter", &house, METERS], ["meter", HOUSE, &house]] {
+            let ran = office(&[&words[..], &["-o", out]].concat());
+            assert!(ran.status == 2 && ran.error.contains("would overwrite the file that is read"), "{}", ran.error);
+        }
         let sizes = office(&["rate", HOUSE, TABLE, &format!("@{hard}"), "-o", out]);
         assert!(sizes.error.contains("would overwrite"), "{}", sizes.error);
         assert_eq!(std::fs::read_to_string(&house).expect("as it was"), read(HOUSE));
@@ -75,6 +80,28 @@ fn an_answer_replaces_the_whole_file_or_nothing() {
     let killed = shell(&format!("ulimit -f 0; exec \"$office\" choose {HOUSE} {TABLE} -o '{kept}'"));
     assert!(killed.status.signal().is_some(), "{killed:?}");
     assert_eq!(std::fs::read(&kept).expect("whole"), answer);
+}
+
+/// The house of `meter` is kept as an answer is, and the answer itself goes to standard output.
+#[test]
+fn the_house_of_meter_replaces_the_whole_file_or_nothing() {
+    let folder = folder("metered");
+    let (kept, link) = (format!("{folder}/kept.txt"), format!("{folder}/link"));
+    let answer = office(&["meter", HOUSE, METERS]).output;
+    let house = office(&["meter", HOUSE, METERS, "-o", "-"]).output;
+    assert!(house != answer && house.len() + 2 == read(HOUSE).len(), "120 cm are 1 cm");
+    std::fs::write(&kept, "older, and much longer than the house\n".repeat(200)).expect("written");
+    std::os::unix::fs::symlink(&kept, &link).expect("linked");
+    let ran = office(&["meter", HOUSE, METERS, "-o", &link]);
+    assert_eq!((ran.status, &ran.output, ran.error.as_str()), (0, &answer, ""));
+    assert_eq!(std::fs::read(&kept).expect("written"), house);
+    assert!(std::fs::symlink_metadata(&link).expect("there").is_symlink());
+    let full = shell(&format!("trap '' XFSZ; ulimit -f 0; exec \"$office\" meter {HOUSE} {METERS} -o '{kept}'"));
+    assert_eq!((full.status.code(), full.stdout.len()), (Some(2), 0), "no answer where the house is lost");
+    assert!(String::from_utf8_lossy(&full.stderr).contains("can't be written"));
+    assert_eq!((std::fs::read(&kept).expect("whole"), names(&folder)), (house, vec!["kept.txt".into(), "link".into()]));
+    let closed = shell(&format!("\"$office\" meter {HOUSE} {METERS} -o '{kept}' >&-"));
+    assert_eq!(closed.status.code(), Some(2), "the answer is lost");
 }
 
 #[test]
@@ -130,6 +157,8 @@ fn inputs_without_an_end_end_at_once() {
         ("\"$office\" choose /dev/zero /dev/zero".to_string(), "has over 1048576 bytes"),
         (format!("\"$office\" rate {HOUSE} {TABLE} @/dev/zero"), "has over 1048576 bytes"),
         ("\"$office\" replay /dev/zero".to_string(), "has over 1048576 bytes"),
+        (format!("\"$office\" meter {HOUSE} /dev/zero"), "has over 1048576 bytes"),
+        (format!("{{ head -n 9 {METERS}; yes vane,0.5,6.4; }} | {one} | \"$office\" meter {HOUSE} -"), "more mistakes"),
         ("head -c 100000000 /dev/zero | tr '\\0' x | \"$office\" pack -".to_string(), "has over 1048576 bytes"),
         ("head -c 50000000 /dev/zero | tr '\\0' , | \"$office\" pack -".to_string(), "has over 1048576 bytes"),
         (format!("{one} /dev/zero | tr '\\0' , | \"$office\" pack -"), "the line has 1048576 bytes"),
@@ -145,12 +174,20 @@ fn inputs_without_an_end_end_at_once() {
         (format!("yes é# | {one} | \"$office\" flow - --json"), "more mistakes"),
         (format!("yes 1 | {one} > '{kept}'; \"$office\" rate {HOUSE} {TABLE} '@{kept}' --json"), "refused"),
         (format!("{one} /dev/zero > '{kept}'; \"$office\" rate {HOUSE} {TABLE} '@{kept}' --json"), "refused"),
+        (
+            format!(
+                "{{ head -n 9 {METERS}; yes vane,0.5,6400; }} | head -n 60000 | \"$office\" meter {HOUSE} - --json"
+            ),
+            "refused",
+        ),
+        (format!("yes $(printf '\\001') | {one} | \"$office\" meter {HOUSE} - --json"), "refused"),
     ];
     for (line, why) in &lines {
         let ran = shell(&format!("ulimit -v 12000; {line}"));
         let (output, error) = (String::from_utf8_lossy(&ran.stdout), String::from_utf8_lossy(&ran.stderr));
         if *why == "refused" {
-            assert!(ran.status.code() == Some(1) && output.contains("\"number\":12"), "{line}: {error}");
+            let number = if line.contains(" meter ") { "\"number\":17" } else { "\"number\":12" };
+            assert!(ran.status.code() == Some(1) && output.contains(number), "{line}: {error}");
             assert!(output.len() < 100_000, "{line}");
             continue;
         }

@@ -10,6 +10,7 @@ use run::{office, office_with, read, scratch};
 
 const HOUSE: &str = "examples/house.txt";
 const TABLE: &str = "examples/table.csv";
+const METERS: &str = "examples/meters.csv";
 const WIDE: &str = "6,6,6,6,6,6,6,6,6,6,6,6";
 
 fn keys(value: &Value) -> Vec<String> {
@@ -30,9 +31,14 @@ fn the_keys_are_those_of_the_page() {
     let page = read("docs/COMMAND.md");
     let record = scratch("machines.job");
     assert_eq!(office(&["pack", HOUSE, "-o", &record]).status, 0);
-    let rows: [(&str, &[&str]); 7] = [
+    let list = scratch("machines.meters");
+    assert_eq!(office(&["pack", METERS, "-o", &list]).status, 0);
+    let rows: [(&str, &[&str]); 10] = [
         ("|`pack`|", &["pack", HOUSE]),
+        ("|`pack`|", &["pack", METERS]),
         ("|`show` of a job|", &["show", &record]),
+        ("|`show` of meters|", &["show", &list]),
+        ("|`meter`|", &["meter", HOUSE, METERS]),
         ("|`flow`|", &["flow", HOUSE]),
         ("|`rate`, `choose`|", &["rate", HOUSE, TABLE, WIDE]),
         ("|`rate`, `choose`|", &["choose", HOUSE, TABLE]),
@@ -64,6 +70,7 @@ fn files_are_named_in_every_answer() {
     for (words, files) in [
         (&["flow", HOUSE][..], vec![HOUSE]),
         (&["choose", HOUSE, TABLE], vec![HOUSE, TABLE]),
+        (&["meter", HOUSE, METERS], vec![HOUSE, METERS]),
         (&["rate", HOUSE, TABLE, WIDE], vec![HOUSE, TABLE]),
         (&["rate", HOUSE, TABLE, &by_file], vec![HOUSE, TABLE, &sizes]),
         (&["rate", HOUSE, TABLE, "1"], vec![HOUSE, TABLE]),
@@ -93,6 +100,26 @@ fn mistakes_of_a_text_come_as_json_too() {
     assert!(!keys(&printed).contains(&"sizes".to_string()));
     let table = office_with(&["choose", HOUSE, "-", "--json"], read(TABLE).replace("310", "310.00").as_bytes());
     assert_eq!((table.status, json::parse(&table.text()).list("mistakes").len()), (2, 8));
+}
+
+/// Every key that a meter has in an object is on the page, and the keys of `show` are among those of the answer.
+#[test]
+fn the_keys_of_a_meter_are_those_of_the_page() {
+    let page = read("docs/COMMAND.md");
+    let row = |start: &str| page.lines().find(|line| line.starts_with(start)).expect("the page has it");
+    let list = scratch("machines-keys.meters");
+    assert_eq!(office(&["pack", METERS, "-o", &list]).status, 0);
+    let shown = json::parse(&office(&["show", &list, "--json"]).text());
+    let picked = json::parse(&office(&["meter", HOUSE, METERS, "--json"]).text());
+    let (shown, picked) = (keys(&shown.list("meters")[0]), keys(&picked.list("meters")[0]));
+    assert!(shown.iter().all(|key| row("|`show` of meters|").contains(&format!("`{key}`"))), "{shown:?}");
+    assert!(shown.iter().all(|key| picked.contains(key)), "{picked:?}");
+    let own: Vec<&String> = picked.iter().filter(|key| !shown.contains(key)).collect();
+    assert!(own.len() == 6 && own.iter().all(|key| row("|`meter`|").contains(&format!("`{key}`"))), "{own:?}");
+    let mistaken = office_with(&["meter", HOUSE, "-", "--json"], read(METERS).replace("0.143", "0.1430001").as_bytes());
+    let mistakes = json::parse(&mistaken.text());
+    assert_eq!((mistaken.status, mistakes.list("mistakes").len()), (2, 1));
+    assert_eq!(mistakes.list("mistakes")[0].number("line"), 13);
 }
 
 #[test]

@@ -11,28 +11,42 @@ mod run;
 
 use mutate::{Dice, mutated};
 use office::catalogue::Catalogue;
+use office::meter;
 use office::record::Record;
-use office::{generate, house, readable, table};
+use office::which::Which;
+use office::{calls as library, generate, house, meters, readable, table};
 use plain::Fields;
 use run::{read, scratch, top};
 use std::io::{BufRead, BufReader, Write};
 use std::process::{Child, ChildStdin, ChildStdout, Command, Stdio};
 
 fn examples() -> Vec<String> {
-    ["house.txt", "attic.txt", "table.csv", "mistakes/falling-velocity.csv", "mistakes/circle.txt"]
-        .map(|file| read(&format!("examples/{file}")))
-        .to_vec()
+    let files =
+        ["house.txt", "attic.txt", "table.csv", "mistakes/falling-velocity.csv", "mistakes/circle.txt", "meters.csv"];
+    files.map(|file| read(&format!("examples/{file}"))).to_vec()
 }
 
-/// What the command makes of a text: a record, and whether it is a catalogue.
-fn packed(bytes: &[u8]) -> Option<(Vec<u8>, bool)> {
+/// What the command makes of a text: a record, and of which kind.
+fn packed(bytes: &[u8]) -> Option<(Vec<u8>, Which)> {
     if bytes.is_empty() || readable::is_record(bytes) {
         return None;
     }
     let text = readable::text(bytes).ok()?;
-    match table::is_table(&text) {
-        true => table::pack(&text).ok().map(|record| (record, true)),
-        false => house::pack(&text).ok().map(|record| (record, false)),
+    let which = Which::of(&text);
+    let record = match which {
+        Which::House => house::pack(&text),
+        Which::Table => table::pack(&text),
+        Which::Meters => meters::pack(&text),
+    };
+    record.ok().map(|record| (record, which))
+}
+
+/// The canonical text of a record.
+fn shown(record: &[u8], which: Which) -> Option<String> {
+    match which {
+        Which::House => house::show(record).ok(),
+        Which::Table => table::show(record).ok(),
+        Which::Meters => meters::show(record).ok(),
     }
 }
 
@@ -82,11 +96,23 @@ fn of_catalogue(bytes: &[u8]) -> Fields {
     fields
 }
 
+fn of_meters(bytes: &[u8]) -> Fields {
+    let meters = meter::read(bytes).expect("a list of meters");
+    let mut fields = Fields::from([("meters".to_string(), meters.len() as i64)]);
+    for (place, meter) in (1..).zip(&meters) {
+        fields.insert(format!("meter {place} type"), meter.design.into());
+        fields.insert(format!("meter {place} resistance"), meter.resistance.into());
+        fields.insert(format!("meter {place} service flow"), meter.service.into());
+    }
+    fields
+}
+
 /// The second reader has the same fields for a text that was taken.
-fn read_alike(text: &[u8], record: &[u8], is_table: bool) {
-    let (first, second) = match is_table {
-        true => (of_catalogue(record), plain::table(text)),
-        false => (of_job(record), plain::house(text)),
+fn read_alike(text: &[u8], record: &[u8], which: Which) {
+    let (first, second) = match which {
+        Which::House => (of_job(record), plain::house(text)),
+        Which::Table => (of_catalogue(record), plain::table(text)),
+        Which::Meters => (of_meters(record), plain::meters(text)),
     };
     assert_eq!(second, Some(first), "{}\n{text:?}", String::from_utf8_lossy(text));
 }
@@ -95,21 +121,22 @@ fn read_alike(text: &[u8], record: &[u8], is_table: bool) {
 fn a_second_reader_reads_the_same() {
     let examples = examples();
     let mut dice = Dice(0x5eed_0013);
-    let (mut taken, mut refused, mut differ) = (0, 0, 0);
+    let (mut taken, mut refused, mut differ, mut lists) = (0, 0, 0, 0);
     for _ in 0..30_000 {
         let text = mutated(&mut dice, &examples);
-        let Some((record, is_table)) = packed(&text) else {
+        let Some((record, which)) = packed(&text) else {
             refused += 1;
-            let second = plain::house(&text).or_else(|| plain::table(&text));
+            let second = plain::house(&text).or_else(|| plain::table(&text)).or_else(|| plain::meters(&text));
             differ += usize::from(second.is_some());
             continue;
         };
         taken += 1;
-        read_alike(&text, &record, is_table);
-        let shown = if is_table { table::show(&record).ok() } else { house::show(&record).ok() }.expect("shown");
-        assert_eq!(packed(shown.as_bytes()), Some((record, is_table)), "{shown}");
+        lists += usize::from(which == Which::Meters);
+        read_alike(&text, &record, which);
+        let shown = shown(&record, which).expect("shown");
+        assert_eq!(packed(shown.as_bytes()), Some((record, which)), "{shown}");
     }
-    assert!(taken > 6_000 && refused > 6_000, "{taken} {refused}");
+    assert!(taken > 6_000 && refused > 6_000 && lists > 1_500, "{taken} {refused} {lists}");
     // The other way round: what the page lets pass is not refused, but for words of sixty letters.
     assert!(differ * 1_000 <= refused, "{differ} of {refused} texts are refused that the second reader takes");
 }
@@ -176,7 +203,7 @@ impl Shell {
     fn tidy(&self) {
         for file in std::fs::read_dir(&self.folder).expect("the folder is there") {
             let name = file.expect("a file").file_name();
-            let known = ["o", "e", "t", "record", "again", "order"];
+            let known = ["o", "e", "t", "record", "again", "order", "metered"];
             assert!(known.iter().any(|known| *known == name), "{name:?} is no file of the test's");
         }
     }
@@ -187,29 +214,47 @@ impl Shell {
     }
 }
 
-/// The calls that a house or a table goes through.
-fn calls(file: &str, is_table: bool) -> [String; 4] {
+/// The calls that a file goes through: those that take a file of its kind, and one that takes another.
+fn calls(file: &str, which: Which) -> [String; 5] {
     let sizes = "6,6,6,6,6,6,6,6,6,6,6,6";
-    match is_table {
-        true => [
-            format!("flow {file}"),
-            format!("rate $examples/house.txt {file} {sizes}"),
-            format!("choose $examples/house.txt {file}"),
-            format!("draw $examples/house.txt {file}"),
-        ],
-        false => [
+    match which {
+        Which::House => [
             format!("flow {file}"),
             format!("rate {file} $examples/table.csv {sizes}"),
             format!("choose {file} $examples/table.csv"),
             format!("draw {file} $examples/table.csv"),
+            format!("meter {file} $examples/meters.csv"),
         ],
+        Which::Table => [
+            format!("rate $examples/house.txt {file} {sizes}"),
+            format!("choose $examples/house.txt {file}"),
+            format!("draw $examples/house.txt {file}"),
+            format!("draw $examples/house.txt {file} {sizes}"),
+            format!("flow {file}"),
+        ],
+        Which::Meters => [
+            format!("meter $examples/house.txt {file}"),
+            format!("meter $examples/own-case.txt {file}"),
+            format!("meter $examples/attic.txt {file}"),
+            format!("choose $examples/house.txt {file}"),
+            format!("flow {file}"),
+        ],
+    }
+}
+
+/// How many of these calls take a file of that kind.
+fn own_calls(which: Which) -> usize {
+    match which {
+        Which::House => 5,
+        Which::Table => 4,
+        Which::Meters => 3,
     }
 }
 
 /// Runs every command on one text; whether it was packed.
 fn every_command(shell: &mut Shell, text: &[u8], turn: usize) -> bool {
     shell.write("t", text);
-    for stale in ["record", "again"] {
+    for stale in ["record", "again", "metered"] {
         let _ = std::fs::remove_file(format!("{}/{stale}", shell.folder));
     }
     let done = shell.run("pack t -o record");
@@ -218,38 +263,65 @@ fn every_command(shell: &mut Shell, text: &[u8], turn: usize) -> bool {
     if shell.run("show t").status != 2 {
         assert!(readable::is_record(text), "a text is never a record");
     }
-    let is_table = readable::text(text).is_ok_and(|text| table::is_table(&text));
+    let which = readable::text(text).map_or(Which::House, |text| Which::of(&text));
     if turn % 5 == 0 {
-        let printed = shell.run(&format!("{} --json", calls("t", is_table)[turn / 5 % 3]));
+        let printed = shell.run(&format!("{} --json", calls("t", which)[turn / 5 % 2]));
         if !printed.output.is_empty() {
             assert_eq!(json::parse(&String::from_utf8(printed.output).expect("text")).number("schema"), 1);
         }
     }
     match &record {
-        None => calls("t", is_table).iter().for_each(|words| assert!(shell.run(words).status > 0, "{words}")),
+        None => calls("t", which).iter().for_each(|words| assert!(shell.run(words).status > 0, "{words}")),
         Some(record) => {
-            assert_eq!(packed(text), Some((record.clone(), is_table)), "{}", String::from_utf8_lossy(text));
-            answers_alike(shell, record, is_table, done.status);
+            assert_eq!(packed(text), Some((record.clone(), which)), "{}", String::from_utf8_lossy(text));
+            answers_alike(shell, record, which, done.status);
+            if which == Which::House {
+                metered(shell, text, record);
+            }
         }
     }
     shell.tidy();
     record.is_some()
 }
 
+/// The house with a meter is written exactly where one qualifies; it is read as the library's record, and differs from the text
+/// that was given in one number alone.
+fn metered(shell: &mut Shell, text: &[u8], record: &[u8]) {
+    let list = meters::pack(&read("examples/meters.csv")).expect("a list");
+    let ran = shell.run("meter t $examples/meters.csv -o metered");
+    let (written, wanted) = (shell.file("metered"), library::meter(record, &list).ok());
+    assert_eq!((written.is_some(), ran.status == 0), (wanted.is_some(), wanted.is_some()), "{}", ran.error);
+    let Some((written, wanted)) = written.zip(wanted) else { return };
+    assert_eq!(packed(&written), Some((wanted.job, Which::House)), "{}", String::from_utf8_lossy(&written));
+    let front = text.iter().zip(&written).take_while(|(one, other)| one == other).count();
+    let most = text.len().min(written.len()) - front;
+    let pairs = text.iter().rev().zip(written.iter().rev()).take(most);
+    let behind = pairs.take_while(|(one, other)| one == other).count();
+    for changed in [&text[front..text.len() - behind], &written[front..written.len() - behind]] {
+        // In UTF-16 a zero stands beside each digit.
+        let number = changed.iter().all(|byte| byte.is_ascii_digit() || b".\0".contains(byte));
+        assert!(number && changed.len() < 16, "{}", String::from_utf8_lossy(changed));
+    }
+}
+
 /// The text in `t` and its record in `record` answer alike, and packing what is shown gives the same bytes.
-fn answers_alike(shell: &mut Shell, record: &[u8], is_table: bool, status: i32) {
-    // A record that states a length of 2^24 or more does not begin with 0, and the message must name that.
-    let name = if readable::is_record(record) { "record" } else { "--record record" };
-    for (text, binary) in calls("t", is_table).iter().zip(calls(name, is_table)) {
-        let (one, other) = (shell.run(text), shell.run(&binary));
-        if is_table && text.starts_with("flow") {
+fn answers_alike(shell: &mut Shell, record: &[u8], which: Which, status: i32) {
+    // A record that states a length of 2^24 or more does not begin with 0, and a list may have types that there are not; the
+    // message must name that.
+    let told = if which == Which::Meters { meter::is_list(record) } else { readable::is_record(record) };
+    let name = if told { "record" } else { "--record record" };
+    let others = calls("t", which).into_iter().zip(calls(name, which)).enumerate();
+    for (place, (text, binary)) in others {
+        let (one, other) = (shell.run(&text), shell.run(&binary));
+        if place >= own_calls(which) {
+            assert_eq!(one.status, 2, "{text}");
             continue;
         }
         assert_eq!(one.status, other.status, "{text}: {}", one.error);
-        // A refusal's places name the line in one and not in the other.
+        // A refusal's places name the line in one and not in the other, and a record has no names.
         let line = |bytes: &[u8]| bytes.split(|byte| *byte == b'\n').next().map(<[u8]>::to_vec);
         match one.status {
-            0 => assert!(one.output == other.output, "{text}"),
+            0 if which != Which::Meters => assert!(one.output == other.output, "{text}"),
             _ => assert_eq!(line(&one.output), line(&other.output), "{text}"),
         }
     }

@@ -16,7 +16,7 @@
 //!   last line `...` stands for any more. A page's commands run one after another in a folder that has `examples/`. Where
 //!   `refused` stands first in what is printed the status is 1, and so in prose: `` `office ...` gives refusal 13 ``. Any other
 //!   `` `office ...` `` in prose begins with a command that there is.
-//! - Files. The examples of the two formats in `docs/FILES.md` are taken, and its ranges are those of the command.
+//! - Files. The examples of the formats in `docs/FILES.md` are taken, and its ranges are those of the command.
 //! - Tests. Where a line of a block runs `cargo test` with `--test FILE NAME`, `office/tests/FILE.rs` has `fn NAME`; in
 //!   backquotes in prose too.
 //! - Targets. Each `make name` is a target of the Makefile. Where a line that names one ends in "prints", the block behind it
@@ -26,7 +26,7 @@
 #[path = "tools/run.rs"]
 mod run;
 
-use office::{calls, house, table};
+use office::{calls, house, meters, table};
 use run::{read, scratch, top};
 use std::collections::{BTreeMap, BTreeSet};
 use std::path::Path;
@@ -415,8 +415,11 @@ fn the_formats_are_those_of_the_command() {
     let job = house::pack(&below(&page, "## A house")).expect("a house");
     let cat = table::pack(&below(&page, "## A table of sizes")).expect("a table");
     calls::choose(&job, &cat).expect("the library takes them");
+    let list = meters::pack(&below(&page, "## A list of meters")).expect("a list of meters");
+    calls::meter(&job, &list).expect("the library takes it, and a meter qualifies");
     let rows: Vec<&str> = page.text.lines().filter(|line| line.starts_with('|')).collect();
-    for quantity in house::quantities().iter().filter(|quantity| quantity.name != "section") {
+    let quantities: Vec<_> = house::quantities().into_iter().chain(meters::quantities()).collect();
+    for quantity in quantities.iter().filter(|quantity| quantity.name != "section") {
         let shown = rows.iter().any(|row| {
             let (name, taken) = (quantity.name, format!("|{}|", quantity.taken));
             row.split('|').nth(1).is_some_and(|cell| cell.contains(name)) && row.contains(&taken)

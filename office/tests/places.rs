@@ -178,7 +178,7 @@ fn the_advice_of_eight_and_nine_holds_in_the_library() {
 
 fn rated(job: &[u8], cat: &[u8], sizes: &[u8]) -> (u32, Vec<Place>) {
     let refusal = calls::rate(job, cat, sizes).expect_err("refused");
-    (refusal.number(), places(&refusal, &Asked { job, cat, sizes }))
+    (refusal.number(), places(&refusal, &Asked { job, cat, sizes, ..Asked::default() }))
 }
 
 #[test]
@@ -214,18 +214,18 @@ fn catalogues_and_lists() {
 fn the_missing_head() {
     let (own, cat) = (with(&job(), &[(12, 3), (13, 0x98)]), cat());
     let refusal = calls::choose(&own, &cat).expect_err("920 cm are one too few");
-    let found = (refusal.number(), places(&refusal, &Asked { job: &own, cat: &cat, sizes: &[] }));
+    let found = (refusal.number(), places(&refusal, &Asked { job: &own, cat: &cat, ..Asked::default() }));
     check(found.clone(), 16, At::Field(Field::Delivered), "no list of sizes needs less than 921 cm, 1 cm more");
     check(found, 16, At::Section(1), "sizes 2");
     let slow = with(&job(), &[(14, 1), (15, 0)]);
     let refusal = calls::choose(&slow, &cat).expect_err("256 mm/s are too slow");
-    let found = (refusal.number(), places(&refusal, &Asked { job: &slow, cat: &cat, sizes: &[] }));
+    let found = (refusal.number(), places(&refusal, &Asked { job: &slow, cat: &cat, ..Asked::default() }));
     check(found.clone(), 16, At::Section(1), "at 2052 ml/s the least velocity is 1026 mm/s, in size 2 (50 mm)");
     // 2,052,000 cubic mm a second at 256 mm/s take 8,016 square mm, a bore of 101.02 mm.
     check(found, 16, At::Section(1), "and the limit is 256 mm/s; a bore of about 102 mm would do");
     let small = with(&cat, &[(21, 7), (22, 0xd0), (41, 7), (42, 0xd0)]);
     let refusal = calls::choose(&job(), &small).expect_err("the rows end at 2,000 ml/s");
-    let found = (refusal.number(), places(&refusal, &Asked { job: &job(), cat: &small, sizes: &[] }));
+    let found = (refusal.number(), places(&refusal, &Asked { job: &job(), cat: &small, ..Asked::default() }));
     let why = "no size serves its flow of 2052 ml/s; the greatest flow in the table is 2000 ml/s, and the limit is 1500 mm/s; \
         a bore of about 51 mm would do";
     check(found, 16, At::Section(1), why);

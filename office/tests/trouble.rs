@@ -8,6 +8,7 @@ use std::process::{Command, Stdio};
 
 const HOUSE: &str = "examples/house.txt";
 const TABLE: &str = "examples/table.csv";
+const METERS: &str = "examples/meters.csv";
 
 #[test]
 fn a_lost_answer_is_no_success() {
@@ -16,8 +17,15 @@ fn a_lost_answer_is_no_success() {
         return;
     }
     let refused = ["flow", "examples/mistakes/circle.txt"];
-    let ways: [&[&str]; 6] =
-        [&["pack", HOUSE], &["flow", HOUSE], &["choose", HOUSE, TABLE, "--json"], &["help"], &["soak", "3"], &refused];
+    let ways: [&[&str]; 7] = [
+        &["pack", HOUSE],
+        &["flow", HOUSE],
+        &["meter", HOUSE, METERS],
+        &["choose", HOUSE, TABLE, "--json"],
+        &["help"],
+        &["soak", "3"],
+        &refused,
+    ];
     for words in ways {
         let full = std::fs::File::options().write(true).open("/dev/full").expect("it can be opened");
         let ran = Command::new(env!("CARGO_BIN_EXE_office")).args(words).current_dir(top()).stdout(full).output();
@@ -81,6 +89,8 @@ fn an_empty_file_is_called_empty() {
     assert!(flow.contains("job record: the file is empty: it has 0 bytes"), "{flow}");
     let choose = office_with(&["choose", HOUSE, "-"], b"").text();
     assert!(choose.contains("catalogue: the file is empty: it has 0 bytes"), "{choose}");
+    let meter = office_with(&["meter", HOUSE, "-"], b"").text();
+    assert!(meter.contains("list of meters: the file is empty: it has 0 bytes"), "{meter}");
 }
 
 #[test]
@@ -90,8 +100,9 @@ fn the_answer_has_one_file_that_is_not_read() {
     std::fs::write(&sizes, "6,6,6,6,6,6,6,6,6,6,6,6").expect("written");
     let roundabout = scratch("./kept-house.txt");
     let list = format!("@{sizes}");
-    let cases: [(&[&str], &str); 4] = [
+    let cases: [(&[&str], &str); 5] = [
         (&["pack", &house, "-o", &house], "would overwrite the file that is read"),
+        (&["meter", &house, METERS, "-o", &house], "would overwrite the file that is read"),
         (&["flow", "-o", &roundabout, &house], "would overwrite the file that is read"),
         (&["rate", &house, TABLE, &list, "-o", &sizes], "would overwrite the file that is read"),
         (&["flow", &house, "-o", &sizes, "-o", &sizes], "`-o` is given twice"),
@@ -110,6 +121,8 @@ fn the_mark_in_front_of_utf_8_is_no_letter() {
     for comment in ["", "# sizes of the shop\n", "# sizes, bores; prices\n"] {
         let table = marked(&format!("{comment}{}", read(TABLE)));
         assert_eq!(office_with(&["pack", "-"], &table).output, office(&["pack", TABLE]).output, "{comment}");
+        let list = marked(&format!("{comment}{}", read(METERS)));
+        assert_eq!(office_with(&["pack", "-"], &list).output, office(&["pack", METERS]).output, "{comment}");
         let house = marked(&format!("{comment}{}", read(HOUSE)));
         assert_eq!(office_with(&["pack", "-"], &house).output, office(&["pack", HOUSE]).output, "{comment}");
     }

@@ -8,9 +8,10 @@ mod run;
 use json::Value;
 use office::at::{At, Field};
 use office::catalogue::Catalogue;
+use office::meter::{self, Meter};
 use office::record::Record;
-use office::warnings::{off_velocity, warnings};
-use office::{calls, house, table};
+use office::warnings::{off_service, off_velocity, warnings};
+use office::{calls, house, meters, table};
 use run::{office, office_with, read, scratch, top};
 
 const HOUSE: &str = "examples/house.txt";
@@ -253,4 +254,48 @@ fn the_example_tables_are_sound() {
         seen += 1;
     }
     assert!(seen >= 4, "{seen}");
+}
+
+/// A list of one meter, and whether it is warned of.
+fn warned(design: u8, resistance: u16, service: u16) -> bool {
+    let found = off_service(&[Meter { design, resistance, service }]);
+    assert!(found.iter().all(|place| place.at == At::Meter(1)));
+    found.is_some()
+}
+
+/// The loss at the service flow is resistance × service flow squared / 1,296,000,000: 5,000 and 6,400 give 158 cm.
+#[test]
+fn a_meter_whose_figures_do_not_go_together_is_warned_of() {
+    for (design, resistance, service) in [(1, 5_000, 6_400), (2, 1_430, 12_000), (2, 81, 17_000), (2, 8, 65_000)] {
+        assert!(!warned(design, resistance, service));
+        // The service flow in m3/h, or with a digit too few or too many.
+        assert!(warned(design, resistance, service / 1_000) && warned(design, resistance, service / 10));
+        assert!(service > 6_553 || warned(design, resistance, service * 10));
+    }
+    assert!(warned(1, 50_000, 6_400), "a resistance with a digit too many");
+    assert!(warned(1, 500, 6_400), "a resistance with a digit too few");
+    // At 36,000 l/h the loss in cm is the resistance: the edges themselves are no slip.
+    for (design, least) in [(1, 40), (2, 4)] {
+        assert!(!warned(design, least, 36_000) && warned(design, least - 1, 36_000));
+        assert!(!warned(design, 1_000, 36_000) && warned(design, 1_001, 36_000));
+    }
+    // What the library refuses has its own place.
+    assert!(!warned(1, 0, 6_400) && !warned(1, 5_000, 0) && !warned(3, 5_000, 64));
+    let slip = read("examples/meters.csv").replace("0.5,6400", "0.5,64");
+    let ran = office_with(&["meter", HOUSE, "-"], slip.as_bytes());
+    let why = "warning: standard input line 12, meter 4: at its own service flow of 64 l/h it would lose 0 cm, and vane meters";
+    assert!(ran.status == 0 && ran.error.starts_with(why) && ran.error.lines().count() == 1, "{}", ran.error);
+    let strict = office_with(&["meter", HOUSE, "-", "--strict"], slip.as_bytes());
+    assert_eq!((strict.status, strict.output.len()), (2, 0));
+    let printed = json::parse(&office_with(&["meter", HOUSE, "-", "--json"], slip.as_bytes()).text());
+    assert_eq!(printed.list("warnings")[0].number("line"), 12);
+    assert!(office_with(&["pack", "-"], slip.as_bytes()).error.starts_with("warning: "));
+}
+
+#[test]
+fn the_example_lists_are_sound() {
+    for text in [read("examples/meters.csv"), office(&["new", "meters"]).text()] {
+        let list = meter::read(&meters::pack(&text).expect("a list")).expect("whole meters");
+        assert_eq!(off_service(&list), None, "{text}");
+    }
 }

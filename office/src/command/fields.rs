@@ -4,6 +4,7 @@ use super::json::Json;
 use super::report::Fields;
 use office::catalogue::{Catalogue, Size};
 use office::kinds;
+use office::meter::{self, Meter};
 use office::record::{Record, Section};
 
 pub fn job(record: &Record) -> Fields {
@@ -11,7 +12,6 @@ pub fn job(record: &Record) -> Fields {
         Json::Object(vec![("kind", kind.into()), ("name", Json::text(kinds::name(kind))), ("residents", count.into())])
     });
     vec![
-        ("kind", Json::text("job")),
         ("stated_length", record.stated.into()),
         ("version", record.version.into()),
         ("local_losses_tenths", record.tenths.into()),
@@ -41,7 +41,6 @@ fn of_section(number: u8, section: &Section) -> Json {
 pub fn catalogue(catalogue: &Catalogue) -> Fields {
     let sizes = (1..=255).zip(&catalogue.sizes).map(|(number, size)| of_size(number, size));
     vec![
-        ("kind", Json::text("catalogue")),
         ("stated_length", catalogue.stated.into()),
         ("version", catalogue.version.into()),
         ("rows", catalogue.rows.into()),
@@ -63,4 +62,20 @@ fn of_size(number: u8, size: &Size) -> Json {
         ("price", size.price.into()),
         ("rows", Json::List(rows.collect())),
     ])
+}
+
+pub fn meters(meters: &[Meter]) -> Fields {
+    let list = (1..).zip(meters).map(|(place, meter)| Json::Object(of_meter(place, meter)));
+    vec![("meters", Json::List(list.collect()))]
+}
+
+/// A meter by its place in the list.
+pub fn of_meter(place: i64, meter: &Meter) -> Fields {
+    vec![
+        ("meter", place.into()),
+        ("type", meter.design.into()),
+        ("type_name", Json::text(meter::name(meter.design))),
+        ("resistance_ten_thousandths", meter.resistance.into()),
+        ("service_flow_l_per_h", meter.service.into()),
+    ]
 }

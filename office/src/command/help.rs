@@ -23,15 +23,15 @@ pub const COMMANDS: &[Command] = &[
         least: 1,
         most: 1,
         reads: true,
-        brief: "a readable house or table of sizes as a binary record",
+        brief: "a readable house, table of sizes or list of meters as a binary record",
         text: "\
-FILE is a readable house or a readable table of sizes (`office help files`); which of the two is told by its first line.
+FILE is a readable house, table of sizes or list of meters (`office help files`); which of them is told by its first line.
 The record goes to RECORD or to standard output. Mistakes are named with their lines, and then no record is written.
 
 What can be written as bytes is written. If the library refuses the record, a warning on standard error says why and where,
 and the status is 1.
 
---json gives the record in hex: kind (job or catalogue), bytes, record.",
+--json gives the record in hex: kind (job, catalogue or meters), bytes, record.",
     },
     Command {
         name: "show",
@@ -39,11 +39,12 @@ and the status is 1.
         least: 1,
         most: 1,
         reads: true,
-        brief: "a binary record as a readable house or table",
+        brief: "a binary record as a readable house, table or list",
         text: "\
-RECORD is a job record or a catalogue; which of the two is told by its length, also where the library refuses it.
-Packing what is shown gives the same bytes. If the library refuses the record, a warning on standard error says why and
-where, and the status is 1. Bytes that are neither 40 + 10 x S nor 7 + sizes x (4 + 8 x rows) long can't be shown: status 2.
+RECORD is a job record or a catalogue, told apart by their length, or a list of meters, told by its first byte, a meter's type;
+also where the library refuses it. Packing what is shown gives the same bytes. If the library refuses the record, a warning on
+standard error says why and where, and the status is 1. Bytes that are neither 40 + 10 x S nor 7 + sizes x (4 + 8 x rows) long,
+nor 5 for each meter, can't be shown: status 2.
 
 --json gives the fields by name.",
     },
@@ -59,6 +60,29 @@ JOB is a readable house or a job record. The house's design flow is what its pum
 
 --json: duty_ml_per_s (the house's design flow), hour_l_per_h, day_l, mean_hour_l_per_h, sections (section,
 flow_ml_per_s).",
+    },
+    Command {
+        name: "meter",
+        usage: "office meter JOB METERS [-o HOUSE] [--json] [--strict] [--record|--text]",
+        least: 2,
+        most: 2,
+        reads: true,
+        brief: "the meter with the least loss from a list, and the house with that loss",
+        text: "\
+JOB is a readable house or a job record, METERS a readable list of meters (`office help files`) or its record of 5 bytes for
+each meter. A meter's loss is its resistance x the square of the house's design flow. A meter qualifies if a vane meter loses
+at most 500 cm, a turbine meter at most 250 cm, and the house's mean hour is at most its service flow. The least loss wins, then
+the first in the list; the meter loss that the house has plays no part. The answer shows every meter with its loss, its limit,
+and why it does or doesn't qualify; a star marks the winner. Where none qualifies (refusal 18) each meter is named with the
+limits that it breaks and by how much, and what would do.
+
+-o HOUSE writes the house with the winner's loss as its meter loss, beside the answer, in the form that JOB has: of a readable
+house one number is another and all else stays, comments too; a record stays a record. `-o -` sends the house to standard
+output in place of the answer: office meter house.txt meters.csv -o - | office choose - table.csv
+
+--json: duty_ml_per_s (the house's design flow), mean_hour_l_per_h, meter (the winner's place), meter_loss_cm,
+former_meter_loss_cm, record (the job with the meter, in hex), meters (meter, type, type_name, resistance_ten_thousandths,
+service_flow_l_per_h, name, loss_cm, limit_cm, over_limit_cm, over_service_flow_l_per_h, qualifies).",
     },
     Command {
         name: "rate",
@@ -123,11 +147,11 @@ tenths of a litre in the hour, hundredths of a litre in the second.",
     },
     Command {
         name: "new",
-        usage: "office new house|table [-o FILE]",
+        usage: "office new house|table|meters [-o FILE]",
         least: 1,
         most: 1,
         reads: false,
-        brief: "a house or a table of sizes to start from",
+        brief: "a house, a table of sizes or a list of meters to start from",
         text: "\
 A small file with comments, which the library takes: put your own numbers in it. A FILE that is there already is not
 replaced (status 2).",
@@ -188,8 +212,9 @@ One line each: the word command, library or specification, and its version.
 ];
 
 const COMMON: &str = "\
-Files: a readable file or a binary record, told apart by the first byte, which is 0 in a record; --record and --text before a
-file force its reading; - is standard input; -o FILE writes the answer to a file, -o - to standard output.
+Files: a readable file or a binary record, told apart by the first byte, which is 0 in a record, and 1 or 2 in one of meters;
+--record and --text before a file force its reading; - is standard input; -o FILE writes the answer to a file, -o - to standard
+output (`meter` writes the house there).
 Status: 0 an answer; 1 the library refuses, in words with its number and place, on standard output, and a file of -o is left
 alone (`pack`, `show`, and `draw` with refusal 16, do their work and write the file all the same, and the refusal stands on
 standard error); 2 misuse, an unreadable file, mistakes in a readable file or an answer that can't be written, on standard

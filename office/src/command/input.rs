@@ -3,8 +3,11 @@
 use super::outcome::{Misuse, word};
 use office::at::Lines;
 use office::catalogue::Catalogue;
+use office::meter::{self, Meter, NoMeters};
+use office::meters;
 use office::readable::{self, MOST_BYTES};
 use office::record::Record;
+use office::which::Which;
 use office::{house, table};
 use std::ffi::{OsStr, OsString};
 use std::io::Read;
@@ -29,16 +32,25 @@ pub struct File<'a> {
 
 /// What a file holds.
 pub enum Content {
+    /// A job record or a catalogue.
     Record(Vec<u8>),
+    /// The record of a list of meters.
+    Meters(Vec<u8>),
     Text(String),
 }
 
-/// A job or a catalogue, with the lines of its fields where it came from a readable file.
+/// A job, a catalogue or a list of meters, with the lines of its fields where it came from a readable file.
 pub struct Source {
     /// The file's name for messages.
     pub name: String,
     pub bytes: Vec<u8>,
     pub lines: Lines,
+}
+
+/// A list of meters with the names that a readable file has for them.
+pub struct Meters {
+    pub source: Source,
+    pub names: Vec<String>,
 }
 
 /// The bytes of a file, up to the limit; `-` is standard input.
@@ -53,7 +65,7 @@ fn bytes(file: &OsStr) -> Result<Vec<u8>, Misuse> {
     read.map_err(|why| Misuse::Words(format!("{} can't be read: {why}", name(file))))?;
     if bytes.len() > MOST_BYTES {
         let name = name(file);
-        return Err(Misuse::Words(format!("{name} has over {MOST_BYTES} bytes; no house or table is as long")));
+        return Err(Misuse::Words(format!("{name} has over {MOST_BYTES} bytes; no house, table or list is as long")));
     }
     Ok(bytes)
 }
@@ -67,17 +79,34 @@ impl File<'_> {
         name(self.file)
     }
 
-    /// The file's record or text. No bytes at all are no text, so that the library gives its number for them.
+    /// All bytes of the file.
+    pub fn bytes(&self) -> Result<Vec<u8>, Misuse> {
+        bytes(self.file)
+    }
+
+    /// The file's record or text.
     pub fn content(&self) -> Result<Content, Misuse> {
-        let bytes = bytes(self.file)?;
-        let record = match self.reading {
-            Reading::ByContent => bytes.is_empty() || readable::is_record(&bytes),
-            forced => forced == Reading::Record,
-        };
-        match record {
-            true => Ok(Content::Record(bytes)),
-            false => readable::text(&bytes).map(Content::Text).map_err(|found| Misuse::Mistakes(self.name(), found)),
+        self.content_of(self.bytes()?)
+    }
+
+    /// The record or text of the file's bytes. No bytes at all are no text, so that the library gives its number for them.
+    fn content_of(&self, bytes: Vec<u8>) -> Result<Content, Misuse> {
+        match self.reading {
+            Reading::Record => Ok(Content::Record(bytes)),
+            Reading::ByContent if bytes.is_empty() || readable::is_record(&bytes) => Ok(Content::Record(bytes)),
+            Reading::ByContent if meter::is_list(&bytes) => Ok(Content::Meters(bytes)),
+            _ => readable::text(&bytes).map(Content::Text).map_err(|found| Misuse::Mistakes(self.name(), found)),
         }
+    }
+
+    /// What the file is, where another was expected.
+    fn another(&self, found: Which, expected: Which) -> Misuse {
+        Misuse::Words(format!("{} is {}; {} is expected", self.name(), found.name(), expected.name()))
+    }
+
+    /// A record as it is.
+    fn as_it_is(&self, bytes: Vec<u8>) -> Source {
+        Source { name: self.name(), bytes, lines: Lines::default() }
     }
 
     /// The content of a file that no library call has a number for: there must be some.
@@ -92,29 +121,42 @@ impl File<'_> {
 
     /// The bytes of a record for `show`, which has no use for a text.
     pub fn record(&self) -> Result<Vec<u8>, Misuse> {
-        let (name, bytes) = (self.name(), bytes(self.file)?);
+        let (name, bytes) = (self.name(), self.bytes()?);
         match bytes.first() {
             None => Err(Misuse::Words(format!("{name}: the file is empty"))),
             Some(_) if self.reading == Reading::Record || readable::is_record(&bytes) => Ok(bytes),
+            Some(first) if meter::begins(&bytes) => match binary(&bytes, false) {
+                Binary::Job(_) | Binary::Catalogue(_) => Err(Misuse::Words(format!(
+                    "{name} begins with {first:02X} as a list of meters does, but has the length of a job record or a \
+                     catalogue, whose first byte is 00; `--record` shows a record that is damaged there"
+                ))),
+                _ => Ok(bytes),
+            },
             Some(0) => Err(Misuse::Words(format!(
                 "{name} is text in UTF-16 without its mark: saved as UTF-8, `office pack` packs it; `--record` shows it as a \
                  record all the same"
             ))),
             Some(first) => Err(Misuse::Words(format!(
-                "{name} is readable already, since its first byte is {first:02X} and a record's is 00; `office pack` packs \
-                 it, and `--record` shows a record that is damaged there"
+                "{name} is readable already, since its first byte is {first:02X} and a record's is 00, 01 or 02; `office \
+                 pack` packs it, and `--record` shows a record that is damaged there"
             ))),
         }
     }
 
     /// A job: a readable house is packed, a record is taken as it is.
     pub fn job(&self) -> Result<Source, Misuse> {
-        match self.content()? {
-            Content::Record(bytes) => Ok(Source { name: self.name(), bytes, lines: Lines::default() }),
-            Content::Text(text) if table::is_table(&text) => {
-                Err(Misuse::Words(format!("{} is a table of sizes; a house is expected", self.name())))
-            }
-            Content::Text(text) => self.house(&text),
+        self.job_of(self.bytes()?)
+    }
+
+    /// The job of the file's bytes.
+    pub fn job_of(&self, bytes: Vec<u8>) -> Result<Source, Misuse> {
+        match self.content_of(bytes)? {
+            Content::Record(bytes) => Ok(self.as_it_is(bytes)),
+            Content::Meters(_) => Err(self.another(Which::Meters, Which::House)),
+            Content::Text(text) => match Which::of(&text) {
+                Which::House => self.house(&text),
+                other => Err(self.another(other, Which::House)),
+            },
         }
     }
 
@@ -127,20 +169,54 @@ impl File<'_> {
     /// A catalogue: a readable table is packed, a record is taken as it is.
     pub fn catalogue(&self) -> Result<Source, Misuse> {
         match self.content()? {
-            Content::Record(bytes) => Ok(Source { name: self.name(), bytes, lines: Lines::default() }),
-            Content::Text(text) if table::is_table(&text) => self.table(&text),
-            Content::Text(_) => {
-                let header = table::COLUMNS.join(",");
-                let name = self.name();
-                Err(Misuse::Words(format!("{name} is no table of sizes: its first line is not `{header}`")))
-            }
+            Content::Record(bytes) => Ok(self.as_it_is(bytes)),
+            Content::Meters(_) => Err(self.another(Which::Meters, Which::Table)),
+            Content::Text(text) => match Which::of(&text) {
+                Which::Table => self.table(&text),
+                Which::Meters => Err(self.another(Which::Meters, Which::Table)),
+                Which::House => Err(self.headless(Which::Table, table::FORM.header(','))),
+            },
         }
+    }
+
+    /// A text whose first line is not the header that is expected.
+    fn headless(&self, expected: Which, header: String) -> Misuse {
+        let what = expected.name().trim_start_matches("a ");
+        Misuse::Words(format!("{} is no {what}: its first line is not `{header}`", self.name()))
     }
 
     /// A readable table.
     pub fn table(&self, text: &str) -> Result<Source, Misuse> {
         let packed = table::read(text).map_err(|mistakes| Misuse::Mistakes(self.name(), mistakes))?;
         Ok(Source { name: self.name(), bytes: packed.bytes, lines: packed.lines })
+    }
+
+    /// A list of meters: a readable one is packed, a record is taken as it is. No text begins with a meter's type.
+    pub fn meters(&self) -> Result<Meters, Misuse> {
+        let bytes = self.bytes()?;
+        if self.reading == Reading::ByContent && meter::begins(&bytes) {
+            return Ok(Meters { source: self.as_it_is(bytes), names: Vec::new() });
+        }
+        match self.content_of(bytes)? {
+            Content::Record(bytes) | Content::Meters(bytes) => {
+                Ok(Meters { source: self.as_it_is(bytes), names: Vec::new() })
+            }
+            Content::Text(text) => match Which::of(&text) {
+                Which::Table if table::read(&text).is_ok() => Err(self.another(Which::Table, Which::Meters)),
+                Which::House if house::read(&text).is_ok() => Err(self.another(Which::House, Which::Meters)),
+                Which::House if readable::lines(&text).next().is_some() => {
+                    Err(self.headless(Which::Meters, meters::FORM.header(',')))
+                }
+                _ => self.list(&text),
+            },
+        }
+    }
+
+    /// A readable list of meters.
+    pub fn list(&self, text: &str) -> Result<Meters, Misuse> {
+        let packed = meters::read(text).map_err(|mistakes| Misuse::Mistakes(self.name(), mistakes))?;
+        let source = Source { name: self.name(), bytes: packed.bytes, lines: packed.lines };
+        Ok(Meters { source, names: packed.names })
     }
 
     /// A list of sizes: numbers between commas, or `@` and a file with such numbers or with the bytes themselves.
@@ -171,19 +247,36 @@ impl File<'_> {
     }
 }
 
-/// What binary bytes are, by their length: the two layouts never have the same length for the same counts.
+/// What binary bytes are: a list of meters by its types, the others by their length, which is never the same for a job and a
+/// catalogue with the same counts.
 pub enum Binary {
     Job(Record),
     Catalogue(Catalogue),
-    /// Neither, in words.
+    Meters(Vec<Meter>),
+    /// None of them, in words.
     Neither(String),
 }
 
-pub fn binary(bytes: &[u8]) -> Binary {
-    match (Record::read(bytes), Catalogue::read(bytes)) {
-        (Ok(record), _) => Binary::Job(record),
-        (_, Ok(catalogue)) => Binary::Catalogue(catalogue),
-        (Err(job), Err(catalogue)) => Binary::Neither(format!("no job record: {job};\nno catalogue: {catalogue}")),
+/// What these bytes are. A list of meters that is none by its types is one by its length; where its first byte is 0, as in the
+/// other records, only if these bytes are known to be a record that may be damaged there.
+pub fn binary(bytes: &[u8], forced: bool) -> Binary {
+    let meters = meter::read(bytes);
+    if let Ok(meters) = &meters
+        && meter::is_list(bytes)
+    {
+        return Binary::Meters(meters.clone());
+    }
+    let meters = meters.and_then(|meters| match forced || meter::begins(bytes) {
+        true => Ok(meters),
+        false => Err(NoMeters { given: bytes.len() }),
+    });
+    match (Record::read(bytes), Catalogue::read(bytes), meters) {
+        (Ok(record), _, _) => Binary::Job(record),
+        (_, Ok(catalogue), _) => Binary::Catalogue(catalogue),
+        (_, _, Ok(meters)) => Binary::Meters(meters),
+        (Err(job), Err(catalogue), Err(meters)) => {
+            Binary::Neither(format!("no job record: {job};\nno catalogue: {catalogue};\nno list of meters: {meters}"))
+        }
     }
 }
 

@@ -23,6 +23,11 @@ impl Json {
         Json::Text(text.into())
     }
 
+    /// Bytes as a text, two hex digits each.
+    pub fn hex(bytes: &[u8]) -> Json {
+        Json::Text(bytes.iter().map(|byte| format!("{byte:02x}")).collect())
+    }
+
     /// The value on a line of its own.
     pub fn line(&self) -> String {
         format!("{self}\n")

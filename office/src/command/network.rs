@@ -90,13 +90,13 @@ pub fn from(parent: u8) -> String {
 pub fn rate(arguments: &Arguments) -> Result<Outcome, Misuse> {
     let (job, cat) = (arguments.file(0).job()?, arguments.file(1).catalogue()?);
     let sizes = arguments.file(2).sizes()?;
-    let given = Given { job: Some(&job), cat: Some(&cat), sizes: &sizes };
+    let given = Given { job: Some(&job), cat: Some(&cat), sizes: &sizes, ..Given::default() };
     rated(arguments, &given, Rated::with_sizes(&given))
 }
 
 pub fn choose(arguments: &Arguments) -> Result<Outcome, Misuse> {
     let (job, cat) = (arguments.file(0).job()?, arguments.file(1).catalogue()?);
-    let given = Given { job: Some(&job), cat: Some(&cat), sizes: &[] };
+    let given = Given { job: Some(&job), cat: Some(&cat), ..Given::default() };
     rated(arguments, &given, Rated::chosen(&given))
 }
 
@@ -111,7 +111,8 @@ fn rated(arguments: &Arguments, given: &Given, rated: Result<Rated, Refusal>) ->
 pub fn draw(arguments: &Arguments) -> Result<Outcome, Misuse> {
     let (job, cat) = (arguments.file(0).job()?, arguments.file(1).catalogue()?);
     let sizes = if arguments.words.len() > 2 { Some(arguments.file(2).sizes()?) } else { None };
-    let given = Given { job: Some(&job), cat: Some(&cat), sizes: sizes.as_deref().unwrap_or(&[]) };
+    let sized = sizes.as_deref().unwrap_or(&[]);
+    let given = Given { job: Some(&job), cat: Some(&cat), sizes: sized, ..Given::default() };
     let rated = if sizes.is_some() { Rated::with_sizes(&given) } else { Rated::chosen(&given) };
     match rated {
         Ok(rated) => report::answer(arguments, &given, Vec::new, || rated.drawing().into_bytes()),

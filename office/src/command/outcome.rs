@@ -41,6 +41,8 @@ pub fn word(word: &str) -> String {
 pub struct Outcome {
     /// For standard output, or for the file of `-o` where this is an answer.
     pub output: Vec<u8>,
+    /// For the file of `-o`, where something else than the output belongs there.
+    pub kept: Option<Vec<u8>>,
     pub answered: bool,
     /// For standard error.
     pub warning: String,
@@ -49,12 +51,12 @@ pub struct Outcome {
 
 impl Outcome {
     pub fn answer(output: impl Into<Vec<u8>>) -> Outcome {
-        Outcome { output: output.into(), answered: true, warning: String::new(), status: 0 }
+        Outcome { output: output.into(), kept: None, answered: true, warning: String::new(), status: 0 }
     }
 
     /// The library's refusal, given as the answer.
     pub fn refusal(output: String) -> Outcome {
-        Outcome { output: output.into_bytes(), answered: false, warning: String::new(), status: 1 }
+        Outcome { output: output.into_bytes(), kept: None, answered: false, warning: String::new(), status: 1 }
     }
 
     /// The same with words for standard error, which change no status.
@@ -69,6 +71,6 @@ impl Outcome {
 
     /// No answer. What stands on standard output is for machines.
     pub fn misuse(misuse: &Misuse, output: String) -> Outcome {
-        Outcome { output: output.into_bytes(), answered: false, warning: misuse.text(), status: 2 }
+        Outcome { output: output.into_bytes(), kept: None, answered: false, warning: misuse.text(), status: 2 }
     }
 }

@@ -5,9 +5,10 @@ use super::json::Json;
 use office::Refusal;
 use office::at::At;
 use office::catalogue::Catalogue;
+use office::meter;
 use office::places::{Asked, Place, places};
 use office::record::Record;
-use office::warnings::{off_velocity, warnings};
+use office::warnings::{off_service, off_velocity, warnings};
 
 /// What the refused call was given.
 #[derive(Clone, Copy, Default)]
@@ -15,13 +16,14 @@ pub struct Given<'a> {
     pub job: Option<&'a Source>,
     pub cat: Option<&'a Source>,
     pub sizes: &'a [u8],
+    pub meters: Option<&'a Source>,
 }
 
 impl Given<'_> {
     fn places(&self, refusal: &Refusal) -> Vec<Place> {
         let bytes = |source: Option<&Source>| source.map_or(Vec::new(), |source| source.bytes.clone());
-        let (job, cat) = (bytes(self.job), bytes(self.cat));
-        places(refusal, &Asked { job: &job, cat: &cat, sizes: self.sizes })
+        let (job, cat, meters) = (bytes(self.job), bytes(self.cat), bytes(self.meters));
+        places(refusal, &Asked { job: &job, cat: &cat, sizes: self.sizes, meters: &meters })
     }
 
     /// The file that a place lies in, and its line where the file is readable.
@@ -29,6 +31,7 @@ impl Given<'_> {
         let source = match at {
             At::Catalogue | At::Size(_) | At::Row(..) => self.cat,
             At::List | At::Entry(_) => None,
+            At::Meters | At::Meter(_) => self.meters,
             _ => self.job,
         }?;
         Some((source.name.as_str(), source.lines.of(at)))
@@ -62,12 +65,17 @@ impl Given<'_> {
         ])
     }
 
-    /// What is nearly always a slip in the house or in the table, although the library takes it.
+    /// What is nearly always a slip in the house, the table or the list of meters, although the library takes it.
     fn warnings(&self) -> Vec<Place> {
         let record = self.job.and_then(|job| Record::read(&job.bytes).ok());
         let catalogue = self.cat.and_then(|cat| Catalogue::read(&cat.bytes).ok());
-        let of_house = record.iter().flat_map(warnings);
-        of_house.chain(catalogue.iter().filter_map(off_velocity)).collect()
+        // Bytes that are no list of meters have a refusal, and nothing that they hold is a slip.
+        let meters = self.meters.filter(|meters| meter::is_list(&meters.bytes));
+        let meters = meters.and_then(|meters| meter::read(&meters.bytes).ok());
+        let mut found: Vec<Place> = record.iter().flat_map(warnings).collect();
+        found.extend(catalogue.as_ref().and_then(off_velocity));
+        found.extend(meters.as_deref().and_then(off_service));
+        found
     }
 
     /// The warnings for people.
@@ -90,12 +98,16 @@ impl Given<'_> {
 impl Given<'_> {
     /// A line for each file that has no bytes at all: what was meant is a file to fill in, and no record of no bytes.
     fn empty(&self) -> String {
-        let sources = [(self.job, "house"), (self.cat, "table")];
-        let empty =
-            sources.iter().filter_map(|(source, what)| Some((source.filter(|own| own.bytes.is_empty())?, what)));
-        empty
-            .map(|(own, what)| format!("{} is empty; `office new {what}` gives a {what} to start from\n", own.name))
-            .collect()
+        let sources = [
+            (self.job, "house", "a house"),
+            (self.cat, "table", "a table"),
+            (self.meters, "meters", "a list of meters"),
+        ];
+        let empty = |(source, what, one): &(Option<&Source>, &str, &str)| {
+            let name = &source.filter(|own| own.bytes.is_empty())?.name;
+            Some(format!("{name} is empty; `office new {what}` gives {one} to start from\n"))
+        };
+        sources.iter().filter_map(empty).collect()
     }
 }
 

@@ -3,7 +3,7 @@
 use super::charts::{chart, words};
 use super::new;
 use office::measure::Quantity;
-use office::{Refusal, house, table};
+use office::{Refusal, house, meters, table};
 
 pub struct Topic {
     pub name: &'static str,
@@ -12,7 +12,7 @@ pub struct Topic {
 }
 
 pub const TOPICS: &[Topic] = &[
-    Topic { name: "files", brief: "the two readable files, with an example of each", text: files },
+    Topic { name: "files", brief: "the three readable files, with an example of each", text: files },
     Topic { name: "refusals", brief: "what the library refuses, by number", text: refusals },
 ];
 
@@ -27,13 +27,17 @@ fn files() -> String {
         indented(new::TABLE),
         COLUMNS.to_string(),
         listed(&table::quantities()),
+        METERS.to_string(),
+        indented(new::METERS),
+        OF_METERS.to_string(),
+        listed(&meters::quantities()),
     ]
     .join("\n")
 }
 
 const FILES: &str = "\
-A house and a table of pipe sizes are plain text, from any editor or saved by a spreadsheet. `office new house` and
-`office new table` give the examples below as files to start from.
+A house, a table of pipe sizes and a list of meters are plain text, from any editor or saved by a spreadsheet. `office new
+house`, `office new table` and `office new meters` give the examples below as files to start from.
 
 Behind # stands a comment, to the end of the line. How many blanks stand between words doesn't matter, nor do small and
 capital letters. A number has a point before decimals and nothing between thousands; one with a comma is refused. A unit is
@@ -56,6 +60,15 @@ const COLUMNS: &str = "\
 Columns stand in any order, parted by commas, semicolons or tabs; a column `notes` is skipped. Sizes are numbered from the
 narrowest bore on, from 1 without a gap, and all have equally many rows. In a size the flows rise from row to row, and
 velocities and slopes don't fall. All numbers are whole.
+";
+
+const METERS: &str = "\
+A list of meters has a header too, and below it one line for each meter, 1 to 8:
+";
+
+const OF_METERS: &str = "\
+Columns stand in any order; `name` may be left out, and a column `notes` is skipped. A type is vane or turbine. A resistance has
+up to four decimals; one that is finer is refused and not rounded. A service flow is whole: 6.4 m3/h are 6400 l/h.
 ";
 
 /// Quantities with what the library takes, and with their units where these stand behind the number.

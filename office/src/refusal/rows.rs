@@ -253,7 +253,8 @@ pub const ROWS: &[Row] = &[
         ],
         remedies: &[
             "Look whether the files are in their order: the house first, then the meters.",
-            "Write the list as a readable table, with the meters that may be had for this house.",
+            "Write the list as a readable one, with the meters that may be had for this house; `office new meters` gives one to \
+             start from.",
             "Correct the meter that is named.",
         ],
     },
@@ -270,6 +271,7 @@ pub const ROWS: &[Row] = &[
         remedies: &[
             "Add larger meters to the list: they lose less and have a greater service flow.",
             "Look at the limit that each meter breaks, and by how much.",
+            "Where no list can hold a meter for the house, write the loss of the one that is fitted into the house.",
         ],
     },
 ];

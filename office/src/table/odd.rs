@@ -1,7 +1,7 @@
 //! Lines above the header that only an odd catalogue has: those that are not what packing would write.
 
-use super::cells::Cells;
 use crate::catalogue::{Catalogue, Size};
+use crate::cells::Cells;
 use crate::measure;
 use crate::mistake::Mistake;
 

@@ -1,22 +1,17 @@
 //! The rows of a table, gathered into sizes.
 
-use super::COLUMNS;
-use super::cells::Cells;
-use super::header::Columns;
+use super::FORM;
 use crate::at::{At, Lines};
 use crate::catalogue::{Row, Size};
-use crate::measure::{self, Measure, Quantity};
+use crate::cells::Cells;
+use crate::header::Columns;
+use crate::measure::{self, Quantity};
 use crate::mistake::{Mistake, Mistakes};
 use std::collections::BTreeMap;
 
-/// What stands under each of `COLUMNS`.
-const MEASURES: [&Measure; COLUMNS.len()] =
-    [&measure::SIZE, &measure::BORE, &measure::PRICE, &measure::FLOW, &measure::SPEED, &measure::SLOPE];
-
 /// The quantities of the columns, and the count of rows that a size has.
 pub fn quantities() -> impl Iterator<Item = Quantity> {
-    let columns = COLUMNS.iter().zip(MEASURES).map(|(column, measure)| Quantity::new(column, measure));
-    columns.chain([Quantity::new("rows of a size", &measure::ROWS)])
+    FORM.quantities().chain([Quantity::new("rows of a size", &measure::ROWS)])
 }
 
 /// The sizes read so far, with the lines of their rows and, for messages, the first line.
@@ -50,7 +45,7 @@ impl Under<'_, '_> {
     }
 
     fn number(&self, column: usize) -> Result<i64, Mistake> {
-        self.line.number(self.columns.places[column], COLUMNS[column], MEASURES[column])
+        self.columns.number(self.line, &FORM, column)
     }
 
     /// The number, or a mistake that is noted.
@@ -63,10 +58,7 @@ impl Given {
     /// Takes one row. Rows of a size keep their order; the sizes may come in any.
     pub fn take(&mut self, line: &Cells, columns: &Columns, mistakes: &mut Mistakes) {
         let row = Under { line, columns };
-        if let Some(cell) = line.cells.iter().enumerate().find(|(at, cell)| !columns.covers(*at) && !cell.is_empty()) {
-            let expected = "as many cells as the header has";
-            mistakes.add(line.mistake(format!("`{}` stands under no column", cell.1), expected));
-        }
+        mistakes.extend(columns.stray(line));
         let size = match self.size(&row) {
             Ok(size) => size,
             Err(mistake) => {
@@ -109,7 +101,7 @@ impl Given {
         for (column, stated) in (1..).zip(part.stated).filter(|(column, _)| !row.empty(*column)) {
             let Some((value, kept)) = row.noted(column, mistakes).zip(stated) else { continue };
             if value != kept {
-                let name = COLUMNS[column];
+                let name = FORM.columns[column].title;
                 let wrong = format!("size {size} has another {name} here than on line {}", part.lines[0]);
                 let expected = format!("{kept}, or the cell left empty; another size has its own number");
                 mistakes.add(row.line.mistake(wrong, expected));

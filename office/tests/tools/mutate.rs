@@ -1,7 +1,8 @@
-//! Texts of houses and tables from a seed: sound ones in several forms, and the same with some letters, words or lines changed.
+//! Texts of houses, tables and lists of meters from a seed: sound ones in several forms, and the same with some letters, words
+//! or lines changed.
 
 use office::case::Call;
-use office::{generate, house, table};
+use office::{generate, house, meters, table};
 
 /// A small generator of numbers, the same in each run.
 pub struct Dice(pub u64);
@@ -88,15 +89,40 @@ const PIECES: &[&str] = &[
     "\u{0}",
     "\u{1b}[31m",
     "é",
+    "vane",
+    "turbine",
+    "type",
+    "name",
+    "resistance m/(l/s)2",
+    "²",
+    "l/h",
+    "0.5",
     "=",
     "''",
     "/",
 ];
 
-/// The example houses and tables, and those of the made-up orders as `show` writes them.
+/// A made-up list of meters as `show` writes it, most of them such as the library takes, at times with names.
+fn list(dice: &mut Dice) -> String {
+    let mut bytes: Vec<u8> = (0..5 * (1 + dice.below(9))).map(|_| dice.next() as u8).collect();
+    if dice.below(4) > 0 {
+        bytes.iter_mut().step_by(5).for_each(|design| *design = 1 + *design % 2);
+    }
+    let text = meters::show(&bytes).expect("whole meters");
+    if dice.below(2) == 0 {
+        return text;
+    }
+    let named = |(at, line): (usize, &str)| format!("{line},{}\n", if at == 0 { "name" } else { "DN 50" });
+    text.lines().enumerate().map(named).collect()
+}
+
+/// The examples, made-up lists of meters, and the houses and tables of the made-up orders as `show` writes them.
 pub fn sound(dice: &mut Dice, examples: &[String]) -> String {
     if dice.below(3) == 0 {
         return dice.pick(examples).clone();
+    }
+    if dice.below(4) == 0 {
+        return list(dice);
     }
     loop {
         let case = generate::case(21, dice.next() % 20_000);
@@ -112,14 +138,15 @@ pub fn sound(dice: &mut Dice, examples: &[String]) -> String {
 
 /// The same text in another form that means the same.
 pub fn dressed(dice: &mut Dice, text: &str) -> String {
-    let is_table = text.contains("bore mm");
+    let is_table = text.contains("bore mm") || text.contains("service flow");
     match dice.below(12) {
         0 => text.replace('\n', "\r\n"),
         1 => text.replace('\n', "\r"),
         2 if is_table => text.replace(',', ";"),
         3 if is_table => text.replace(',', "\t"),
         4 if is_table => format!("sep=;\n{}", text.replace(',', ";")),
-        5 if is_table => text.replace("bore mm", "bore (mm)").replace("flow ml/s", "Flow [ml/s]"),
+        5 if text.contains("bore mm") => text.replace("bore mm", "bore (mm)").replace("flow ml/s", "Flow [ml/s]"),
+        5 if is_table => text.replace("m/(l/s)2", "(m/(l/s)²)").replace("flow l/h", "Flow [л/ч]"),
         2 => text.replace("hours ", "hours: ").replace(" cm", "cm"),
         3 => text.replace(" cm", " см").replace("mm/s", "мм/с"),
         4 => text.replace("section", "Section").replace(" from", ": from"),

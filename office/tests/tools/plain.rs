@@ -4,7 +4,7 @@
 
 use std::collections::BTreeMap;
 
-/// Fields by name: `hours`, `residents 7`, `section 3 length`, `size 2 row 1 flow`.
+/// Fields by name: `hours`, `residents 7`, `section 3 length`, `size 2 row 1 flow`, `meter 1 type`.
 pub type Fields = BTreeMap<String, i64>;
 
 const KINDS: &str = "none dwelling hostel-showers hostel-kitchens hotel-shared hotel-showers hotel-25 hotel-75 hotel-100 hospital \
@@ -66,7 +66,7 @@ fn plain_line(line: &[u8]) -> Option<String> {
     Some(content.to_lowercase())
 }
 
-/// Whether a part of a comment looks like a house's line or a table's row.
+/// Whether a part of a comment looks like a house's line, a table's row or a meter.
 fn is_a_line(part: &str) -> bool {
     let mut part = part.to_lowercase();
     while part.starts_with([' ', '\t']) {
@@ -75,7 +75,8 @@ fn is_a_line(part: &str) -> bool {
     let parted = part.chars().filter(|c| ",;\t".contains(*c)).count() >= 2;
     let fields = "local hours meter guaranteed delivered residents version";
     let words = fields.split(' ').chain(["velocity limit", "section ", "section\t", "stated length"]);
-    parted && "0123456789,;\"".contains(part.chars().next().unwrap_or('x'))
+    let meter = part.split([',', ';', '\t']).any(|cell| ["vane", "turbine"].contains(&cell.trim_matches([' ', '"'])));
+    parted && (meter || "0123456789,;\"".contains(part.chars().next().unwrap_or('x')))
         || words.into_iter().any(|w| part.starts_with(w))
 }
 
@@ -93,7 +94,7 @@ fn number(text: &str, decimals: usize, signed: bool) -> Option<i64> {
     let mut behind = String::new();
     if parts.len() == 2 {
         behind = parts[1].to_string();
-        if decimals == 0 || (behind.len() == 3 && decimals != 3) {
+        if decimals == 0 || (behind.len() == 3 && decimals < 3) {
             return None;
         }
         while behind.len() > decimals {
@@ -283,8 +284,18 @@ fn of_section(words: &[&str], fields: &mut Fields) -> Option<()> {
     Some(())
 }
 
-/// A table's fields: every separator is tried on the whole file, and one must fit.
+/// A table's fields.
 pub fn table(bytes: &[u8]) -> Option<Fields> {
+    parted(bytes, rows)
+}
+
+/// The fields of a list of meters.
+pub fn meters(bytes: &[u8]) -> Option<Fields> {
+    parted(bytes, list)
+}
+
+/// A file of cells: the separator that it names, or every one is tried on the whole file, and one must fit.
+fn parted(bytes: &[u8], rows: fn(&[String], char) -> Option<Fields>) -> Option<Fields> {
     let lines: Vec<String> = lines(bytes)?.into_iter().filter(|line| !line.trim().is_empty()).collect();
     let first = lines.first()?.trim_matches([' ', '"']);
     if let Some(named) = first.strip_prefix("sep=") {
@@ -429,4 +440,64 @@ fn whole_table(mut fields: Fields, counts: &BTreeMap<i64, i64>) -> Option<Fields
     fields.entry("version".to_string()).or_insert(1);
     fields.entry("stated length".to_string()).or_insert(7 + sizes * (4 + 8 * rows));
     Some(fields)
+}
+
+/// The column of a list of meters that a header's cell names: 0 type, 1 resistance, 2 service flow, 3 the name, 4 notes.
+fn column_of_list(cell: &str) -> Option<usize> {
+    let cell = cell.replace('²', "2").replace("^2", "2").replace("м/(л/с)2", "m/(l/s)2").replace("m/(l/s)2", "UNIT");
+    let mut plain = String::new();
+    for c in cell.chars() {
+        plain.push(if "()[],".contains(c) { ' ' } else { c });
+    }
+    match plain.split_whitespace().collect::<Vec<&str>>().as_slice() {
+        ["type"] => Some(0),
+        ["resistance", "UNIT"] => Some(1),
+        ["service", "flow", "l/h" | "л/ч"] => Some(2),
+        ["name"] => Some(3),
+        ["notes" | "note" | "remarks" | "remark" | "comments" | "comment"] => Some(4),
+        _ => None,
+    }
+}
+
+/// The header of a list and the meters below it.
+fn list(lines: &[String], separator: char) -> Option<Fields> {
+    let parted: Vec<Vec<String>> = lines.iter().map(|line| cells(line, separator)).collect();
+    let mut parted = parted.into_iter().filter(|line| line.iter().any(|cell| !cell.is_empty()));
+    let header = parted.next()?;
+    let columns: Option<Vec<usize>> =
+        header.iter().map(|cell| if cell.is_empty() { Some(5) } else { column_of_list(cell) }).collect();
+    let columns = columns?;
+    let count = |wanted: usize| columns.iter().filter(|column| **column == wanted).count();
+    ((0..3).all(|wanted| count(wanted) == 1) && count(3) <= 1).then_some(())?;
+    let numbers = columns.iter().position(|column| [1, 2].contains(column))?;
+    let mut fields = Fields::new();
+    let mut meters = 0;
+    for line in parted {
+        meters += 1;
+        let mut own = [""; 3];
+        for (place, cell) in line.iter().enumerate().filter(|(_, cell)| !cell.is_empty()) {
+            match columns.get(place) {
+                Some(column @ 0..=2) => own[*column] = cell,
+                Some(3 | 4) if separator == ',' && place > numbers && is_number(cell) => return None,
+                Some(3 | 4) => {}
+                _ => return None,
+            }
+        }
+        let design = match own[0] {
+            "vane" => 1,
+            "turbine" => 2,
+            other => plain(other).filter(|number| *number != 1 && *number != 2)?,
+        };
+        fields.insert(format!("meter {meters} type"), design);
+        fields.insert(format!("meter {meters} resistance"), number(own[1], 4, false).filter(|own| *own <= 65_535)?);
+        fields.insert(format!("meter {meters} service flow"), self::count(own[2], 65_535)?);
+    }
+    fields.insert("meters".to_string(), Some(meters).filter(|meters| *meters > 0)?);
+    Some(fields)
+}
+
+/// A number alone, as it stands behind a comma within a number.
+fn is_number(cell: &str) -> bool {
+    let digit = cell.chars().any(|c| c.is_ascii_digit());
+    digit && cell.chars().all(|c| c.is_ascii_digit() || c == '.' || c.is_whitespace())
 }

@@ -1,6 +1,6 @@
-//! The lines of a table, cell by cell.
+//! The lines of a table or of a list of meters, cell by cell.
 
-use super::{header, odd};
+use crate::header::{self, Form};
 use crate::measure::Measure;
 use crate::mistake::Mistake;
 use crate::readable::{self, TextLine};
@@ -9,12 +9,13 @@ use crate::readable::{self, TextLine};
 pub struct Cells<'a> {
     pub line: usize,
     text: &'a str,
+    content: &'a str,
     pub separator: char,
     pub cells: Vec<String>,
 }
 
 /// What may part cells, and how a message names it.
-const SEPARATORS: [(char, &str); 3] = [(';', "semicolons"), (',', "commas"), ('\t', "tabs")];
+pub const SEPARATORS: [(char, &str); 3] = [(';', "semicolons"), (',', "commas"), ('\t', "tabs")];
 
 /// The separator that a spreadsheet names in the file's first line, `sep=;`; `None` in it where it is no separator.
 pub fn named_separator(line: &TextLine) -> Option<Option<char>> {
@@ -25,9 +26,10 @@ pub fn named_separator(line: &TextLine) -> Option<Option<char>> {
     Some(separator.filter(|_| rest.as_str().is_empty()))
 }
 
-/// The one separator of a file, and how many lines stand before the table. The separator is what a first line `sep=;` names, or
-/// what parts the header into its six columns: with two separators in one file a number could be read as two.
-pub fn separator(text: &str) -> Result<(char, usize), Mistake> {
+/// The one separator of a file, and how many lines stand before its cells. The separator is what a first line `sep=;` names, or
+/// what parts the header into the columns of the form: with two separators in one file a number could be read as two. `above`
+/// knows the lines that may stand above the header.
+pub fn separator(text: &str, form: &Form, above: fn(&Cells) -> bool) -> Result<(char, usize), Mistake> {
     if let Some(first) = readable::lines(text).next()
         && let Some(named) = named_separator(&first)
     {
@@ -36,10 +38,10 @@ pub fn separator(text: &str) -> Result<(char, usize), Mistake> {
         return named.map(|c| (c, 1)).ok_or_else(|| line.mistake("`sep=` names no separator of a table", expected));
     }
     let known = |line: &TextLine| {
-        !SEPARATORS.iter().any(|(c, _)| odd::knows(&Cells::of(line, *c)) || !Cells::of(line, *c).is_filled())
+        !SEPARATORS.iter().any(|(c, _)| above(&Cells::of(line, *c)) || !Cells::of(line, *c).is_filled())
     };
     let Some(line) = readable::lines(text).find(known) else { return Ok((',', 0)) };
-    let whole = SEPARATORS.iter().find(|(c, _)| header::complete(&Cells::of(&line, *c)));
+    let whole = SEPARATORS.iter().find(|(c, _)| header::complete(&Cells::of(&line, *c), form));
     // A header with a mistake in it is read by the first separator that it has, so that the mistake can be named.
     let found = whole.or_else(|| SEPARATORS.iter().find(|(c, _)| line.content.contains(*c)));
     Ok((found.map_or(',', |(c, _)| *c), 0))
@@ -62,7 +64,7 @@ fn parts(line: &str, separator: char) -> Vec<&str> {
     found
 }
 
-/// The rows below a header that begin with a note and the note with `#`: a comment to the format, a row to its author.
+/// The rows below a header that begin with a name or a note and that with `#`: a comment to the format, a row to its author.
 pub fn hidden<'a>(text: &'a str, header: &Cells) -> impl Iterator<Item = Mistake> + use<'a> {
     let (from, separator) = (header.line, header.separator);
     let row = move |line: &str| {
@@ -70,8 +72,8 @@ pub fn hidden<'a>(text: &'a str, header: &Cells) -> impl Iterator<Item = Mistake
         line.split_once('#').is_some_and(|(front, behind)| nothing(front) && behind.contains(separator))
     };
     let mistake = |line: usize, text: &str| {
-        let wrong = "`#` begins a comment here, and the header's first column is for notes: it may be a row";
-        Mistake::on(line, text, wrong, "no # in front of a note; a comment without the separator of cells")
+        let wrong = "`#` begins a comment here, and the header's first column is for words: it may be a row";
+        Mistake::on(line, text, wrong, "no # in front of a name or a note; a comment without the separator of cells")
     };
     text.lines().zip(1..).skip(from).filter(move |(text, _)| row(text)).map(move |(text, line)| mistake(line, text))
 }
@@ -79,10 +81,15 @@ pub fn hidden<'a>(text: &'a str, header: &Cells) -> impl Iterator<Item = Mistake
 /// No cell that is read is as long; one that is longer is cut for messages and is no number any more.
 const LONGEST_CELL: usize = 60;
 
-/// A cell without the blanks and the quotation marks around it, in lower case.
-fn cell(text: &str) -> String {
+/// A cell without the blanks and the quotation marks around it.
+fn bare(text: &str) -> &str {
     let text = text.trim();
-    let bare = text.strip_prefix('"').and_then(|text| text.strip_suffix('"')).unwrap_or(text).trim();
+    text.strip_prefix('"').and_then(|text| text.strip_suffix('"')).unwrap_or(text).trim()
+}
+
+/// A cell as it is read, in lower case.
+fn cell(text: &str) -> String {
+    let bare = bare(text);
     match bare.char_indices().nth(LONGEST_CELL) {
         Some((at, _)) => format!("{}...", &bare[..at]).to_lowercase(),
         None => bare.to_lowercase(),
@@ -92,7 +99,7 @@ fn cell(text: &str) -> String {
 impl<'a> Cells<'a> {
     pub fn of(line: &TextLine<'a>, separator: char) -> Cells<'a> {
         let cells = parts(line.content, separator).into_iter().map(cell).collect();
-        Cells { line: line.number, text: line.text, separator, cells }
+        Cells { line: line.number, text: line.text, content: line.content, separator, cells }
     }
 
     /// Whether any cell holds something.
@@ -114,20 +121,28 @@ impl<'a> Cells<'a> {
         self.cells.get(place).map_or("", String::as_str)
     }
 
-    /// The whole number at a place, up to what its bytes hold.
+    /// The cell at a place as its author wrote it, for people.
+    pub fn written(&self, place: usize) -> &'a str {
+        parts(self.content, self.separator).get(place).map_or("", |cell| bare(cell))
+    }
+
+    /// The number at a place in the bytes' own unit, up to what they hold.
     pub fn number(&self, place: usize, what: &str, measure: &Measure) -> Result<i64, Mistake> {
-        let text = self.at(place);
-        let expected = measure.whole();
+        let (text, power) = (self.at(place), measure.decimals());
         if text.is_empty() {
-            return Err(self.mistake(format!("`{what}` is empty"), expected));
+            return Err(self.mistake(format!("`{what}` is empty"), measure.whole()));
         }
-        let value = measure.number(text, 0).map_err(|fault| {
-            let (wrong, expected) = measure.fault(fault, what, text, 0);
+        let value = measure.number(text, power).map_err(|fault| {
+            let (wrong, expected) = measure.fault(fault, what, text, power);
             self.mistake(wrong, self.parted(text, expected))
         })?;
         match measure.holds(value) {
             true => Ok(value),
-            false => Err(self.mistake(format!("`{what}` {text} is more than its bytes can hold"), expected)),
+            false => {
+                let over = measure.over(value);
+                let wrong = format!("`{what}` {text} is {over} more than its bytes can hold");
+                Err(self.mistake(wrong, measure.whole()))
+            }
         }
     }
 

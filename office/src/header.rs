@@ -1,0 +1,171 @@
+//! The header of a file of cells: which column stands where.
+
+use crate::cells::Cells;
+use crate::measure::{Measure, Quantity, latin};
+use crate::mistake::{Mistake, Mistakes};
+
+/// A column that a format has, as the header has it: its name and behind that its unit, if it has one.
+pub struct Column {
+    pub title: &'static str,
+    unit: &'static str,
+    /// What is measured below it; words have none.
+    measure: Option<&'static Measure>,
+}
+
+impl Column {
+    /// A column of numbers; its title ends in its unit.
+    pub const fn of(title: &'static str, unit: &'static str, measure: &'static Measure) -> Column {
+        Column { title, unit, measure: Some(measure) }
+    }
+
+    /// A column of words.
+    pub const fn words(title: &'static str) -> Column {
+        Column { title, unit: "", measure: None }
+    }
+
+    fn name(&self) -> &'static str {
+        self.title.strip_suffix(self.unit).unwrap_or(self.title).trim_end()
+    }
+}
+
+/// What a file of cells has: what it is called, its columns in the order in which they are shown, and how a column is called
+/// that names a row for people; none where rows have no names.
+pub struct Form {
+    pub what: &'static str,
+    pub columns: &'static [Column],
+    pub name: Option<&'static str>,
+}
+
+impl Form {
+    /// The header line with its cells parted so.
+    pub fn header(&self, separator: char) -> String {
+        self.columns.iter().map(|column| column.title).collect::<Vec<_>>().join(&separator.to_string())
+    }
+
+    /// What the columns of numbers measure.
+    pub fn quantities(&self) -> impl Iterator<Item = Quantity> {
+        self.columns.iter().filter_map(|column| Some(Quantity::new(column.title, column.measure?)))
+    }
+
+    /// The header and what may stand beside it, for a message.
+    fn expected(&self, separator: char) -> String {
+        let named = self.name.map_or(String::new(), |name| format!("a column `{name}` names the rows, "));
+        format!("`{}`; {named}a column `notes` is skipped", self.header(separator))
+    }
+}
+
+/// The places of a form's columns in its own order, of the names, and of the columns that are skipped.
+pub struct Columns {
+    pub places: Vec<usize>,
+    pub name: Option<usize>,
+    notes: Vec<usize>,
+}
+
+impl Columns {
+    /// The places of names and notes, which hold any words.
+    pub fn words(&self) -> impl Iterator<Item = usize> {
+        self.name.into_iter().chain(self.notes.iter().copied())
+    }
+
+    /// Whether a name or a note can be the first thing in a row.
+    pub fn begin_with_words(&self) -> bool {
+        self.words().any(|words| self.places.iter().all(|place| words < *place))
+    }
+
+    /// The number that a row has under a column of numbers.
+    pub fn number(&self, row: &Cells, form: &Form, column: usize) -> Result<i64, Mistake> {
+        let Column { title, measure, .. } = &form.columns[column];
+        let measure = measure.expect("a column of numbers");
+        row.number(self.places[column], title, measure)
+    }
+
+    /// A cell of a row that no column stands over.
+    pub fn stray(&self, row: &Cells) -> Option<Mistake> {
+        let covered = |place: usize| self.places.contains(&place) || self.words().any(|words| words == place);
+        let mut cells = row.cells.iter().enumerate();
+        let (_, cell) = cells.find(|(place, cell)| !covered(*place) && !cell.is_empty())?;
+        let comma = if row.separator == ',' { "; a comma within a number makes two cells of it" } else { "" };
+        let expected = format!("as many cells as the header has{comma}");
+        Some(row.mistake(format!("`{cell}` stands under no column"), expected))
+    }
+}
+
+/// What a column may be called that is for people alone.
+const NOTES: [&str; 6] = ["notes", "note", "remarks", "remark", "comments", "comment"];
+
+/// A header's cell as the format has it: a unit may stand in brackets or behind a comma, in Cyrillic letters, and with its power
+/// raised. The brackets within a unit are its own.
+fn plain(cell: &str) -> String {
+    let level = cell.replace('²', "2").replace("^2", "2");
+    let whole = level.replace("м/(л/с)2", "m/(l/s)2").replace("m/(l/s)2", "m/{l/s}2");
+    let words = whole.split(|c: char| c.is_whitespace() || "()[],".contains(c)).filter(|word| !word.is_empty());
+    words.map(latin).collect::<Vec<_>>().join(" ")
+}
+
+/// Whether a line is a header with all columns of the form.
+pub fn complete(line: &Cells, form: &Form) -> bool {
+    columns(line, form).1.is_empty()
+}
+
+/// How many cells of a line begin as the form's columns do.
+pub fn likeness(line: &Cells, form: &Form) -> usize {
+    line.cells.iter().filter(|cell| meant(&plain(cell), form).is_some()).count()
+}
+
+/// The columns of a header line, and all that is wrong with it. Where it can be told which column each is meant for, the rows
+/// can be read for their own mistakes too.
+pub fn columns(line: &Cells, form: &Form) -> (Option<Columns>, Mistakes) {
+    let names: Vec<String> = line.cells.iter().map(|cell| plain(cell)).collect();
+    let expected = form.expected(line.separator);
+    let mut mistakes = Mistakes::default();
+    let (mut notes, mut named) = (Vec::new(), Vec::new());
+    let mut places: Vec<Vec<usize>> = form.columns.iter().map(|_| Vec::new()).collect();
+    for (place, name) in names.iter().enumerate().filter(|(_, name)| !name.is_empty()) {
+        let known = form.columns.iter().position(|column| plain(column.title) == *name);
+        if NOTES.contains(&name.as_str()) {
+            notes.push(place);
+        } else if form.name == Some(name.as_str()) {
+            named.push(place);
+        } else if let Some(column) = known {
+            places[column].push(place);
+        } else {
+            let (wrong, meant) = unknown(name, &line.cells[place], form);
+            mistakes.add(line.mistake(wrong, expected.clone()));
+            places[meant.unwrap_or(0)].extend(meant.map(|_| place));
+        }
+    }
+    for (column, places) in form.columns.iter().map(|column| column.title).zip(&places) {
+        if places.is_empty() {
+            mistakes.add(line.mistake(format!("the header has no column `{column}`"), expected.clone()));
+        }
+        mistakes.extend(twice(line, column, places, &expected));
+    }
+    mistakes.extend(form.name.and_then(|name| twice(line, name, &named, &expected)));
+    let each = places.iter().all(|places| places.len() == 1);
+    let places = places.into_iter().flatten().collect();
+    (each.then(|| Columns { places, name: named.first().copied(), notes }), mistakes)
+}
+
+/// A column that stands at several places.
+fn twice(line: &Cells, column: &str, places: &[usize], expected: &str) -> Option<Mistake> {
+    (places.len() > 1).then(|| line.mistake(format!("the column `{column}` is there twice"), expected))
+}
+
+/// The column that a header's cell is likely meant for: the one with the same first word.
+fn meant(name: &str, form: &Form) -> Option<usize> {
+    let first = |words: &str| words.split(' ').next().map(String::from);
+    form.columns.iter().position(|column| first(column.title) == first(name))
+}
+
+/// A name that is no column's: what is wrong, and the column that it is likely meant for.
+fn unknown(name: &str, cell: &str, form: &Form) -> (String, Option<usize>) {
+    let meant = meant(name, form);
+    let wrong = format!("`{cell}` is no column of a {}", form.what);
+    let wrong = match meant.map(|column| &form.columns[column]) {
+        None => wrong,
+        Some(column) if column.unit.is_empty() => format!("{wrong}; `{}` is", column.title),
+        Some(column) if name == column.name() => format!("{wrong}: its unit, {}, is missing", column.unit),
+        Some(column) => format!("{wrong}: the {} is in {}", column.name(), column.unit),
+    };
+    (wrong, meant)
+}
