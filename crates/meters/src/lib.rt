@@ -95,6 +95,7 @@ pub fn winner(list: &[u8], q: u32, mean: u32) -> usize
 {
     let count = list.len() / 5;
     let mut place: usize = 0;
+    // Over every loss that qualifies.
     let mut least: u32 = 501;
     let mut t: usize = 1;
     while t <= count {
