@@ -67,9 +67,10 @@ impl Columns {
         self.name.into_iter().chain(self.notes.iter().copied())
     }
 
-    /// Whether a name or a note can be the first thing in a row.
-    pub fn begin_with_words(&self) -> bool {
-        self.words().any(|words| self.places.iter().all(|place| words < *place))
+    /// Whether a row may begin with something else than one of the form's own columns: a name, a note, or a cell under an empty
+    /// one of the header.
+    pub fn begin_otherwise(&self) -> bool {
+        !self.places.contains(&0)
     }
 
     /// The number that a row has under a column of numbers.

@@ -39,7 +39,7 @@ impl Given {
         // Of a list that is far too long no more is told than which meter is the first too many.
         if self.meters.len() <= meter::MOST + 1 {
             self.lines.note(At::Meter(self.meters.len()), row.line);
-            self.names.push(columns.name.map_or(String::new(), |place| echo::shown(row.written(place))));
+            self.names.push(columns.name.map_or(String::new(), |place| echo::shown(&row.written(place))));
         }
     }
 

@@ -306,27 +306,29 @@ fn parted(bytes: &[u8], rows: fn(&[String], char) -> Option<Fields>) -> Option<F
     [';', ',', '\t'].into_iter().find_map(|separator| rows(&lines, separator))
 }
 
-/// The cells of a line, by a walk over its characters.
-fn cells(line: &str, separator: char) -> Vec<String> {
+/// The cells of a line, by a walk over its characters; nothing where a quotation mark is not closed.
+fn cells(line: &str, separator: char) -> Option<Vec<String>> {
     let mut found = vec![String::new()];
-    let mut quoted = false;
     for c in line.chars() {
         let last = found.last_mut().expect("one cell at least");
-        if c == '"' && (quoted || last.trim().is_empty()) {
-            quoted = !quoted;
-            last.push(c);
-        } else if c == separator && !quoted {
+        if c == separator && !is_open(last) {
             found.push(String::new());
         } else {
             last.push(c);
         }
     }
-    found.iter().map(|cell| bare(cell.trim())).collect()
+    let closed = found.last().is_some_and(|last| !is_open(last));
+    closed.then(|| found.iter().map(|cell| bare(cell.trim())).collect())
+}
+
+/// Whether a cell begins with a quotation mark and the one that closes it is still to come.
+fn is_open(cell: &str) -> bool {
+    cell.trim_start().starts_with('"') && cell.chars().filter(|c| *c == '"').count() % 2 == 1
 }
 
 fn bare(cell: &str) -> String {
     let quoted = cell.len() > 1 && cell.starts_with('"') && cell.ends_with('"');
-    if quoted { cell[1..cell.len() - 1].trim().to_string() } else { cell.to_string() }
+    if quoted { cell[1..cell.len() - 1].trim().replace("\"\"", "\"") } else { cell.to_string() }
 }
 
 /// The column that a header's cell names: 0 to 5, or 6 for notes.
@@ -350,8 +352,8 @@ fn column(cell: &str) -> Option<usize> {
 
 fn rows(lines: &[String], separator: char) -> Option<Fields> {
     let mut fields = Fields::new();
-    let parted: Vec<Vec<String>> = lines.iter().map(|line| cells(line, separator)).collect();
-    let mut parted = parted.into_iter().filter(|line| line.iter().any(|cell| !cell.is_empty()));
+    let parted: Option<Vec<Vec<String>>> = lines.iter().map(|line| cells(line, separator)).collect();
+    let mut parted = parted?.into_iter().filter(|line| line.iter().any(|cell| !cell.is_empty()));
     let mut header = parted.next()?;
     while let Some((name, most)) = odd(&header) {
         let value = count(&header[1], most)?;
@@ -461,8 +463,8 @@ fn column_of_list(cell: &str) -> Option<usize> {
 
 /// The header of a list and the meters below it.
 fn list(lines: &[String], separator: char) -> Option<Fields> {
-    let parted: Vec<Vec<String>> = lines.iter().map(|line| cells(line, separator)).collect();
-    let mut parted = parted.into_iter().filter(|line| line.iter().any(|cell| !cell.is_empty()));
+    let parted: Option<Vec<Vec<String>>> = lines.iter().map(|line| cells(line, separator)).collect();
+    let mut parted = parted?.into_iter().filter(|line| line.iter().any(|cell| !cell.is_empty()));
     let header = parted.next()?;
     let columns: Option<Vec<usize>> =
         header.iter().map(|cell| if cell.is_empty() { Some(5) } else { column_of_list(cell) }).collect();
