@@ -148,6 +148,11 @@ impl<'a> Cells<'a> {
         parts(self.content, self.separator).get(place).map_or("".into(), |cell| bare(cell))
     }
 
+    /// Whether the cell at a place stands between quotation marks.
+    pub fn is_quoted(&self, place: usize) -> bool {
+        parts(self.content, self.separator).get(place).is_some_and(|cell| cell.trim_start().starts_with('"'))
+    }
+
     /// A quotation mark that is open at the line's end. To a spreadsheet its cell goes on in the next line, which is no row then.
     fn unclosed(&self) -> Option<Mistake> {
         let parts = parts(self.content, self.separator);

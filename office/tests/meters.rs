@@ -99,7 +99,7 @@ fn what_can_mean_one_thing_is_taken() {
         put(TWO, "turbine", "# vane,1.3,4000\nturbine"),
         "name,type,resistance m/(l/s)2,service flow l/h\n40,vane,0.5,6400\n50,turbine,0.143,12000\n".to_string(),
         "type;resistance m/(l/s)2;service flow l/h;name\nvane;0.5;6400;40\nturbine;0.143;12000;50\n".to_string(),
-        "type,notes,resistance m/(l/s)2,service flow l/h,remark\nvane,7,0.5,6400,-\nturbine,,0.143,12000,2 pcs\n"
+        "type,notes,resistance m/(l/s)2,service flow l/h,remark\nvane,7,0.5,6400,-\nturbine,,0.143,12000,pcs 2\n"
             .to_string(),
     ];
     for text in texts {
@@ -183,28 +183,6 @@ fn mistakes_name_their_line_and_what_is_wrong() {
     let decimal = first(&put(TWO, "0.5", "0,5").replace(',', ";").replace("0;5", "0,5"));
     assert_eq!(decimal.wrong, "`0,5` for `resistance m/(l/s)2` has a comma");
     assert!(decimal.expected.ends_with("cells are parted by semicolons, as in the file's first line"), "{decimal}");
-}
-
-/// With a comma in a number the cells behind it move on by one, and the last of them may fall under a name or a note.
-#[test]
-fn a_comma_in_a_number_pushes_no_cell_into_a_name() {
-    for column in ["name", "notes"] {
-        let header = format!("type,resistance m/(l/s)2,service flow l/h,{column}\n");
-        for row in ["vane,1,3,4000", "vane,1,3,4000,", "vane,1.3,4,000", "vane,1.3,4,0.5", "turbine,0,143,12 000"] {
-            let mistake = first(&format!("{header}{row}\n"));
-            assert!(mistake.wrong.contains("a comma may stand in one of these"), "{row}: {mistake}");
-            assert_eq!(mistake.line.map(|(line, _)| line), Some(2), "{row}");
-        }
-        let named = first(&format!("{header}vane,1,3,4000,DN 32\n"));
-        assert!(named.wrong.contains("`dn 32` stands under no column"), "{named}");
-    }
-    // A name that begins with # would be a comment, and its meter would be gone without a word.
-    let hidden = "name,type,resistance m/(l/s)2,service flow l/h\n#4,vane,0.5,6400\nDN 50,turbine,0.143,12000\n";
-    let mistake = first(hidden);
-    assert!(mistake.wrong.contains("it may be a row"), "{mistake}");
-    let hidden = put(TWO, "\nturbine", " # old\u{2028}turbine");
-    let ran = office_with(&["pack", "-"], hidden.as_bytes());
-    assert!(ran.status == 2 && ran.error.contains("show as a line of its own, `turbine,0.143"), "{}", ran.error);
 }
 
 /// Document 01's own case has 2,052 ml/s and a mean hour of 740 l/h; 2,052 × 2,052 is 4,210,704. Resistance in ten-thousandths

@@ -35,6 +35,121 @@ fn names(header: &str, rows: &str) -> Vec<String> {
     meters::read(&text).unwrap_or_else(|mistakes| panic!("{text}{mistakes}")).names
 }
 
+/// With a comma in a number the cells behind it move on by one, and the last of them may fall under a name or a note.
+#[test]
+fn a_comma_in_a_number_pushes_no_cell_into_a_name() {
+    for column in ["name", "notes"] {
+        let header = format!("type,resistance m/(l/s)2,service flow l/h,{column}");
+        for row in ["vane,1,3,4000", "vane,1,3,4000,", "vane,1.3,4,000", "vane,1.3,4,0.5", "turbine,0,143,12 000"] {
+            let mistake = only(&header, row);
+            assert!(mistake.wrong.contains("a comma may stand in one of these"), "{row}: {mistake}");
+            assert_eq!(line(&mistake), Some(2), "{row}");
+        }
+        assert_eq!(mistakes(&header, "vane,1,3,4000,DN 32").list[0].wrong, "`dn 32` stands under no column");
+    }
+}
+
+const RESISTANCE_LAST: &str = "type,service flow l/h,resistance m/(l/s)2,name";
+
+/// A header, a row below it, and the one number that two of its cells may be.
+type Joined = (&'static str, &'static str, &'static str);
+
+/// 1.3 would be taken as 1 and 2.64 as 2: a loss that is understated.
+#[test]
+fn words_behind_a_number_are_not_its_decimals() {
+    let cases: [Joined; 12] = [
+        (RESISTANCE_LAST, "vane,4000,1,3 DN 32", "1,3"),
+        (RESISTANCE_LAST, "vane,2800,2,64 DN 25", "2,64"),
+        (RESISTANCE_LAST, "vane,2800,2,64 m/(l/s)2", "2,64"),
+        (RESISTANCE_LAST, "vane,4000,1,3;", "1,3"),
+        (RESISTANCE_LAST, "vane,4000,1,3DN", "1,3"),
+        (RESISTANCE_LAST, "vane,4000,1, ~ 3 m", "1,3"),
+        ("type,service flow l/h,resistance m/(l/s)2,notes", "vane,4000,1,(3) new", "1,3"),
+        ("type,resistance m/(l/s)2,name,service flow l/h", "vane,1,3 DN 32,4000", "1,3"),
+        ("type,service flow l/h,resistance m/(l/s)2,notes,name", "vane,4000,1,3 m,DN 32", "1,3"),
+        (HEADER, "vane,1.3,4,000 DN 32", "4,000"),
+        (HEADER, "vane,1.3,4,0 m3/h", "4,0"),
+        (HEADER, "vane,1.3,4000,1 1/2\"", "4000,1"),
+    ];
+    for (header, row, one) in cases {
+        let mistake = only(header, row);
+        let wanted = format!(" stands right behind a number without a point: the two may be one, {one}");
+        assert!(mistake.wrong.ends_with(&wanted), "{row}: {mistake}");
+        let ran = office_with(&["meter", OWN, "-"], format!("{header}\n{row}\n").as_bytes());
+        assert_eq!((ran.status, ran.output.len()), (2, 0), "{row}");
+    }
+    let mistake = only(RESISTANCE_LAST, "vane,4000,1,3 DN 32");
+    for way in ["a point before decimals", "as `no 3 dn 32`", "quotation marks around it", "parted by semicolons"] {
+        assert!(mistake.expected.contains(way), "{way}: {mistake}");
+    }
+    // A number alone may have been pushed there by any comma before it.
+    assert!(only(RESISTANCE_LAST, "vane,4000,1,~3").wrong.contains("a comma may stand in one of these"));
+}
+
+/// With the name left out 1.3 would be taken as 3 with the name 1, and 5.1 as 1: an understated loss again.
+#[test]
+fn words_before_a_number_are_not_its_front() {
+    let cases: [Joined; 8] = [
+        ("type,name,resistance m/(l/s)2,service flow l/h", "vane,1,3,4000", "1,3"),
+        ("type,name,resistance m/(l/s)2,service flow l/h", "vane,~5,1,4000", "5,1"),
+        ("type,name,resistance m/(l/s)2,service flow l/h", "vane,S=5,1,4000", "5,1"),
+        ("type,name,resistance m/(l/s)2,service flow l/h", "vane,DN 20 5,18,2000", "5,18"),
+        ("type,name,resistance m/(l/s)2,service flow l/h", "vane,40,1,4000", "40,1"),
+        ("type,name,notes,resistance m/(l/s)2,service flow l/h", "vane,DN 32,1,3,4000", "1,3"),
+        ("name,type,notes,resistance m/(l/s)2,service flow l/h", "DN 32,vane,1,3,4000", "1,3"),
+        ("type,name,service flow l/h,resistance m/(l/s)2", "vane,6,400,0.5", "6,400"),
+    ];
+    for (header, row, one) in cases {
+        let mistakes = mistakes(header, row);
+        let wanted = format!(" stands right before a number without a point: the two may be one, {one}");
+        assert!(mistakes.list[0].wrong.ends_with(&wanted), "{row}: {mistakes}");
+        assert_eq!(line(&mistakes.list[0]), Some(2), "{row}");
+    }
+    let mistake = only("type,name,resistance m/(l/s)2,service flow l/h", "vane,no 5,1,4000");
+    assert!(mistake.expected.contains("a letter behind its digits, as `no 5 a`, or quotation marks"), "{mistake}");
+}
+
+/// Resistance in ten-thousandths and service flow in l/h.
+#[test]
+fn words_that_can_be_no_part_of_a_number_are_taken() {
+    let name_first = "type,name,resistance m/(l/s)2,service flow l/h";
+    let cases: [(&str, &str, u16, u16); 17] = [
+        (HEADER, "vane,1.3,4000,DN 32", 13_000, 4_000),
+        (HEADER, "vane,1,4000,DN 32", 10_000, 4_000),
+        (HEADER, "vane,1.3,4000,no 3 DN 32", 13_000, 4_000),
+        (HEADER, "vane,1.3,4000,\"1 1/2\"\"\"", 13_000, 4_000),
+        (RESISTANCE_LAST, "vane,4000,1.3,1 1/2\"", 13_000, 4_000),
+        (RESISTANCE_LAST, "vane,4000,1.0,3 DN 32", 10_000, 4_000),
+        (RESISTANCE_LAST, "vane,4000,1,\"3 DN 32\"", 10_000, 4_000),
+        (name_first, "vane,1 1/2\",1.3,4000", 13_000, 4_000),
+        (name_first, "vane,1 1/2\",1,4000", 10_000, 4_000),
+        (name_first, "vane,DN 32,1,4000", 10_000, 4_000),
+        (name_first, "vane,40,0.5,6400", 5_000, 6_400),
+        (name_first, "vane,\"no 5\",1,4000", 10_000, 4_000),
+        (name_first, "vane,no 5 a,1,4000", 10_000, 4_000),
+        ("type,name,service flow l/h,resistance m/(l/s)2", "vane,DN 32,4000,1.3", 13_000, 4_000),
+        ("type;service flow l/h;resistance m/(l/s)2;name", "vane;4000;1;3 DN 32", 10_000, 4_000),
+        ("type\tservice flow l/h\tresistance m/(l/s)2\tname", "vane\t4000\t1\t3 DN 32", 10_000, 4_000),
+        ("type;name;resistance m/(l/s)2;service flow l/h", "vane;1;3;4000", 30_000, 4_000),
+    ];
+    for (header, row, resistance, service) in cases {
+        let ran = office_with(&["pack", "-"], format!("{header}\n{row}\n").as_bytes());
+        let wanted = [&[1][..], &resistance.to_be_bytes(), &service.to_be_bytes()].concat();
+        assert_eq!((ran.status, ran.output), (0, wanted), "{row}: {}", ran.error);
+    }
+}
+
+/// A name that begins with # would be a comment, and its meter would be gone.
+#[test]
+fn a_number_sign_before_a_name_hides_no_row() {
+    let rows = "#4,vane,0.5,6400\nDN 50,turbine,0.143,12000";
+    let mistake = only("name,type,resistance m/(l/s)2,service flow l/h", rows);
+    assert!(line(&mistake) == Some(2) && mistake.wrong.contains("it may be a row"), "{mistake}");
+    let hidden = format!("{HEADER}\nvane,0.5,6400 # old\u{2028}turbine,0.143,12000\n");
+    let ran = office_with(&["pack", "-"], hidden.as_bytes());
+    assert!(ran.status == 2 && ran.error.contains("show as a line of its own, `turbine,0.143"), "{}", ran.error);
+}
+
 /// What a spreadsheet takes for one cell with a line break in it would be two meters.
 #[test]
 fn a_quotation_mark_is_closed_in_its_line() {
