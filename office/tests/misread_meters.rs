@@ -213,3 +213,22 @@ fn a_number_sign_under_an_empty_header_hides_no_row() {
     let mistakes = table::pack(&table).expect_err("rows with a sign");
     assert!(mistakes.list[0].wrong.contains("it may be a row"), "{mistakes}");
 }
+
+/// What the header has wrong is said once, of the header.
+#[test]
+fn an_unknown_column_is_no_mistake_of_the_rows() {
+    let rows = "vane,1.3,4000,Zenner\nvane,0.5,6400,Itron";
+    let mistake = only("type,resistance m/(l/s)2,service flow l/h,maker", rows);
+    assert_eq!((line(&mistake), mistake.wrong.as_str()), (Some(1), "`maker` is no column of a list of meters"));
+    assert!(
+        mistake.expected.ends_with("a column `notes` is skipped; rename it `notes` if it is for people"),
+        "{mistake}"
+    );
+    let twice = only("type,resistance m/(l/s)2,service flow l/h,name,name", "vane,1.3,4000,DN 32,old");
+    assert_eq!(twice.wrong, "the column `name` is there twice");
+    // A row with more cells than the header, and a cell under an empty one of the header.
+    let longer = mistakes("type,resistance m/(l/s)2,service flow l/h,maker", "vane,1,3,4000,Zenner");
+    assert!(longer.list.iter().any(|mistake| mistake.wrong == "`zenner` stands under no column"), "{longer}");
+    let empty = only("type,resistance m/(l/s)2,service flow l/h,", "vane,1.3,4000,Zenner");
+    assert_eq!(empty.expected, "a name over the column, `notes` if it is for people");
+}
