@@ -1,7 +1,9 @@
 //! The lines of a table or of a list of meters, cell by cell.
 
+mod no_number;
+
 use crate::header::{self, Form};
-use crate::measure::Measure;
+use crate::measure::{Fault, Measure};
 use crate::mistake::{Mistake, Mistakes};
 use crate::readable::{self, TextLine};
 use std::borrow::Cow;
@@ -175,7 +177,7 @@ impl<'a> Cells<'a> {
             return Err(self.mistake(format!("`{what}` is empty"), measure.whole()));
         }
         let value = measure.number(text, power).map_err(|fault| {
-            let (wrong, expected) = measure.fault(fault, what, text, power);
+            let (wrong, expected) = of_fault(fault, what, text, measure);
             self.mistake(wrong, self.parted(text, expected))
         })?;
         match measure.holds(value) {
@@ -193,5 +195,16 @@ impl<'a> Cells<'a> {
         let other = SEPARATORS.iter().any(|(c, _)| text.contains(*c)) && !self.text.contains('"');
         let own = SEPARATORS.iter().find(|(c, _)| *c == self.separator).map_or("", |(_, name)| name);
         if other { format!("{expected}; cells are parted by {own}, as in the file's first line") } else { expected }
+    }
+}
+
+/// What is wrong with a cell's number, and what is expected: the number alone, since its unit stands in the header.
+fn of_fault(fault: Fault, what: &str, text: &str, measure: &Measure) -> (String, String) {
+    let example = format!("for example {}", measure.show(measure.example));
+    let (wrong, expected) = measure.fault(fault, what, text, measure.decimals(), &example);
+    match no_number::remark(text) {
+        _ if fault != Fault::NoNumber => (wrong, expected),
+        Some((why, written)) => (format!("{wrong}: {why}"), format!("{written}; {}", measure.whole())),
+        None => (wrong, format!("{}, {example}", measure.whole())),
     }
 }

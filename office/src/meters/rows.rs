@@ -106,8 +106,13 @@ fn of_resistance(text: &str) -> Option<String> {
     }
 }
 
-/// What to write for a service flow with a point, which is likely one in m3/h.
+/// What to write for a service flow with a point, which is likely one in m3/h, and for one that the bytes don't hold.
 fn of_service(text: &str) -> Option<String> {
-    let litres = measure::SERVICE.number(text, 3).ok().filter(|litres| measure::SERVICE.holds(*litres))?;
-    text.contains('.').then(|| format!("{text} m3/h are {litres} l/h"))
+    let measure = &measure::SERVICE;
+    if text.contains('.') {
+        let litres = measure.number(text, 3).ok().filter(|litres| measure.holds(*litres))?;
+        return Some(format!("{text} m3/h are {litres} l/h"));
+    }
+    let over = measure.number(text, 0).is_ok_and(|flow| !measure.holds(flow));
+    over.then(|| format!("{} may stand for it, since that states no more than the meter has", measure.most))
 }
