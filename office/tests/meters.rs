@@ -169,7 +169,7 @@ const SLIPS: &[Slip] = &[
         "140000",
         3,
         "`service flow l/h` 140000 is 74465 more than its bytes can hold",
-        "a whole number of l/h, 1 to 65535; 65535 may stand for it, since that states no more than the meter has",
+        "a whole number of l/h, 1 to 65535; 65535 may stand for it if it is the service flow: that states no more than the meter has",
     ),
     ("12000", "1e3", 3, "`1e3` is no number for `service flow l/h`: it has a power of ten", "of l/h, 1 to 65535"),
     (

@@ -114,5 +114,6 @@ fn of_service(text: &str) -> Option<String> {
         return Some(format!("{text} m3/h are {litres} l/h"));
     }
     let over = measure.number(text, 0).is_ok_and(|flow| !measure.holds(flow));
-    over.then(|| format!("{} may stand for it, since that states no more than the meter has", measure.most))
+    let most = measure.most;
+    over.then(|| format!("{most} may stand for it if it is the service flow: that states no more than the meter has"))
 }
