@@ -232,7 +232,8 @@ meter  name   type     resistance  service flow  loss  limit
     2  DN 40  vane         0.5000          6400   211    500  qualifies; it loses 150 cm more
     3  DN 50  turbine      0.1430         12000    61    250  * qualifies with the least loss
     4  small  turbine      0.1430           739    61    250  the mean hour is over its service flow by 1 l/h
-";
+loss: at the design flow, rounded up to whole cm; ";
+    assert!(ran.text().ends_with(" may have it: list no meter that you would not fit.\n"), "{}", ran.text());
     assert_eq!(ran.status, 0, "{}", ran.error);
     assert!(ran.text().starts_with(wanted), "{}", ran.text());
     assert!(ran.error.starts_with("warning: standard input line 5, meter 4: at its own service flow of 739 l/h"));

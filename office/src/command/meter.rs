@@ -3,7 +3,7 @@
 use super::arguments::Arguments;
 use super::files::to_a_terminal;
 use super::input::{File, Reading, Source};
-use super::outcome::{Misuse, Outcome};
+use super::outcome::{Misuse, Outcome, word};
 use super::picked::{Picked, Unpicked};
 use super::refused::Given;
 use super::report;
@@ -11,8 +11,7 @@ use office::meter::meter_loss;
 use office::{calls, house};
 
 pub fn meter(arguments: &Arguments) -> Result<Outcome, Misuse> {
-    let dash = arguments.out.is_some() && arguments.kept().is_none();
-    if arguments.json && dash {
+    if arguments.json && arguments.is_piped() {
         let why = "`-o -` sends the house to standard output, where `--json` has its object; name a file";
         return Err(Misuse::Words(why.to_string()));
     }
@@ -26,11 +25,13 @@ pub fn meter(arguments: &Arguments) -> Result<Outcome, Misuse> {
         Err(Unpicked::Refused(why)) => return Ok(report::refusal(arguments, &why, &given)),
         Err(Unpicked::Differs(why)) => return Err(differ(&why)),
     };
-    if dash && read == job.bytes {
+    if arguments.is_piped() && read == job.bytes {
         to_a_terminal(arguments)?;
     }
     let house = arguments.out.as_ref().map(|_| with_the_loss(&file, read, &job, &picked.job)).transpose()?;
-    let shown = || house.clone().filter(|_| dash).unwrap_or_else(|| picked.chart().into_bytes());
+    let written = arguments.kept().map(|file| word(&file.to_string_lossy()));
+    let chart = || picked.chart(written.as_deref()).into_bytes();
+    let shown = || house.clone().filter(|_| arguments.is_piped()).unwrap_or_else(chart);
     let answer = report::answer(arguments, &given, || picked.fields(), shown)?;
     Ok(Outcome { kept: house, ..answer })
 }
