@@ -293,6 +293,19 @@ fn the_houses_own_meter_loss_plays_no_part() {
     assert!(same.contains("\nmeter loss      1 cm, as the house has it\n"), "{same}");
 }
 
+/// The command puts its own figure there, so any does; another command needs the right one.
+#[test]
+fn a_house_without_a_meter_loss_is_told_that_any_does() {
+    let house = put(&read(OWN), "meter loss      50 cm", "# no meter yet");
+    let ran = office_with(&["meter", "-", METERS], house.as_bytes());
+    assert_eq!(ran.status, 2);
+    let said =
+        "wrong:    the file has no line `meter loss`\n  expected: any figure in its range, as `meter loss 0 cm`, since";
+    assert!(ran.error.contains(said), "{}", ran.error);
+    let other = office_with(&["flow", "-"], house.as_bytes()).error;
+    assert!(other.contains("expected: for example `meter loss 50 cm`\n"), "{other}");
+}
+
 #[test]
 fn where_none_qualifies_each_limit_is_named() {
     let small = put(TWO, "0.5,6400\nturbine,0.143,12000", "1.3,4000\nturbine,0.7,739");
@@ -401,9 +414,13 @@ fn the_right_file_in_the_wrong_place_is_named() {
         let ran = office(words);
         assert!(ran.status == 2 && ran.output.is_empty() && ran.error.contains(why), "{words:?}: {}", ran.error);
     }
-    let swapped = office(&["meter", HOUSE, &job]);
-    assert_eq!(swapped.status, 1);
-    assert!(swapped.text().contains("these bytes have the length of a job record; are the two files swapped?"));
+    let twice = office(&["meter", HOUSE, &job]);
+    assert_eq!(twice.status, 1);
+    assert!(twice.text().contains("these bytes have the length of a job record; a list of meters is expected"));
+    let cat = scratch("wrong-place.cat");
+    assert_eq!(office(&["pack", "examples/table.csv", "-o", &cat]).status, 0);
+    let table = office(&["meter", &cat, METERS]);
+    assert!(table.text().contains("the length of a catalogue; a job record is expected"), "{}", table.text());
     assert!(!table::is_table("type,resistance m/(l/s)2\n") && meters::is_list("type,resistance m/(l/s)2\n"));
     assert!(!meters::is_list(&read("examples/table.csv")) && !meters::is_list(&read(HOUSE)));
     let typed = read("examples/table.csv").replace("slope mm/m\n", "slope mm/m,type\n");
@@ -530,7 +547,8 @@ fn the_rules_of_a_list_of_meters() {
     let (vane, turbine) = (list(&[(1, 5_000, 6_400)]), list(&[(2, 1_430, 12_000)]));
     let both = [&vane[..], &turbine].concat();
     check(refused(&own, &[]), 17, At::Meters, "the file is empty: it has 0 bytes; a meter has 5");
-    check(refused(&own, &both[..9]), 17, At::Meter(2), "the list has 9 bytes, 5 for each meter: 1 are missing here");
+    check(refused(&own, &both[..9]), 17, At::Meter(2), "the list has 9 bytes, 5 for each meter: 1 is missing here");
+    check(refused(&own, &both[..8]), 17, At::Meter(2), "the list has 8 bytes, 5 for each meter: 2 are missing here");
     check(refused(&own, &vane.repeat(9)), 17, At::Meter(9), "one too many: the list has 9 meters, and the most is 8");
     let of = |odd: Vec<u8>| refused(&own, &[&vane[..], &odd, &turbine].concat());
     check(of(list(&[(0, 1, 1)])), 17, At::Meter(2), "type 0 is none of 1 (vane) and 2 (turbine)");
@@ -539,9 +557,7 @@ fn the_rules_of_a_list_of_meters() {
     check(of(list(&[(2, 1, 0)])), 17, At::Meter(2), "service flow 0 l/h; the least is 1");
     assert_eq!(of(list(&[(9, 0, 0)])).1.len(), 3, "all that is wrong with a meter");
     let cat = table::pack(&read("examples/own-case.csv")).expect("a table");
-    for (other, what) in
-        [(&own, "a job record; are the two files swapped?"), (&cat, "a catalogue; a list of meters is")]
-    {
+    for (other, what) in [(&own, "a job record; a list of meters is"), (&cat, "a catalogue; a list of meters is")] {
         let found = refused(&own, other);
         assert_eq!(found.1.len(), 1, "what else is wrong says nothing");
         check(found, 17, At::Meters, &format!("these bytes have the length of {what}"));

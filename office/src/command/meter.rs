@@ -7,6 +7,7 @@ use super::outcome::{Misuse, Outcome, word};
 use super::picked::{Picked, Unpicked};
 use super::refused::Given;
 use super::report;
+use office::at::Field;
 use office::meter::meter_loss;
 use office::{calls, house};
 
@@ -17,7 +18,8 @@ pub fn meter(arguments: &Arguments) -> Result<Outcome, Misuse> {
     }
     let file = arguments.file(0);
     let read = file.bytes()?;
-    let (job, list) = (file.job_of(read.clone())?, arguments.file(1).meters()?);
+    let job = file.job_of(read.clone()).map_err(any_loss_does)?;
+    let list = arguments.file(1).meters()?;
     let given = Given { job: Some(&job), meters: Some(&list.source), ..Given::default() };
     let found = calls::meter(&job.bytes, &list.source.bytes);
     let picked = match Picked::of(&job.bytes, &list, found) {
@@ -34,6 +36,16 @@ pub fn meter(arguments: &Arguments) -> Result<Outcome, Misuse> {
     let shown = || house.clone().filter(|_| arguments.is_piped()).unwrap_or_else(chart);
     let answer = report::answer(arguments, &given, || picked.fields(), shown)?;
     Ok(Outcome { kept: house, ..answer })
+}
+
+/// A house without its meter loss, which only this command could give it, needs some figure all the same.
+fn any_loss_does(misuse: Misuse) -> Misuse {
+    let Misuse::Mistakes(name, mut mistakes) = misuse else { return misuse };
+    let lacking = house::lacks(Field::Meter);
+    for mistake in mistakes.list.iter_mut().filter(|mistake| mistake.wrong == lacking) {
+        mistake.expected = "any figure in its range, as `meter loss 0 cm`, since `meter` replaces it".to_string();
+    }
+    Misuse::Mistakes(name, mistakes)
 }
 
 /// The command works the losses of the whole list out for its table, and so the winner too.
