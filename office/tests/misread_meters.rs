@@ -232,3 +232,11 @@ fn an_unknown_column_is_no_mistake_of_the_rows() {
     let empty = only("type,resistance m/(l/s)2,service flow l/h,", "vane,1.3,4000,Zenner");
     assert_eq!(empty.expected, "a name over the column, `notes` if it is for people");
 }
+
+#[test]
+fn a_cyrillic_word_is_called_so() {
+    let header = HEADER.replace("type", "тип");
+    let mistakes = mistakes(&header, "vane,1.3,4000,DN 32");
+    let wanted = "`тип` is no column of a list of meters; it has Cyrillic letters; the words of the format are English";
+    assert_eq!(mistakes.list[0].wrong, wanted);
+}
