@@ -123,6 +123,8 @@ pub fn likeness(line: &Cells, form: &Form) -> usize {
 pub fn columns(line: &Cells, form: &Form) -> (Option<Columns>, Mistakes) {
     let names: Vec<String> = line.cells.iter().map(|cell| plain(cell)).collect();
     let expected = form.expected(line.separator);
+    // Where a column is missing, one that is unknown is rather that.
+    let none_missing = (0..form.columns.len()).all(|own| names.iter().any(|name| meant(name, form) == Some(own)));
     let mut mistakes = Mistakes::default();
     let (mut notes, mut named) = (Vec::new(), Vec::new());
     let mut places: Vec<Vec<usize>> = form.columns.iter().map(|_| Vec::new()).collect();
@@ -136,7 +138,8 @@ pub fn columns(line: &Cells, form: &Form) -> (Option<Columns>, Mistakes) {
             places[column].push(place);
         } else {
             let (wrong, meant) = unknown(name, &line.cells[place], form);
-            let rename = if meant.is_none() { "; rename it `notes` if it is for people" } else { "" };
+            let spare = meant.is_none() && none_missing;
+            let rename = if spare { "; rename it `notes` if it is for people" } else { "" };
             mistakes.add(line.mistake(wrong, format!("{expected}{rename}")));
             places[meant.unwrap_or(0)].extend(meant.map(|_| place));
         }

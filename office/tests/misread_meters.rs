@@ -239,4 +239,5 @@ fn a_cyrillic_word_is_called_so() {
     let mistakes = mistakes(&header, "vane,1.3,4000,DN 32");
     let wanted = "`тип` is no column of a list of meters; it has Cyrillic letters; the words of the format are English";
     assert_eq!(mistakes.list[0].wrong, wanted);
+    assert!(!mistakes.to_string().contains("rename"), "{mistakes}");
 }
