@@ -1,9 +1,12 @@
 //! The lines of a table or of a list of meters, cell by cell.
 
+mod no_number;
+
 use crate::header::{self, Form};
-use crate::measure::Measure;
-use crate::mistake::Mistake;
+use crate::measure::{Fault, Measure};
+use crate::mistake::{Mistake, Mistakes};
 use crate::readable::{self, TextLine};
+use std::borrow::Cow;
 
 /// A line that is not blank, parted at its separators.
 pub struct Cells<'a> {
@@ -29,7 +32,7 @@ pub fn named_separator(line: &TextLine) -> Option<Option<char>> {
 /// The one separator of a file, and how many lines stand before its cells. The separator is what a first line `sep=;` names, or
 /// what parts the header into the columns of the form: with two separators in one file a number could be read as two. `above`
 /// knows the lines that may stand above the header.
-pub fn separator(text: &str, form: &Form, above: fn(&Cells) -> bool) -> Result<(char, usize), Mistake> {
+fn separator(text: &str, form: &Form, above: fn(&Cells) -> bool) -> Result<(char, usize), Mistake> {
     if let Some(first) = readable::lines(text).next()
         && let Some(named) = named_separator(&first)
     {
@@ -47,24 +50,42 @@ pub fn separator(text: &str, form: &Form, above: fn(&Cells) -> bool) -> Result<(
     Ok((found.map_or(',', |(c, _)| *c), 0))
 }
 
-/// The cells of a line. A separator between quotation marks parts nothing; a quotation mark counts at a cell's start only,
-/// since elsewhere it may be an inch.
+/// The lines of a file that hold something, cell by cell; or what is wrong with them whatever their columns are.
+pub fn lines<'a>(
+    text: &'a str,
+    form: &Form,
+    above: fn(&Cells) -> bool,
+) -> Result<impl Iterator<Item = Cells<'a>> + use<'a>, Mistakes> {
+    let mut mistakes = Mistakes::default();
+    mistakes.extend(readable::lines(text).filter_map(|line| line.fault()));
+    mistakes.none(())?;
+    let (separator, from) = separator(text, form, above)?;
+    let lines = move || readable::lines(text).skip(from).map(move |line| Cells::of(&line, separator));
+    let mut mistakes = Mistakes::default();
+    mistakes.extend(lines().filter_map(|line| line.unclosed()));
+    // A line of nothing but separators is empty: spreadsheets fill short lines up with empty cells.
+    mistakes.none(lines().filter(Cells::is_filled))
+}
+
+/// The cells of a line. A separator between quotation marks parts nothing. A quotation mark counts in a cell that begins with
+/// one, and within it is written twice; elsewhere it may be an inch.
 fn parts(line: &str, separator: char) -> Vec<&str> {
     let mut found = Vec::new();
-    let (mut start, mut quoted) = (0, false);
+    let (mut start, mut begun, mut quoted) = (0, false, false);
     for (at, c) in line.char_indices() {
-        if c == '"' && (quoted || line[start..at].trim().is_empty()) {
-            quoted = !quoted;
+        if c == '"' && (begun || line[start..at].trim().is_empty()) {
+            (begun, quoted) = (true, !quoted);
         } else if c == separator && !quoted {
             found.push(&line[start..at]);
-            start = at + c.len_utf8();
+            (start, begun) = (at + c.len_utf8(), false);
         }
     }
     found.push(&line[start..]);
     found
 }
 
-/// The rows below a header that begin with a name or a note and that with `#`: a comment to the format, a row to its author.
+/// The rows below a header whose first cell is none of the form's own columns, if they begin with `#`: a comment to the format, a
+/// row to its author.
 pub fn hidden<'a>(text: &'a str, header: &Cells) -> impl Iterator<Item = Mistake> + use<'a> {
     let (from, separator) = (header.line, header.separator);
     let row = move |line: &str| {
@@ -72,8 +93,8 @@ pub fn hidden<'a>(text: &'a str, header: &Cells) -> impl Iterator<Item = Mistake
         line.split_once('#').is_some_and(|(front, behind)| nothing(front) && behind.contains(separator))
     };
     let mistake = |line: usize, text: &str| {
-        let wrong = "`#` begins a comment here, and the header's first column is for words: it may be a row";
-        Mistake::on(line, text, wrong, "no # in front of a name or a note; a comment without the separator of cells")
+        let wrong = "`#` begins a comment here, and the header's first cell is for words or empty: it may be a row";
+        Mistake::on(line, text, wrong, "no # at the start of a row; a comment without the separator of cells")
     };
     text.lines().zip(1..).skip(from).filter(move |(text, _)| row(text)).map(move |(text, line)| mistake(line, text))
 }
@@ -81,10 +102,13 @@ pub fn hidden<'a>(text: &'a str, header: &Cells) -> impl Iterator<Item = Mistake
 /// No cell that is read is as long; one that is longer is cut for messages and is no number any more.
 const LONGEST_CELL: usize = 60;
 
-/// A cell without the blanks and the quotation marks around it.
-fn bare(text: &str) -> &str {
+/// A cell without the blanks and the quotation marks around it, and with one for each two within them.
+fn bare(text: &str) -> Cow<'_, str> {
     let text = text.trim();
-    text.strip_prefix('"').and_then(|text| text.strip_suffix('"')).unwrap_or(text).trim()
+    match text.strip_prefix('"').and_then(|text| text.strip_suffix('"')) {
+        Some(within) => within.trim().replace("\"\"", "\"").into(),
+        None => text.into(),
+    }
 }
 
 /// A cell as it is read, in lower case.
@@ -122,8 +146,28 @@ impl<'a> Cells<'a> {
     }
 
     /// The cell at a place as its author wrote it, for people.
-    pub fn written(&self, place: usize) -> &'a str {
-        parts(self.content, self.separator).get(place).map_or("", |cell| bare(cell))
+    pub fn written(&self, place: usize) -> Cow<'a, str> {
+        parts(self.content, self.separator).get(place).map_or("".into(), |cell| bare(cell))
+    }
+
+    /// Whether the cell at a place stands between quotation marks.
+    pub fn is_quoted(&self, place: usize) -> bool {
+        parts(self.content, self.separator).get(place).is_some_and(|cell| cell.trim_start().starts_with('"'))
+    }
+
+    /// A quotation mark that is open at the line's end. To a spreadsheet its cell goes on in the next line, which is no row then.
+    fn unclosed(&self) -> Option<Mistake> {
+        let parts = parts(self.content, self.separator);
+        let last = parts.last()?.trim_start();
+        let open = last.starts_with('"') && last.matches('"').count() % 2 == 1;
+        let wrong = format!("cell {} begins with a quotation mark that is not closed in its line", parts.len());
+        open.then(|| match self.content.len() < self.text.len() {
+            true => {
+                let wrong = format!("{wrong}: `#` begins a comment between quotation marks too");
+                self.mistake(wrong, "no # in a cell, and no quotation mark before a comment")
+            }
+            false => self.mistake(wrong, "the cell on one line, with a quotation mark at its end"),
+        })
     }
 
     /// The number at a place in the bytes' own unit, up to what they hold.
@@ -133,7 +177,7 @@ impl<'a> Cells<'a> {
             return Err(self.mistake(format!("`{what}` is empty"), measure.whole()));
         }
         let value = measure.number(text, power).map_err(|fault| {
-            let (wrong, expected) = measure.fault(fault, what, text, power);
+            let (wrong, expected) = of_fault(fault, what, text, measure);
             self.mistake(wrong, self.parted(text, expected))
         })?;
         match measure.holds(value) {
@@ -151,5 +195,16 @@ impl<'a> Cells<'a> {
         let other = SEPARATORS.iter().any(|(c, _)| text.contains(*c)) && !self.text.contains('"');
         let own = SEPARATORS.iter().find(|(c, _)| *c == self.separator).map_or("", |(_, name)| name);
         if other { format!("{expected}; cells are parted by {own}, as in the file's first line") } else { expected }
+    }
+}
+
+/// What is wrong with a cell's number, and what is expected: the number alone, since its unit stands in the header.
+fn of_fault(fault: Fault, what: &str, text: &str, measure: &Measure) -> (String, String) {
+    let example = format!("for example {}", measure.show(measure.example));
+    let (wrong, expected) = measure.fault(fault, what, text, measure.decimals(), &example);
+    match no_number::remark(text) {
+        _ if fault != Fault::NoNumber => (wrong, expected),
+        Some((why, written)) => (format!("{wrong}: {why}"), format!("{written}; {}", measure.whole())),
+        None => (wrong, format!("{}, {example}", measure.whole())),
     }
 }

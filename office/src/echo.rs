@@ -76,8 +76,11 @@ pub fn remark(text: &str) -> Option<String> {
     }
     let alike = |c: char| ALIKE.iter().find(|(letter, _)| *letter == c).map(|(_, latin)| *latin);
     let cyrillic = |c: char| ('\u{400}'..='\u{52f}').contains(&c);
+    // A word that is Cyrillic as a whole is meant so, whatever its letters look like.
+    let meant = |word: &str| word.chars().count() > 1 && word.chars().all(cyrillic);
+    let word = text.split(|c: char| !c.is_alphabetic()).any(meant);
     match alike(first) {
-        Some(latin) if odd.iter().all(|c| alike(*c).is_some()) => {
+        Some(latin) if !word && odd.iter().all(|c| alike(*c).is_some()) => {
             let alphabet = if cyrillic(first) { "Cyrillic" } else { "Greek" };
             Some(format!("U+{:04X}, a {alphabet} letter that looks like {latin}, is in it", first as u32))
         }
@@ -107,6 +110,11 @@ mod tests {
         assert_eq!(found, "U+0441, a Cyrillic letter that looks like c, is in it");
         assert!(remark("`\u{3bf}ffices`").expect("a remark").contains("U+03BF, a Greek letter that looks like o"));
         assert!(remark("`часы` begins").expect("a remark").contains("Cyrillic letters"));
+        for word in ["тип", "туре", "5см", "вода 5"] {
+            let found = remark(&format!("`{word}` is no column")).expect("a remark");
+            assert_eq!(found, "it has Cyrillic letters; the words of the format are English", "{word}");
+        }
+        assert!(remark("`pum\u{440}`").expect("a remark").contains("looks like p"));
         assert!(remark("`24\u{200b}`").expect("a remark").contains("U+200B in it can't be seen"));
         assert_eq!(remark("`é`").as_deref(), Some("U+00E9 is in it"));
     }

@@ -54,11 +54,13 @@ impl Form {
     }
 }
 
-/// The places of a form's columns in its own order, of the names, and of the columns that are skipped.
+/// The places of a form's columns in its own order, of the names, and of the columns that are skipped; and for each cell of the
+/// header whether anything stands in it.
 pub struct Columns {
     pub places: Vec<usize>,
     pub name: Option<usize>,
     notes: Vec<usize>,
+    titled: Vec<bool>,
 }
 
 impl Columns {
@@ -67,9 +69,10 @@ impl Columns {
         self.name.into_iter().chain(self.notes.iter().copied())
     }
 
-    /// Whether a name or a note can be the first thing in a row.
-    pub fn begin_with_words(&self) -> bool {
-        self.words().any(|words| self.places.iter().all(|place| words < *place))
+    /// Whether a row may begin with something else than one of the form's own columns: a name, a note, or a cell under an empty
+    /// one of the header.
+    pub fn begin_otherwise(&self) -> bool {
+        !self.places.contains(&0)
     }
 
     /// The number that a row has under a column of numbers.
@@ -79,13 +82,16 @@ impl Columns {
         row.number(self.places[column], title, measure)
     }
 
-    /// A cell of a row that no column stands over.
+    /// A cell of a row that no column stands over. A column that is none of the form's is the header's mistake and not the row's.
     pub fn stray(&self, row: &Cells) -> Option<Mistake> {
-        let covered = |place: usize| self.places.contains(&place) || self.words().any(|words| words == place);
+        let titled = |place: usize| self.titled.get(place).copied();
         let mut cells = row.cells.iter().enumerate();
-        let (_, cell) = cells.find(|(place, cell)| !covered(*place) && !cell.is_empty())?;
-        let comma = if row.separator == ',' { "; a comma within a number makes two cells of it" } else { "" };
-        let expected = format!("as many cells as the header has{comma}");
+        let (place, cell) = cells.find(|(place, cell)| titled(*place) != Some(true) && !cell.is_empty())?;
+        let expected = match (titled(place), row.separator) {
+            (Some(_), _) => "a name over the column, `notes` if it is for people",
+            (None, ',') => "as many cells as the header has; a comma within a number makes two cells of it",
+            (None, _) => "as many cells as the header has",
+        };
         Some(row.mistake(format!("`{cell}` stands under no column"), expected))
     }
 }
@@ -117,6 +123,8 @@ pub fn likeness(line: &Cells, form: &Form) -> usize {
 pub fn columns(line: &Cells, form: &Form) -> (Option<Columns>, Mistakes) {
     let names: Vec<String> = line.cells.iter().map(|cell| plain(cell)).collect();
     let expected = form.expected(line.separator);
+    // Where a column is missing, one that is unknown is rather that.
+    let none_missing = (0..form.columns.len()).all(|own| names.iter().any(|name| meant(name, form) == Some(own)));
     let mut mistakes = Mistakes::default();
     let (mut notes, mut named) = (Vec::new(), Vec::new());
     let mut places: Vec<Vec<usize>> = form.columns.iter().map(|_| Vec::new()).collect();
@@ -130,7 +138,9 @@ pub fn columns(line: &Cells, form: &Form) -> (Option<Columns>, Mistakes) {
             places[column].push(place);
         } else {
             let (wrong, meant) = unknown(name, &line.cells[place], form);
-            mistakes.add(line.mistake(wrong, expected.clone()));
+            let spare = meant.is_none() && none_missing;
+            let rename = if spare { "; rename it `notes` if it is for people" } else { "" };
+            mistakes.add(line.mistake(wrong, format!("{expected}{rename}")));
             places[meant.unwrap_or(0)].extend(meant.map(|_| place));
         }
     }
@@ -143,7 +153,8 @@ pub fn columns(line: &Cells, form: &Form) -> (Option<Columns>, Mistakes) {
     mistakes.extend(form.name.and_then(|name| twice(line, name, &named, &expected)));
     let each = places.iter().all(|places| places.len() == 1);
     let places = places.into_iter().flatten().collect();
-    (each.then(|| Columns { places, name: named.first().copied(), notes }), mistakes)
+    let titled = names.iter().map(|name| !name.is_empty()).collect();
+    (each.then(|| Columns { places, name: named.first().copied(), notes, titled }), mistakes)
 }
 
 /// A column that stands at several places.

@@ -14,6 +14,7 @@ use crate::measure::Quantity;
 use crate::mistake::{Mistake, Mistakes};
 use crate::readable;
 use crate::record::{NoRecord, Record};
+pub use head::lacks;
 pub use meter_loss::with_meter_loss;
 
 /// A readable house as bytes, with the lines that its fields came from.

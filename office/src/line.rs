@@ -100,7 +100,7 @@ impl<'a> Line<'a> {
         }
         let power = self.unit(what, measure, number, glued, keywords)?;
         let value = measure.number(number, power).map_err(|fault| {
-            let (wrong, expected) = measure.fault(fault, what, number, power);
+            let (wrong, expected) = measure.fault(fault, what, number, power, &measure.example(what));
             self.mistake(wrong, expected)
         })?;
         if !measure.holds(value) {

@@ -6,7 +6,7 @@ pub struct Measure {
     /// The units it may be written in, each with the power of ten that leads to the record's own. The first is shown.
     /// A quantity without units has one, with an empty name.
     pub units: &'static [(&'static str, u32)],
-    /// What the record counts.
+    /// What the record counts, where a message says it.
     pub counts: &'static str,
     /// What the record's bytes hold.
     pub least: i64,
@@ -102,7 +102,8 @@ pub const STATED: Measure = bare("bytes", 4_294_967_295, "the catalogue's own le
 /// A meter's resistance: two bytes, ten-thousandths of m per (l/s) squared.
 pub const RESISTANCE: Measure = Measure {
     units: &[("", 4)],
-    counts: "ten-thousandths",
+    // A message that spoke of ten-thousandths would ask for 5000 where 0.5 is meant.
+    counts: "",
     least: 0,
     most: 65_535,
     taken: "0.0001 to 6.5535",
@@ -184,7 +185,7 @@ impl Measure {
         self.units.iter().map(written).collect::<Vec<_>>().join(" or ")
     }
 
-    /// A line or a cell that would be taken, for a message.
+    /// A line that would be taken, for a message.
     pub fn example(&self, what: &str) -> String {
         format!("for example `{what} {}`", self.show(self.example))
     }
@@ -197,18 +198,22 @@ impl Measure {
         whole(text, power)
     }
 
-    /// The whole numbers that are taken, for a message.
+    /// The numbers that are taken, for a message: whole ones of what the record counts, or so many decimals.
     pub fn whole(&self) -> String {
-        let of = if self.counts.is_empty() { String::new() } else { format!(" of {}", self.counts) };
-        format!("a whole number{of}, {}", self.taken)
+        let (counts, taken) = (self.counts, self.taken);
+        match self.decimals() {
+            0 if counts.is_empty() => format!("a whole number, {taken}"),
+            kept if counts.is_empty() => format!("{taken}, with at most {kept} decimals"),
+            _ => format!("a whole number of {counts}, {taken}"),
+        }
     }
 
     pub fn holds(&self, value: i64) -> bool {
         (self.least..=self.most).contains(&value)
     }
 
-    /// What is wrong with a number, and what is expected.
-    pub fn fault(&self, fault: Fault, what: &str, text: &str, power: u32) -> (String, String) {
+    /// What is wrong with a number, and what is expected; `example` is one that would be taken.
+    pub fn fault(&self, fault: Fault, what: &str, text: &str, power: u32, example: &str) -> (String, String) {
         let whole = self.whole();
         let behind = text.split('.').nth(1).unwrap_or("");
         let joined = text.replace('.', "");
@@ -216,13 +221,13 @@ impl Measure {
         let short = if text.contains('.') { text.trim_end_matches('0').trim_end_matches('.') } else { text };
         let thousands = behind.len() == 3 && begins_a_thousand(front);
         match fault {
-            Fault::NoNumber => (format!("`{text}` is no number for `{what}`"), self.example(what)),
+            Fault::NoNumber => (format!("`{text}` is no number for `{what}`"), example.to_string()),
             Fault::Comma if power == 0 => {
                 (format!("`{text}` for `{what}` has a comma"), format!("{whole}, nothing between thousands"))
             }
             Fault::Comma => (
                 format!("`{text}` for `{what}` has a comma"),
-                format!("a point before decimals and nothing between thousands, {}", self.example(what)),
+                format!("a point before decimals and nothing between thousands, {example}"),
             ),
             Fault::Sign => (format!("`{text}` for `{what}` has a sign"), format!("the number alone, {}", self.taken)),
             Fault::Thousands => (

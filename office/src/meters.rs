@@ -3,6 +3,7 @@
 //! As with houses and tables: packing refuses only what is no line of the format, what could mean two things, and what can't
 //! be written as bytes; the rules of document 02 are the library's. `docs/FILES.md` describes the format.
 
+mod commas;
 mod rows;
 
 use crate::at::Lines;
@@ -60,12 +61,7 @@ pub fn pack(text: &str) -> Result<Vec<u8>, Mistakes> {
 
 /// The record of a readable list, and where each meter stands in the text; or all that is wrong with it.
 pub fn read(text: &str) -> Result<Packed, Mistakes> {
-    let mut mistakes = Mistakes::default();
-    mistakes.extend(readable::lines(text).filter_map(|line| line.fault()));
-    mistakes.none(())?;
-    let (separator, from) = cells::separator(text, &FORM, |_| false)?;
-    let lines = readable::lines(text).skip(from).map(|line| Cells::of(&line, separator));
-    let mut lines = lines.filter(Cells::is_filled);
+    let mut lines = cells::lines(text, &FORM, |_| false)?;
     let expected = format!("`{}`, and below it a line for each meter, 1 to {}", FORM.header(','), meter::MOST);
     let Some(header) = lines.next() else {
         return Err(Mistake::lacking("the file has no header line", expected).into());
@@ -75,7 +71,7 @@ pub fn read(text: &str) -> Result<Packed, Mistakes> {
     }
     let (columns, mut mistakes) = header::columns(&header, &FORM);
     let Some(columns) = columns else { return Err(mistakes) };
-    if columns.begin_with_words() {
+    if columns.begin_otherwise() {
         mistakes.extend(cells::hidden(text, &header));
     }
     let mut given = rows::Given::default();

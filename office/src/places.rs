@@ -48,11 +48,12 @@ pub struct Asked<'a> {
 
 /// All places at which this refusal lies, in the order of the file.
 pub fn places(refusal: &Refusal, asked: &Asked) -> Vec<Place> {
+    let of_shape = |found: Vec<Place>| shape::another(asked).into_iter().chain(found).collect();
     match refusal {
-        Refusal::JobLength => shape::length(asked.job),
-        Refusal::JobVersion => shape::version(asked.job),
-        Refusal::HeaderRange => shape::ranges(asked.job),
-        Refusal::SectionBytes => shape::count(asked.job),
+        Refusal::JobLength => of_shape(shape::length(asked.job)),
+        Refusal::JobVersion => of_shape(shape::version(asked.job)),
+        Refusal::HeaderRange => of_shape(shape::ranges(asked.job)),
+        Refusal::SectionBytes => of_shape(shape::count(asked.job)),
         Refusal::SectionRules => sections::rules(asked.job),
         Refusal::ChildlessKind => sections::childless(asked.job),
         Refusal::Residents => sections::residents(asked.job),

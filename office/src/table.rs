@@ -63,13 +63,7 @@ pub fn pack(text: &str) -> Result<Vec<u8>, Mistakes> {
 
 /// The catalogue of a readable table, and where each row stands in the text; or all that is wrong with it.
 pub fn read(text: &str) -> Result<Packed, Mistakes> {
-    let mut mistakes = Mistakes::default();
-    readable::lines(text).filter_map(|line| line.fault()).for_each(|fault| mistakes.add(fault));
-    mistakes.none(())?;
-    let (separator, from) = cells::separator(text, &FORM, odd::knows)?;
-    // A line of nothing but separators is empty: spreadsheets fill short lines up with empty cells.
-    let lines = readable::lines(text).skip(from).map(|line| Cells::of(&line, separator));
-    let mut lines = lines.filter(Cells::is_filled).peekable();
+    let mut lines = cells::lines(text, &FORM, odd::knows)?.peekable();
     let mut odd = Odd::default();
     while let Some(line) = lines.next_if(odd::knows) {
         odd.take(&line)?;
@@ -79,7 +73,7 @@ pub fn read(text: &str) -> Result<Packed, Mistakes> {
     };
     let (columns, mut mistakes) = header::columns(&header, &FORM);
     let Some(columns) = columns else { return Err(mistakes) };
-    if columns.begin_with_words() {
+    if columns.begin_otherwise() {
         mistakes.extend(cells::hidden(text, &header));
     }
     let mut given = sizes::Given::default();

@@ -103,27 +103,30 @@ fn of_flow(bore: u16, row: &Row) -> Option<u64> {
 }
 
 /// What meters lose at their own service flow, in cm. Source document 001 has 158 to 161 for vane meters and 12 to 159 for turbine
-/// meters; a meter that is built to lose 10 m there is not on the market.
-const MOST_AT_SERVICE: u64 = 1_000;
+/// meters; with the maximum flow of its next column in the service flow's place, where two bytes hold that, 987 to 1,003.
+const MOST_AT_SERVICE: u64 = 500;
 const LEAST_OF_VANES: u64 = 40;
 const LEAST_OF_TURBINES: u64 = 4;
 
-/// The warning of a list of meters: the first meter whose resistance and service flow don't go together.
-pub fn off_service(meters: &[Meter]) -> Option<Place> {
+/// The warnings of a list of meters: each meter whose resistance and service flow don't go together.
+pub fn off_service(meters: &[Meter]) -> Vec<Place> {
     let off = |meter: &Meter| {
         let least = if meter.design == 1 { LEAST_OF_VANES } else { LEAST_OF_TURBINES };
         !(least..=MOST_AT_SERVICE).contains(&at_service(meter))
     };
     // What the library refuses for being 0 has its own place.
     let known = |meter: &Meter| meter.limit().is_some() && meter.resistance > 0 && meter.service > 0;
-    let (place, meter) = (1..).zip(meters).find(|(_, meter)| known(meter) && off(meter))?;
+    let found = (1..).zip(meters).filter(|(_, meter)| known(meter) && off(meter));
+    found.map(|(place, meter)| Place::new(At::Meter(place), why_off(meter))).collect()
+}
+
+fn why_off(meter: &Meter) -> String {
     let (loss, service, name) = (at_service(meter), meter.service, meter::name(meter.design));
-    let why = format!(
-        "at its own service flow of {service} l/h it would lose {loss} cm, and {name} meters lose {} there; is the service flow \
-         in l/h and the resistance in m/(l/s)2?",
-        if meter.design == 1 { "about 160 cm" } else { "10 to 160 cm" }
-    );
-    Some(Place::new(At::Meter(place), why))
+    let usual = if meter.design == 1 { "about 160 cm" } else { "10 to 160 cm" };
+    format!(
+        "at its own service flow of {service} l/h it would lose {loss} cm, and {name} meters lose {usual} there; is the service \
+         flow in l/h, and neither the least nor the greatest flow, and the resistance in m/(l/s)2?"
+    )
 }
 
 /// A meter's loss at its own service flow, in whole cm. A flow in l/h over 3.6 is one in ml/s, and 3.6 × 3.6 is 324 / 25.

@@ -240,7 +240,8 @@ fn tables_align() {
     {
         let text = office(words).text();
         let (_, chart) = text.split_once("\n\n").expect("figures, then the chart");
-        let legend = |line: &&str| ["left:", "loss:", "A meter"].iter().any(|start| line.starts_with(start));
+        let legend =
+            |line: &&str| ["left:", "loss:", "A meter", "The least"].iter().any(|start| line.starts_with(start));
         let lines: Vec<&str> = chart.lines().filter(|line| !legend(line)).collect();
         let header = lines[0];
         let section = ["section", "size", "bore", "length", "fixtures", "flow", "velocity", "loss", "left", "free"];

@@ -317,7 +317,7 @@ fn mistakes_in_a_table_name_their_line() {
         ("size,bore mm", "size,bore", Some(2), "`bore` is no column", "bore mm"),
         ("size,bore mm,", "size,", Some(2), "no column `bore mm`", "size,bore mm"),
         ("size,bore mm", "size,size,bore mm", Some(2), "`size` is there twice", "size,bore mm"),
-        ("1,40,900,1000", "1,forty,900,1000", Some(3), "`forty` is no number for `bore mm`", "`bore mm 40`"),
+        ("1,40,900,1000", "1,forty,900,1000", Some(3), "`forty` is no number for `bore mm`", "for example 40"),
         ("1,40,900,1000", "1,,900,1000", Some(3), "`bore mm` is empty", "1 to 65535"),
         ("1,40,900,3000", "1,40,900,", Some(4), "`flow ml/s` is empty", "1 to 1000000"),
         ("1,40,900,3000", "1,41,900,3000", Some(4), "another bore mm here than on line 3", "40"),

@@ -164,6 +164,12 @@ fn the_help_says_what_is_so_of_blanks_units_and_files() {
     let meter = unfolded(&answered(&["help", "meter"]));
     assert!(meter.contains("in the form that JOB has: of a readable house one number is another and all else stays"));
     assert!(meter.contains("a vane meter loses at most 500 cm, a turbine meter at most 250 cm"), "{meter}");
+    assert!(meter.contains("design flow, rounded up to whole cm."), "{meter}");
+    assert!(meter.contains("has must be in its range, and plays no part beyond that."), "{meter}");
+    let over = read("examples/house.txt").replacen("meter loss      120 cm", "meter loss      1001 cm", 1);
+    let refused = office_with(&["meter", "-", "examples/meters.csv"], over.as_bytes());
+    assert!(refused.status == 1 && refused.text().starts_with("refused 3: "), "{}", refused.text());
+    assert!(meter.contains("with -o - the words stand on standard error, so that a pipe gets an answer or nothing"));
     let draw = unfolded(&answered(&["help", "draw"]));
     assert!(draw.contains("`draw` with refusal 16, do their work and write the file all the same"), "{draw}");
 }

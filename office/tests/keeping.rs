@@ -93,7 +93,9 @@ fn the_house_of_meter_replaces_the_whole_file_or_nothing() {
     std::fs::write(&kept, "older, and much longer than the house\n".repeat(200)).expect("written");
     std::os::unix::fs::symlink(&kept, &link).expect("linked");
     let ran = office(&["meter", HOUSE, METERS, "-o", &link]);
-    assert_eq!((ran.status, &ran.output, ran.error.as_str()), (0, &answer, ""));
+    let told = String::from_utf8(answer).expect("text").replace("; the house has 120 cm\n", "; the house had 120 cm\n");
+    let told = format!("{told}The house with this meter loss was written to {link}.\n");
+    assert_eq!((ran.status, ran.text(), ran.error.as_str()), (0, told, ""));
     assert_eq!(std::fs::read(&kept).expect("written"), house);
     assert!(std::fs::symlink_metadata(&link).expect("there").is_symlink());
     let full = shell(&format!("trap '' XFSZ; ulimit -f 0; exec \"$office\" meter {HOUSE} {METERS} -o '{kept}'"));
@@ -132,6 +134,36 @@ fn a_dash_is_standard_output() {
     assert!(!top().join("-").exists());
     let through = office_with(&["flow", "-", "-o", "-"], read(HOUSE).as_bytes());
     assert_eq!(through.text(), office(&["flow", HOUSE]).text());
+}
+
+/// What a pipe hands on with `-o -` is an answer or nothing: a refusal in words stands on standard error.
+#[test]
+fn a_refusal_is_nothing_for_a_pipe() {
+    let (circle, small) = ("examples/mistakes/circle.txt", "examples/mistakes/meters-too-small.csv");
+    for words in [
+        &["flow", circle][..],
+        &["meter", circle, METERS],
+        &["meter", HOUSE, small],
+        &["rate", circle, TABLE, "6,6,6"],
+        &["choose", circle, TABLE],
+        &["draw", circle, TABLE],
+    ] {
+        let (plain, dashed) = (office(words), office(&[words, &["-o", "-"]].concat()));
+        assert!(plain.status == 1 && plain.text().starts_with("refused ") && plain.error.is_empty(), "{words:?}");
+        assert_eq!((dashed.status, dashed.output.len(), dashed.error), (1, 0, plain.text()), "{words:?}");
+    }
+    // The work of `pack` is done all the same, and an object says itself that it is a refusal.
+    let packed = office(&["pack", circle, "-o", "-"]);
+    assert!(
+        packed.status == 1 && packed.output.len() == 70 && packed.error.contains("refused 5: "),
+        "{}",
+        packed.error
+    );
+    let object = office(&["flow", circle, "-o", "-", "--json"]);
+    assert!(object.status == 1 && object.text().contains("\"number\":5"), "{}", object.text());
+    let piped = shell(&format!("\"$office\" meter {HOUSE} {small} -o - | \"$office\" choose - {TABLE}"));
+    assert!(String::from_utf8_lossy(&piped.stderr).starts_with("refused 18: "));
+    assert!(String::from_utf8_lossy(&piped.stdout).starts_with("standard input is empty; "), "{piped:?}");
 }
 
 #[test]

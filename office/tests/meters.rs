@@ -99,7 +99,7 @@ fn what_can_mean_one_thing_is_taken() {
         put(TWO, "turbine", "# vane,1.3,4000\nturbine"),
         "name,type,resistance m/(l/s)2,service flow l/h\n40,vane,0.5,6400\n50,turbine,0.143,12000\n".to_string(),
         "type;resistance m/(l/s)2;service flow l/h;name\nvane;0.5;6400;40\nturbine;0.143;12000;50\n".to_string(),
-        "type,notes,resistance m/(l/s)2,service flow l/h,remark\nvane,7,0.5,6400,-\nturbine,,0.143,12000,2 pcs\n"
+        "type,notes,resistance m/(l/s)2,service flow l/h,remark\nvane,7,0.5,6400,-\nturbine,,0.143,12000,pcs 2\n"
             .to_string(),
     ];
     for text in texts {
@@ -135,16 +135,43 @@ const SLIPS: &[Slip] = &[
     ("0.5", "", 2, "`resistance m/(l/s)2` is empty", "0.0001 to 6.5535"),
     ("0.5", "0,5", 2, "`6400` stands under no column", "a comma within a number makes two cells of it"),
     ("0.5", "\"0,5\"", 2, "`0,5` for `resistance m/(l/s)2` has a comma", "a point before decimals"),
-    ("0.143", "0.00264", 3, "`0.00264` for `resistance m/(l/s)2` is finer than the record keeps", "0.0027 is the next"),
+    (
+        "0.143",
+        "0.00264",
+        3,
+        "`0.00264` for `resistance m/(l/s)2` is finer than the record keeps",
+        "0.0001 to 6.5535, with at most 4 decimals; 0.0027 is the next that states no less loss",
+    ),
     ("0.143", "0.000766", 3, "finer than the record keeps", "0.0008 is the next that states no less loss"),
     ("0.5", "14.5", 2, "14.5 is 7.9465 more than its bytes can hold", "a meter of more resistance can't be listed"),
     ("0.5", "6.5536", 2, "6.5536 is 0.0001 more than its bytes can hold", "0.0001 to 6.5535"),
     ("0.5", "5000", 2, "5000 is 4993.4465 more than its bytes can hold", "5000 ten-thousandths are 0.5000"),
     ("0.5,6400", "6400,0.5", 2, "6400 is 6393.4465 more", "or are resistance and service flow swapped?"),
     ("0.5", "-0.5", 2, "`-0.5` for `resistance m/(l/s)2` has a sign", "0.0001 to 6.5535"),
-    ("0.5", ".5", 2, "`.5` is no number", "for example `resistance m/(l/s)2 0.5000`"),
-    ("0.5", "5e-1", 2, "`5e-1` is no number", "0.5000"),
-    ("12000", "140000", 3, "`service flow l/h` 140000 is 74465 more than its bytes can hold", "1 to 65535"),
+    ("0.5", ".5", 2, "`.5` is no number", "0.0001 to 6.5535, with at most 4 decimals, for example 0.5000"),
+    (
+        "0.143",
+        "8.1E-3",
+        3,
+        "`8.1e-3` is no number for `resistance m/(l/s)2`: it has a power of ten",
+        "as 0.0081 for 8.1E-3",
+    ),
+    ("0.143", "810·10-5", 3, "`810·10-5` is no number for `resistance m/(l/s)2`: it has a power of ten", "written out"),
+    (
+        "0.5",
+        "0.5 m/(l/s)2",
+        2,
+        "`0.5 m/(l/s)2` is no number for `resistance m/(l/s)2`: more than the number stands in it",
+        "the number alone; its unit stands in the header; 0.0001 to 6.5535, with at most 4 decimals",
+    ),
+    (
+        "12000",
+        "140000",
+        3,
+        "`service flow l/h` 140000 is 74465 more than its bytes can hold",
+        "a whole number of l/h, 1 to 65535; 65535 may stand for it if it is the service flow: that states no more than the meter has",
+    ),
+    ("12000", "1e3", 3, "`1e3` is no number for `service flow l/h`: it has a power of ten", "of l/h, 1 to 65535"),
     (
         "6400",
         "6.400",
@@ -153,8 +180,9 @@ const SLIPS: &[Slip] = &[
         "nothing between thousands",
     ),
     ("6400", "6.4", 2, "finer than the record keeps", "6.4 m3/h are 6400 l/h"),
-    ("6400", "6 400", 2, "`6 400` is no number for `service flow l/h`", "6400"),
-    ("6400", "6400 l/h", 2, "`6400 l/h` is no number", "6400"),
+    ("6400", "6 400", 2, "`6 400` is no number for `service flow l/h`: a blank", "write 6400 if that is meant"),
+    ("6400", "6400 l/h", 2, "`6400 l/h` is no number", "the number alone; its unit stands in the header"),
+    ("6400", "many", 2, "`many` is no number for `service flow l/h`", "of l/h, 1 to 65535, for example 6400"),
     ("6400", "", 2, "`service flow l/h` is empty", "1 to 65535"),
     ("6400", "6400,DN 40", 2, "`dn 40` stands under no column", "as many cells as the header has"),
     ("6400", "64#00", 2, "`#` stands within a word", "no # in a name or number"),
@@ -185,28 +213,6 @@ fn mistakes_name_their_line_and_what_is_wrong() {
     assert!(decimal.expected.ends_with("cells are parted by semicolons, as in the file's first line"), "{decimal}");
 }
 
-/// With a comma in a number the cells behind it move on by one, and the last of them may fall under a name or a note.
-#[test]
-fn a_comma_in_a_number_pushes_no_cell_into_a_name() {
-    for column in ["name", "notes"] {
-        let header = format!("type,resistance m/(l/s)2,service flow l/h,{column}\n");
-        for row in ["vane,1,3,4000", "vane,1,3,4000,", "vane,1.3,4,000", "vane,1.3,4,0.5", "turbine,0,143,12 000"] {
-            let mistake = first(&format!("{header}{row}\n"));
-            assert!(mistake.wrong.contains("a comma may stand in one of these"), "{row}: {mistake}");
-            assert_eq!(mistake.line.map(|(line, _)| line), Some(2), "{row}");
-        }
-        let named = first(&format!("{header}vane,1,3,4000,DN 32\n"));
-        assert!(named.wrong.contains("`dn 32` stands under no column"), "{named}");
-    }
-    // A name that begins with # would be a comment, and its meter would be gone without a word.
-    let hidden = "name,type,resistance m/(l/s)2,service flow l/h\n#4,vane,0.5,6400\nDN 50,turbine,0.143,12000\n";
-    let mistake = first(hidden);
-    assert!(mistake.wrong.contains("it may be a row"), "{mistake}");
-    let hidden = put(TWO, "\nturbine", " # old\u{2028}turbine");
-    let ran = office_with(&["pack", "-"], hidden.as_bytes());
-    assert!(ran.status == 2 && ran.error.contains("show as a line of its own, `turbine,0.143"), "{}", ran.error);
-}
-
 /// Document 01's own case has 2,052 ml/s and a mean hour of 740 l/h; 2,052 × 2,052 is 4,210,704. Resistance in ten-thousandths
 /// times that over 100,000,000, up: 5,000 gives 210.5, 1,430 gives 60.2, 13,000 gives 547.4.
 #[test]
@@ -226,7 +232,8 @@ meter  name   type     resistance  service flow  loss  limit
     2  DN 40  vane         0.5000          6400   211    500  qualifies; it loses 150 cm more
     3  DN 50  turbine      0.1430         12000    61    250  * qualifies with the least loss
     4  small  turbine      0.1430           739    61    250  the mean hour is over its service flow by 1 l/h
-";
+loss: at the design flow, rounded up to whole cm; ";
+    assert!(ran.text().ends_with(" may have it: list no meter that you would not fit.\n"), "{}", ran.text());
     assert_eq!(ran.status, 0, "{}", ran.error);
     assert!(ran.text().starts_with(wanted), "{}", ran.text());
     assert!(ran.error.starts_with("warning: standard input line 5, meter 4: at its own service flow of 739 l/h"));
@@ -284,6 +291,19 @@ fn the_houses_own_meter_loss_plays_no_part() {
     assert!(answers.iter().all(|answer| answer == &answers[0] && answer.contains("* qualifies")), "{answers:?}");
     let same = office_with(&["meter", "-", "examples/meters.csv"], put(&read(OWN), "50 cm", "1 cm").as_bytes()).text();
     assert!(same.contains("\nmeter loss      1 cm, as the house has it\n"), "{same}");
+}
+
+/// The command puts its own figure there, so any does; another command needs the right one.
+#[test]
+fn a_house_without_a_meter_loss_is_told_that_any_does() {
+    let house = put(&read(OWN), "meter loss      50 cm", "# no meter yet");
+    let ran = office_with(&["meter", "-", METERS], house.as_bytes());
+    assert_eq!(ran.status, 2);
+    let said =
+        "wrong:    the file has no line `meter loss`\n  expected: any figure in its range, as `meter loss 0 cm`, since";
+    assert!(ran.error.contains(said), "{}", ran.error);
+    let other = office_with(&["flow", "-"], house.as_bytes()).error;
+    assert!(other.contains("expected: for example `meter loss 50 cm`\n"), "{other}");
 }
 
 #[test]
@@ -394,9 +414,13 @@ fn the_right_file_in_the_wrong_place_is_named() {
         let ran = office(words);
         assert!(ran.status == 2 && ran.output.is_empty() && ran.error.contains(why), "{words:?}: {}", ran.error);
     }
-    let swapped = office(&["meter", HOUSE, &job]);
-    assert_eq!(swapped.status, 1);
-    assert!(swapped.text().contains("these bytes have the length of a job record; are the two files swapped?"));
+    let twice = office(&["meter", HOUSE, &job]);
+    assert_eq!(twice.status, 1);
+    assert!(twice.text().contains("these bytes have the length of a job record; a list of meters is expected"));
+    let cat = scratch("wrong-place.cat");
+    assert_eq!(office(&["pack", "examples/table.csv", "-o", &cat]).status, 0);
+    let table = office(&["meter", &cat, METERS]);
+    assert!(table.text().contains("the length of a catalogue; a job record is expected"), "{}", table.text());
     assert!(!table::is_table("type,resistance m/(l/s)2\n") && meters::is_list("type,resistance m/(l/s)2\n"));
     assert!(!meters::is_list(&read("examples/table.csv")) && !meters::is_list(&read(HOUSE)));
     let typed = read("examples/table.csv").replace("slope mm/m\n", "slope mm/m,type\n");
@@ -523,7 +547,8 @@ fn the_rules_of_a_list_of_meters() {
     let (vane, turbine) = (list(&[(1, 5_000, 6_400)]), list(&[(2, 1_430, 12_000)]));
     let both = [&vane[..], &turbine].concat();
     check(refused(&own, &[]), 17, At::Meters, "the file is empty: it has 0 bytes; a meter has 5");
-    check(refused(&own, &both[..9]), 17, At::Meter(2), "the list has 9 bytes, 5 for each meter: 1 are missing here");
+    check(refused(&own, &both[..9]), 17, At::Meter(2), "the list has 9 bytes, 5 for each meter: 1 is missing here");
+    check(refused(&own, &both[..8]), 17, At::Meter(2), "the list has 8 bytes, 5 for each meter: 2 are missing here");
     check(refused(&own, &vane.repeat(9)), 17, At::Meter(9), "one too many: the list has 9 meters, and the most is 8");
     let of = |odd: Vec<u8>| refused(&own, &[&vane[..], &odd, &turbine].concat());
     check(of(list(&[(0, 1, 1)])), 17, At::Meter(2), "type 0 is none of 1 (vane) and 2 (turbine)");
@@ -532,9 +557,7 @@ fn the_rules_of_a_list_of_meters() {
     check(of(list(&[(2, 1, 0)])), 17, At::Meter(2), "service flow 0 l/h; the least is 1");
     assert_eq!(of(list(&[(9, 0, 0)])).1.len(), 3, "all that is wrong with a meter");
     let cat = table::pack(&read("examples/own-case.csv")).expect("a table");
-    for (other, what) in
-        [(&own, "a job record; are the two files swapped?"), (&cat, "a catalogue; a list of meters is")]
-    {
+    for (other, what) in [(&own, "a job record; a list of meters is"), (&cat, "a catalogue; a list of meters is")] {
         let found = refused(&own, other);
         assert_eq!(found.1.len(), 1, "what else is wrong says nothing");
         check(found, 17, At::Meters, &format!("these bytes have the length of {what}"));

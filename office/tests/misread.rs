@@ -486,12 +486,17 @@ fn a_note_with_a_number_sign_hides_no_row() {
         };
         SIZES.lines().enumerate().map(line).collect::<String>()
     };
-    for (header, row) in [("notes,", "#4 steel,"), ("notes,", " # steel,"), ("Remarks,", "\"#4\","), (",note,", ",#4,")]
-    {
+    let row = "it may be a row";
+    for (header, row, wrong) in [
+        ("notes,", "#4 steel,", row),
+        ("notes,", " # steel,", row),
+        ("Remarks,", "\"#4\",", "`#` begins a comment between quotation marks too"),
+        (",note,", ",#4,", row),
+    ] {
         let mistakes = table::pack(&first(header, row)).expect_err(row);
         let mistake = &mistakes.list[0];
         assert_eq!(mistake.line.as_ref().map(|(number, _)| *number), Some(3), "{row}: {mistakes}");
-        assert!(mistake.wrong.contains("it may be a row"), "{row}: {mistakes}");
+        assert!(mistake.wrong.contains(wrong), "{row}: {mistakes}");
     }
     let plain = table::pack(SIZES).expect("a table");
     let steel = first("notes,", "steel 4,");

@@ -187,8 +187,10 @@ fn catalogues_and_lists() {
     let longer = [cat.clone(), vec![0]].concat();
     check(rated(&own, &longer, &[2]), 10, At::Catalogue, "it has 48 bytes; size count 2 and row count 2 ask for 47");
     check(rated(&own, &with(&cat, &[(4, 2)]), &[2]), 10, At::Catalogue, "version 2 is not 1");
-    check(rated(&own, &own, &[2]), 10, At::Catalogue, "are the two files swapped?");
-    check(rated(&cat, &own, &[2]), 3, At::Job, "are the two files swapped?");
+    // Two files are swapped only where each has the other's place.
+    check(rated(&own, &own, &[2]), 10, At::Catalogue, "the length of a job record; a catalogue is expected");
+    check(rated(&cat, &own, &[2]), 3, At::Job, "the length of a catalogue; are the two files swapped?");
+    check(rated(&cat, &cat, &[2]), 3, At::Job, "the length of a catalogue; a job record is expected");
     check(rated(&own, &with(&cat, &[(9, 0), (10, 0)]), &[2]), 11, At::Size(1), "price 0 is outside 1 to 10000");
     check(
         rated(&own, &with(&cat, &[(28, 40)]), &[2]),

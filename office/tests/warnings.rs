@@ -260,7 +260,7 @@ fn the_example_tables_are_sound() {
 fn warned(design: u8, resistance: u16, service: u16) -> bool {
     let found = off_service(&[Meter { design, resistance, service }]);
     assert!(found.iter().all(|place| place.at == At::Meter(1)));
-    found.is_some()
+    !found.is_empty()
 }
 
 /// The loss at the service flow is resistance × service flow squared / 1,296,000,000: 5,000 and 6,400 give 158 cm.
@@ -277,7 +277,13 @@ fn a_meter_whose_figures_do_not_go_together_is_warned_of() {
     // At 36,000 l/h the loss in cm is the resistance: the edges themselves are no slip.
     for (design, least) in [(1, 40), (2, 4)] {
         assert!(!warned(design, least, 36_000) && warned(design, least - 1, 36_000));
-        assert!(!warned(design, 1_000, 36_000) && warned(design, 1_001, 36_000));
+        assert!(!warned(design, 500, 36_000) && warned(design, 501, 36_000));
+    }
+    // Source document 001's maximum flows, next to its service flows: 51,800 × 5,000² / 1,296,000,000 is 999, and so on.
+    for (design, resistance, most) in
+        [(1, 51_800, 5_000), (1, 26_400, 7_000), (1, 13_000, 10_000), (1, 5_000, 16_000), (2, 1_430, 30_000)]
+    {
+        assert!(warned(design, resistance, most), "{resistance}");
     }
     // What the library refuses has its own place.
     assert!(!warned(1, 0, 6_400) && !warned(1, 5_000, 0) && !warned(3, 5_000, 64));
@@ -296,6 +302,41 @@ fn a_meter_whose_figures_do_not_go_together_is_warned_of() {
 fn the_example_lists_are_sound() {
     for text in [read("examples/meters.csv"), office(&["new", "meters"]).text()] {
         let list = meter::read(&meters::pack(&text).expect("a list")).expect("whole meters");
-        assert_eq!(off_service(&list), None, "{text}");
+        assert_eq!(off_service(&list), [], "{text}");
     }
+}
+
+/// One such meter must not hide another, least of all the one that is picked: 0.005 and 64 for a vane meter that has 0.5 and 6400.
+#[test]
+fn every_meter_that_is_off_is_warned_of() {
+    let list = "type,resistance m/(l/s)2,service flow l/h\nvane,0.5,64\nvane,0.5,6400\nvane,0.005,6400\n";
+    let ran = office_with(&["meter", HOUSE, "-"], list.as_bytes());
+    let lines: Vec<&str> = ran.error.lines().collect();
+    assert!(ran.text().contains("\n    3  vane      0.0050          6400     3    500  * qualifies"), "{}", ran.text());
+    assert_eq!((ran.status, lines.len()), (0, 2), "{}", ran.error);
+    assert!(
+        lines[0].starts_with("warning: standard input line 2, meter 1: at its own service flow of 64 l/h"),
+        "{}",
+        lines[0]
+    );
+    assert!(lines[1].starts_with("warning: standard input line 4, meter 3: at its own service flow of 6400 l/h"));
+    // Thirty sections that are too steep: more warnings than are listed.
+    let steep = |number: u8| {
+        let from = if number == 1 { "pump".to_string() } else { (number - 1).to_string() };
+        let height = if number % 2 == 0 { 500 } else { 0 };
+        format!("section {number} from {from} length 1 m elevation {height} cm kind dwelling fixtures 8 free 300 cm\n")
+    };
+    let mut house = "local losses 0.3\nhours 24\nmeter loss 50 cm\nguaranteed head 500 cm\ndelivered head 2600 cm\n\
+        velocity limit 1500 mm/s\nresidents dwelling 84\n"
+        .to_string();
+    house.extend((1..=30).map(steep));
+    let (file, meters) = (scratch("steep.txt"), scratch("off.csv"));
+    std::fs::write(&file, house).expect("written");
+    std::fs::write(&meters, list).expect("written");
+    let ran = office(&["meter", &file, &meters]);
+    assert!(
+        ran.status == 0 && ran.error.contains("line 4, meter 3: ") && ran.error.contains(" more warnings"),
+        "{}",
+        ran.error
+    );
 }

@@ -113,6 +113,11 @@ impl Arguments {
         File { file: &self.words[place], reading: self.readings[place] }
     }
 
+    /// Whether `-o -` makes standard output the file, so that nothing but an answer belongs there.
+    pub fn is_piped(&self) -> bool {
+        self.out.as_ref().is_some_and(|out| out == "-")
+    }
+
     /// The file of the answer, where it does not go to standard output.
     pub fn kept(&self) -> Option<&OsString> {
         self.out.as_ref().filter(|out| *out != "-")

@@ -70,11 +70,12 @@ flow_ml_per_s).",
         brief: "the meter with the least loss from a list, and the house with that loss",
         text: "\
 JOB is a readable house or a job record, METERS a readable list of meters (`office help files`) or its record of 5 bytes for
-each meter. A meter's loss is its resistance x the square of the house's design flow. A meter qualifies if a vane meter loses
-at most 500 cm, a turbine meter at most 250 cm, and the house's mean hour is at most its service flow. The least loss wins, then
-the first in the list; the meter loss that the house has plays no part. The answer shows every meter with its loss, its limit,
-and why it does or doesn't qualify; a star marks the winner. Where none qualifies (refusal 18) each meter is named with the
-limits that it breaks and by how much, and what would do.
+each meter. A meter's loss is its resistance x the square of the house's design flow, rounded up to whole cm. A meter qualifies
+if a vane meter loses at most 500 cm, a turbine meter at most 250 cm, and the house's mean hour is at most its service flow. The
+least loss wins, then the first in the list; so list no meter that you would not fit. The meter loss that the house has must be
+in its range, and plays no part beyond that. The answer shows every meter with its loss, its limit, and why it does or doesn't
+qualify; a star marks the winner. Where none qualifies (refusal 18) each meter is named with the limits that it breaks and by how
+much, and what would do.
 
 -o HOUSE writes the house with the winner's loss as its meter loss, beside the answer, in the form that JOB has: of a readable
 house one number is another and all else stays, comments too; a record stays a record. `-o -` sends the house to standard
@@ -216,9 +217,10 @@ Files: a readable file or a binary record, told apart by the first byte, which i
 --record and --text before a file force its reading; - is standard input; -o FILE writes the answer to a file, -o - to standard
 output (`meter` writes the house there).
 Status: 0 an answer; 1 the library refuses, in words with its number and place, on standard output, and a file of -o is left
-alone (`pack`, `show`, and `draw` with refusal 16, do their work and write the file all the same, and the refusal stands on
-standard error); 2 misuse, an unreadable file, mistakes in a readable file or an answer that can't be written, on standard
-error. There is no other. `office help N` explains refusal N.
+alone; with -o - the words stand on standard error, so that a pipe gets an answer or nothing (`pack`, `show`, and `draw` with
+refusal 16, do their work and write the file all the same, and the refusal stands on standard error); 2 misuse, an unreadable
+file, mistakes in a readable file or an answer that can't be written, on standard error. There is no other. `office help N`
+explains refusal N.
 Warnings of what is nearly always a slip stand on standard error and change no status; with --strict there is then no answer,
 and the status is 2.
 --json: every object has schema (1), command, files, refusal (null, or number, text, places) and warnings; mistakes of a text

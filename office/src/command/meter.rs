@@ -3,22 +3,23 @@
 use super::arguments::Arguments;
 use super::files::to_a_terminal;
 use super::input::{File, Reading, Source};
-use super::outcome::{Misuse, Outcome};
+use super::outcome::{Misuse, Outcome, word};
 use super::picked::{Picked, Unpicked};
 use super::refused::Given;
 use super::report;
+use office::at::Field;
 use office::meter::meter_loss;
 use office::{calls, house};
 
 pub fn meter(arguments: &Arguments) -> Result<Outcome, Misuse> {
-    let dash = arguments.out.is_some() && arguments.kept().is_none();
-    if arguments.json && dash {
+    if arguments.json && arguments.is_piped() {
         let why = "`-o -` sends the house to standard output, where `--json` has its object; name a file";
         return Err(Misuse::Words(why.to_string()));
     }
     let file = arguments.file(0);
     let read = file.bytes()?;
-    let (job, list) = (file.job_of(read.clone())?, arguments.file(1).meters()?);
+    let job = file.job_of(read.clone()).map_err(any_loss_does)?;
+    let list = arguments.file(1).meters()?;
     let given = Given { job: Some(&job), meters: Some(&list.source), ..Given::default() };
     let found = calls::meter(&job.bytes, &list.source.bytes);
     let picked = match Picked::of(&job.bytes, &list, found) {
@@ -26,13 +27,25 @@ pub fn meter(arguments: &Arguments) -> Result<Outcome, Misuse> {
         Err(Unpicked::Refused(why)) => return Ok(report::refusal(arguments, &why, &given)),
         Err(Unpicked::Differs(why)) => return Err(differ(&why)),
     };
-    if dash && read == job.bytes {
+    if arguments.is_piped() && read == job.bytes {
         to_a_terminal(arguments)?;
     }
     let house = arguments.out.as_ref().map(|_| with_the_loss(&file, read, &job, &picked.job)).transpose()?;
-    let shown = || house.clone().filter(|_| dash).unwrap_or_else(|| picked.chart().into_bytes());
+    let written = arguments.kept().map(|file| word(&file.to_string_lossy()));
+    let chart = || picked.chart(written.as_deref()).into_bytes();
+    let shown = || house.clone().filter(|_| arguments.is_piped()).unwrap_or_else(chart);
     let answer = report::answer(arguments, &given, || picked.fields(), shown)?;
     Ok(Outcome { kept: house, ..answer })
+}
+
+/// A house without its meter loss, which only this command could give it, needs some figure all the same.
+fn any_loss_does(misuse: Misuse) -> Misuse {
+    let Misuse::Mistakes(name, mut mistakes) = misuse else { return misuse };
+    let lacking = house::lacks(Field::Meter);
+    for mistake in mistakes.list.iter_mut().filter(|mistake| mistake.wrong == lacking) {
+        mistake.expected = "any figure in its range, as `meter loss 0 cm`, since `meter` replaces it".to_string();
+    }
+    Misuse::Mistakes(name, mistakes)
 }
 
 /// The command works the losses of the whole list out for its table, and so the winner too.

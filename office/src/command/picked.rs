@@ -90,10 +90,12 @@ impl Picked {
         Json::Object(fields)
     }
 
-    pub fn chart(&self) -> String {
-        let former = match self.former == self.loss {
-            true => "cm, as the house has it".to_string(),
-            false => format!("cm; the house has {} cm", self.former),
+    /// The answer for people; `written` is the file that the house with the meter goes to.
+    pub fn chart(&self, written: Option<&str>) -> String {
+        let former = match written {
+            _ if self.former == self.loss => "cm, as the house has it".to_string(),
+            Some(_) => format!("cm; the house had {} cm", self.former),
+            None => format!("cm; the house has {} cm", self.former),
         };
         let rows = [
             ("design flow", self.demand.duty.to_string(), "ml/s for the pump set to deliver".to_string()),
@@ -101,7 +103,8 @@ impl Picked {
             ("meter", self.place.to_string(), self.name(self.place).to_string()),
             ("meter loss", self.loss.to_string(), former),
         ];
-        format!("{}\n{}{LEGEND}", figures(&rows), self.listed())
+        let written = written.map(|file| format!("The house with this meter loss was written to {file}.\n"));
+        format!("{}\n{}{LEGEND}{}", figures(&rows), self.listed(), written.unwrap_or_default())
     }
 
     /// One line a meter. A star marks the winner.
@@ -145,8 +148,9 @@ impl Picked {
 }
 
 const LEGEND: &str = "\
-loss: at the design flow; limit: the most that a meter of its type may lose
+loss: at the design flow, rounded up to whole cm; limit: the most that a meter of its type may lose
 A meter qualifies if its loss is at most its limit and the mean hour at most its service flow; * marks the one that is picked.
+The least loss wins, and a larger meter than you would fit may have it: list no meter that you would not fit.
 ";
 
 #[cfg(test)]

@@ -72,9 +72,10 @@ impl Given<'_> {
         // Bytes that are no list of meters have a refusal, and nothing that they hold is a slip.
         let meters = self.meters.filter(|meters| meter::is_list(&meters.bytes));
         let meters = meters.and_then(|meters| meter::read(&meters.bytes).ok());
-        let mut found: Vec<Place> = record.iter().flat_map(warnings).collect();
+        // A house may have more warnings than are listed; those of the meters, eight at most, are never left out.
+        let mut found: Vec<Place> = meters.as_deref().map(off_service).unwrap_or_default();
+        found.extend(record.iter().flat_map(warnings));
         found.extend(catalogue.as_ref().and_then(off_velocity));
-        found.extend(meters.as_deref().and_then(off_service));
         found
     }
 

@@ -50,12 +50,16 @@ pub fn answer(
     .with(warned))
 }
 
-/// A refusal as the answer, in words or as JSON.
+/// A refusal as the answer, in words or as JSON. Behind `-o -` the next program of a pipe would take the words for the answer.
 pub fn refusal(arguments: &Arguments, refusal: &Refusal, given: &Given) -> Outcome {
-    let outcome = Outcome::refusal(match arguments.json {
-        true => object(arguments, refused::json(refusal, given), given.warned_json(), Vec::new()),
-        false => refused::words(refusal, given),
-    });
+    let outcome = match arguments.json {
+        true => {
+            let object = object(arguments, refused::json(refusal, given), given.warned_json(), Vec::new());
+            Outcome::refusal(object)
+        }
+        false if arguments.is_piped() => Outcome::refusal(String::new()).with(refused::words(refusal, given)),
+        false => Outcome::refusal(refused::words(refusal, given)),
+    };
     outcome.with(given.warned())
 }
 

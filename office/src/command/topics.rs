@@ -68,7 +68,8 @@ A list of meters has a header too, and below it one line for each meter, 1 to 8:
 
 const OF_METERS: &str = "\
 Columns stand in any order; `name` may be left out, and a column `notes` is skipped. A type is vane or turbine. A resistance has
-up to four decimals; one that is finer is refused and not rounded. A service flow is whole: 6.4 m3/h are 6400 l/h.
+up to four decimals; one that is finer is refused and not rounded. A service flow is whole: 6.4 m3/h are 6400 l/h. Where commas
+part the cells, a name that begins with a digit stands between quotation marks.
 ";
 
 /// Quantities with what the library takes, and with their units where these stand behind the number.

@@ -67,15 +67,11 @@ impl Head {
 
     /// Lines that the file lacks. One that is there with a mistake in it is not lacking.
     pub fn missing(&self, places: &Lines) -> Vec<Mistake> {
-        let lacks = |field: Field| places.of(At::Field(field)).is_none();
         FIELDS
             .iter()
             .skip(2)
-            .filter(|(field, _)| lacks(*field))
-            .map(|(field, measure)| {
-                let name = field.name();
-                Mistake::lacking(format!("the file has no line `{name}`"), measure.example(name))
-            })
+            .filter(|(field, _)| places.of(At::Field(*field)).is_none())
+            .map(|(field, measure)| Mistake::lacking(lacks(*field), measure.example(field.name())))
             .collect()
     }
 
@@ -95,6 +91,11 @@ impl Head {
             sections: Vec::new(),
         }
     }
+}
+
+/// What is wrong with a file that lacks a field's line.
+pub fn lacks(field: Field) -> String {
+    format!("the file has no line `{}`", field.name())
 }
 
 /// The quantities of the house's own lines; the first two are for odd records alone.

@@ -1,6 +1,6 @@
 //! The rows of a list of meters.
 
-use super::{FORM, Packed};
+use super::{FORM, Packed, commas};
 use crate::at::{At, Lines};
 use crate::cells::Cells;
 use crate::echo;
@@ -11,8 +11,8 @@ use crate::mistake::{Mistake, Mistakes};
 
 /// The places of the columns in `FORM`.
 const TYPE: usize = 0;
-const RESISTANCE: usize = 1;
-const SERVICE: usize = 2;
+pub const RESISTANCE: usize = 1;
+pub const SERVICE: usize = 2;
 
 /// The meters read so far, with the lines and names of the first. One with a mistake in it counts too.
 #[derive(Default)]
@@ -30,7 +30,7 @@ impl Given {
     /// Takes one row.
     pub fn take(&mut self, row: &Cells, columns: &Columns, mistakes: &mut Mistakes) {
         mistakes.extend(columns.stray(row));
-        mistakes.extend(columns.words().find_map(|place| pushed(row, place, columns)));
+        mistakes.extend(commas::doubtful(row, columns));
         let mut noted = |found: Result<i64, Mistake>| found.map_err(|mistake| mistakes.add(mistake)).unwrap_or(0);
         let design = noted(design(row, columns)) as u8;
         let resistance = noted(advised(row, columns, RESISTANCE, of_resistance)) as u16;
@@ -39,7 +39,7 @@ impl Given {
         // Of a list that is far too long no more is told than which meter is the first too many.
         if self.meters.len() <= meter::MOST + 1 {
             self.lines.note(At::Meter(self.meters.len()), row.line);
-            self.names.push(columns.name.map_or(String::new(), |place| echo::shown(row.written(place))));
+            self.names.push(columns.name.map_or(String::new(), |place| echo::shown(&row.written(place))));
         }
     }
 
@@ -106,22 +106,14 @@ fn of_resistance(text: &str) -> Option<String> {
     }
 }
 
-/// What to write for a service flow with a point, which is likely one in m3/h.
+/// What to write for a service flow with a point, which is likely one in m3/h, and for one that the bytes don't hold.
 fn of_service(text: &str) -> Option<String> {
-    let litres = measure::SERVICE.number(text, 3).ok().filter(|litres| measure::SERVICE.holds(*litres))?;
-    text.contains('.').then(|| format!("{text} m3/h are {litres} l/h"))
-}
-
-/// A name or a note that is a number alone, behind a column of numbers in a line whose cells are parted by commas: it may be
-/// the rest of a number with a comma in it, which has pushed the cells on.
-fn pushed(row: &Cells, place: usize, columns: &Columns) -> Option<Mistake> {
-    let cell = row.at(place);
-    let number = cell.contains(|c: char| c.is_ascii_digit())
-        && cell.chars().all(|c| c.is_ascii_digit() || c == '.' || c.is_whitespace());
-    let behind = [RESISTANCE, SERVICE].iter().any(|column| columns.places[*column] < place);
-    (row.separator == ',' && number && behind).then(|| {
-        let wrong =
-            format!("`{cell}` stands where words are expected, behind numbers: a comma may stand in one of these");
-        row.mistake(wrong, "a point before decimals and nothing between thousands; a name or note with a letter in it")
-    })
+    let measure = &measure::SERVICE;
+    if text.contains('.') {
+        let litres = measure.number(text, 3).ok().filter(|litres| measure.holds(*litres))?;
+        return Some(format!("{text} m3/h are {litres} l/h"));
+    }
+    let over = measure.number(text, 0).is_ok_and(|flow| !measure.holds(flow));
+    let most = measure.most;
+    over.then(|| format!("{most} may stand for it if it is the service flow: that states no more than the meter has"))
 }

@@ -19,7 +19,8 @@ pub fn rules(list: &[u8]) -> Vec<Place> {
     if given == 0 {
         found.push(Place::new(At::Meters, format!("the file is empty: it has 0 bytes; a meter has {METER}")));
     } else if rest != 0 {
-        let why = format!("the list has {given} bytes, {METER} for each meter: {} are missing here", METER - rest);
+        let missing = if METER - rest == 1 { "1 is".to_string() } else { format!("{} are", METER - rest) };
+        let why = format!("the list has {given} bytes, {METER} for each meter: {missing} missing here");
         found.push(Place::new(At::Meter(whole + 1), why));
     }
     // A list may be far longer than any that is taken; what is behind that says nothing new.
@@ -46,11 +47,12 @@ fn of_meter(meter: &Meter) -> Vec<String> {
     faults.into_iter().filter(|(wrong, _)| *wrong).map(|(_, why)| why).collect()
 }
 
-/// A house or a table of pipes lent as the list: what else is wrong with it says nothing.
+/// A house or a table of pipes lent as the list: what else is wrong with it says nothing. The job was accepted, so the two files
+/// are not swapped.
 fn another(list: &[u8]) -> Option<&'static str> {
     let stated = list.first_chunk::<4>().is_some_and(|four| u32::from_be_bytes(*four) as usize == list.len());
     match (Record::read(list), Catalogue::read(list)) {
-        (Ok(_), _) if stated => Some("these bytes have the length of a job record; are the two files swapped?"),
+        (Ok(_), _) if stated => Some("these bytes have the length of a job record; a list of meters is expected"),
         (_, Ok(_)) if stated => Some("these bytes have the length of a catalogue; a list of meters is expected"),
         _ => None,
     }

@@ -1,13 +1,13 @@
 //! Refusals 1 to 4: the record's length, its version and the house's own fields.
 
-use super::Place;
+use super::{Asked, Place};
 use crate::at::{At, Field};
 use crate::catalogue::Catalogue;
 use crate::record::{HEAD, Record, SECTION};
 
 /// 1: too short, or the stated length is another.
 pub fn length(job: &[u8]) -> Vec<Place> {
-    let mut found: Vec<Place> = swapped(job).into_iter().collect();
+    let mut found = Vec::new();
     let given = job.len();
     if given < HEAD {
         let empty = if given == 0 { "the file is empty: " } else { "" };
@@ -27,7 +27,7 @@ pub fn length(job: &[u8]) -> Vec<Place> {
 
 /// 2: the version's byte.
 pub fn version(job: &[u8]) -> Vec<Place> {
-    let mut found: Vec<Place> = swapped(job).into_iter().collect();
+    let mut found = Vec::new();
     if let Some(version) = job.get(4).filter(|version| **version != 1) {
         found.push(Place::new(At::Field(Field::Version), format!("it is {version}, not 1")));
     }
@@ -53,12 +53,12 @@ pub fn ranges(job: &[u8]) -> Vec<Place> {
     let found = wrong.map(|(field, value, least, most, unit)| {
         Place::new(At::Field(*field), format!("{value} is outside {least} to {most} {unit}"))
     });
-    swapped(job).into_iter().chain(found).collect()
+    found.collect()
 }
 
 /// 4: the length against the count.
 pub fn count(job: &[u8]) -> Vec<Place> {
-    let mut found: Vec<Place> = swapped(job).into_iter().collect();
+    let mut found = Vec::new();
     if let Some(count) = job.get(6) {
         let asked = HEAD + SECTION * usize::from(*count);
         if asked != job.len() {
@@ -70,9 +70,13 @@ pub fn count(job: &[u8]) -> Vec<Place> {
 }
 
 /// A catalogue lent as a job: this place is named before the others. The two layouts never have the same length for the same
-/// counts, so it is no guess.
-fn swapped(job: &[u8]) -> Option<Place> {
-    let table = Catalogue::read(job).is_ok_and(|table| table.stated as usize == job.len());
-    let swapped = table && Record::read(job).is_err();
-    swapped.then(|| Place::new(At::Job, "these bytes have the length of a catalogue; are the two files swapped?"))
+/// counts, so it is no guess. Only where a job is lent as the catalogue are the two swapped.
+pub fn another(asked: &Asked) -> Option<Place> {
+    let table = Catalogue::read(asked.job).is_ok_and(|table| table.stated as usize == asked.job.len());
+    let what = match Record::read(asked.cat).is_ok() {
+        true => "are the two files swapped?",
+        false => "a job record is expected",
+    };
+    let why = format!("these bytes have the length of a catalogue; {what}");
+    (table && Record::read(asked.job).is_err()).then(|| Place::new(At::Job, why))
 }

@@ -23,7 +23,7 @@ pub fn shape(cat: &[u8]) -> Vec<Place> {
         (asked != given, format!("it has {given} bytes; size count {sizes} and row count {rows} ask for {asked}")),
         (
             asked != given && Record::read(cat).is_ok(),
-            "these bytes have the length of a job record; are the two files swapped?".to_string(),
+            "these bytes have the length of a job record; a catalogue is expected".to_string(),
         ),
     ];
     faults.into_iter().filter(|(wrong, _)| *wrong).map(|(_, why)| Place::new(At::Catalogue, why)).collect()

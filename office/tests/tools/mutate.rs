@@ -109,10 +109,16 @@ fn list(dice: &mut Dice) -> String {
         bytes.iter_mut().step_by(5).for_each(|design| *design = 1 + *design % 2);
     }
     let text = meters::show(&bytes).expect("whole meters");
+    let before = dice.below(2) == 0;
     if dice.below(2) == 0 {
         return text;
     }
-    let named = |(at, line): (usize, &str)| format!("{line},{}\n", if at == 0 { "name" } else { "DN 50" });
+    let name = *dice.pick(&["DN 50", "DN 50", "1 1/2\"", "\"1 1/2\"\"\"", "no 3", "40"]);
+    let named = |(at, line): (usize, &str)| {
+        let name = if at == 0 { "name" } else { name };
+        let (design, numbers) = line.split_once(',').expect("a type and numbers");
+        if before { format!("{design},{name},{numbers}\n") } else { format!("{line},{name}\n") }
+    };
     text.lines().enumerate().map(named).collect()
 }
 

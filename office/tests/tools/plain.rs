@@ -306,27 +306,39 @@ fn parted(bytes: &[u8], rows: fn(&[String], char) -> Option<Fields>) -> Option<F
     [';', ',', '\t'].into_iter().find_map(|separator| rows(&lines, separator))
 }
 
-/// The cells of a line, by a walk over its characters.
-fn cells(line: &str, separator: char) -> Vec<String> {
+/// The lines that hold something, cell by cell; nothing where a quotation mark is not closed.
+fn filled(lines: &[String], separator: char) -> Option<Vec<Vec<String>>> {
+    let parted: Option<Vec<Vec<String>>> = lines.iter().map(|line| cells(line, separator)).collect();
+    Some(parted?.into_iter().filter(|line| line.iter().any(|cell| !bare(cell).is_empty())).collect())
+}
+
+/// The cells of a line with their quotation marks, by a walk over its characters.
+fn cells(line: &str, separator: char) -> Option<Vec<String>> {
     let mut found = vec![String::new()];
-    let mut quoted = false;
     for c in line.chars() {
         let last = found.last_mut().expect("one cell at least");
-        if c == '"' && (quoted || last.trim().is_empty()) {
-            quoted = !quoted;
-            last.push(c);
-        } else if c == separator && !quoted {
+        if c == separator && !is_open(last) {
             found.push(String::new());
         } else {
             last.push(c);
         }
     }
-    found.iter().map(|cell| bare(cell.trim())).collect()
+    let closed = found.last().is_some_and(|last| !is_open(last));
+    closed.then(|| found.iter().map(|cell| cell.trim().to_string()).collect())
+}
+
+/// Whether a cell begins with a quotation mark and the one that closes it is still to come.
+fn is_open(cell: &str) -> bool {
+    cell.trim_start().starts_with('"') && cell.chars().filter(|c| *c == '"').count() % 2 == 1
+}
+
+fn bared(line: &[String]) -> Vec<String> {
+    line.iter().map(|cell| bare(cell)).collect()
 }
 
 fn bare(cell: &str) -> String {
     let quoted = cell.len() > 1 && cell.starts_with('"') && cell.ends_with('"');
-    if quoted { cell[1..cell.len() - 1].trim().to_string() } else { cell.to_string() }
+    if quoted { cell[1..cell.len() - 1].trim().replace("\"\"", "\"") } else { cell.to_string() }
 }
 
 /// The column that a header's cell names: 0 to 5, or 6 for notes.
@@ -350,8 +362,7 @@ fn column(cell: &str) -> Option<usize> {
 
 fn rows(lines: &[String], separator: char) -> Option<Fields> {
     let mut fields = Fields::new();
-    let parted: Vec<Vec<String>> = lines.iter().map(|line| cells(line, separator)).collect();
-    let mut parted = parted.into_iter().filter(|line| line.iter().any(|cell| !cell.is_empty()));
+    let mut parted = filled(lines, separator)?.into_iter().map(|line| bared(&line));
     let mut header = parted.next()?;
     while let Some((name, most)) = odd(&header) {
         let value = count(&header[1], most)?;
@@ -461,9 +472,8 @@ fn column_of_list(cell: &str) -> Option<usize> {
 
 /// The header of a list and the meters below it.
 fn list(lines: &[String], separator: char) -> Option<Fields> {
-    let parted: Vec<Vec<String>> = lines.iter().map(|line| cells(line, separator)).collect();
-    let mut parted = parted.into_iter().filter(|line| line.iter().any(|cell| !cell.is_empty()));
-    let header = parted.next()?;
+    let mut parted = filled(lines, separator)?.into_iter();
+    let header = bared(&parted.next()?);
     let columns: Option<Vec<usize>> =
         header.iter().map(|cell| if cell.is_empty() { Some(5) } else { column_of_list(cell) }).collect();
     let columns = columns?;
@@ -472,13 +482,16 @@ fn list(lines: &[String], separator: char) -> Option<Fields> {
     let numbers = columns.iter().position(|column| [1, 2].contains(column))?;
     let mut fields = Fields::new();
     let mut meters = 0;
-    for line in parted {
+    for raw in parted {
         meters += 1;
+        let line = bared(&raw);
         let mut own = [""; 3];
         for (place, cell) in line.iter().enumerate().filter(|(_, cell)| !cell.is_empty()) {
             match columns.get(place) {
                 Some(column @ 0..=2) => own[*column] = cell,
                 Some(3 | 4) if separator == ',' && place > numbers && is_number(cell) => return None,
+                Some(3 | 4) if separator != ',' || raw[place].starts_with('"') => {}
+                Some(3 | 4) if is_beside_a_number(&line, &columns, place) => return None,
                 Some(3 | 4) => {}
                 _ => return None,
             }
@@ -496,8 +509,26 @@ fn list(lines: &[String], separator: char) -> Option<Fields> {
     Some(fields)
 }
 
-/// A number alone, as it stands behind a comma within a number.
+/// A number alone, as it stands behind a comma within a number; signs may stand before it.
 fn is_number(cell: &str) -> bool {
-    let digit = cell.chars().any(|c| c.is_ascii_digit());
-    digit && cell.chars().all(|c| c.is_ascii_digit() || c == '.' || c.is_whitespace())
+    let rest: String = cell.chars().skip_while(|c| !c.is_alphanumeric()).collect();
+    rest.chars().next().is_some_and(|c| c.is_ascii_digit())
+        && rest.chars().all(|c| c.is_ascii_digit() || c == '.' || c.is_whitespace())
+}
+
+/// Whether a name or a note may be a part of the number before it or behind it.
+fn is_beside_a_number(line: &[String], columns: &[usize], place: usize) -> bool {
+    let number = |at: usize| {
+        let whole = line.get(at).filter(|cell| !cell.is_empty() && !cell.contains('.'))?;
+        columns.get(at).filter(|column| [1, 2].contains(*column)).map(|column| (whole, *column))
+    };
+    let cell = &line[place];
+    let begins = cell.chars().find(|c| c.is_alphanumeric()).is_some_and(|c| c.is_ascii_digit());
+    let last: Vec<char> = cell.chars().rev().take_while(char::is_ascii_digit).collect();
+    let last: String = last.into_iter().rev().collect();
+    let holds = |text: String| self::number(&text, 4, false).is_some_and(|value| value <= 65_535);
+    let behind = number(place + 1).is_some_and(|(whole, column)| {
+        is_number(cell) || (column == 1 && !last.is_empty() && holds(format!("{last}.{whole}")))
+    });
+    behind || (place > 0 && begins && number(place - 1).is_some())
 }
