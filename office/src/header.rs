@@ -47,6 +47,11 @@ impl Form {
         self.columns.iter().filter_map(|column| Some(Quantity::new(column.title, column.measure?)))
     }
 
+    /// The columns of numbers, by their places in the form, and what each measures.
+    pub fn measures(&self) -> impl Iterator<Item = (usize, &'static Measure)> {
+        (0..).zip(self.columns).filter_map(|(column, of)| Some((column, of.measure?)))
+    }
+
     /// The header and what may stand beside it, for a message.
     fn expected(&self, separator: char) -> String {
         let named = self.name.map_or(String::new(), |name| format!("a column `{name}` names the rows, "));

@@ -30,6 +30,7 @@ pub use situations::Counters;
 pub mod at;
 pub mod catalogue;
 mod cells;
+mod commas;
 pub mod draw;
 pub mod echo;
 mod header;

@@ -3,7 +3,6 @@
 //! As with houses and tables: packing refuses only what is no line of the format, what could mean two things, and what can't
 //! be written as bytes; the rules of document 02 are the library's. `docs/FILES.md` describes the format.
 
-mod commas;
 mod rows;
 
 use crate::at::Lines;

@@ -175,6 +175,34 @@ fn a_quotation_mark_is_closed_in_its_line() {
     assert_eq!((mistakes.list.len(), line(&mistakes.list[0])), (1, Some(6)), "{mistakes}");
 }
 
+/// A table's notes are held against its numbers in the same way: with a decimal comma the slope 40.5 would be 40.
+#[test]
+fn a_note_of_a_table_is_no_part_of_a_number() {
+    let columns = "size,bore mm,price,flow ml/s,velocity mm/s,slope mm/m";
+    let table = |header: &str, first: &str| format!("{header}\n{first}\n1,40,900,3000,2400,300,steel\n");
+    let noted = format!("{columns},notes");
+    for (row, wrong) in [
+        ("1,40,900,1000,800,40,5", "a comma may stand in one of these"),
+        ("1,40,900,1000,800,40,5 mm", "the two may be one, 40,5"),
+        ("1,40,900,1000,800,40, ~5", "a comma may stand in one of these"),
+    ] {
+        let mistakes = table::pack(&table(&noted, row)).expect_err(row);
+        assert!(mistakes.list[0].wrong.ends_with(wrong), "{row}: {mistakes}");
+        assert_eq!((mistakes.list.len(), line(&mistakes.list[0])), (1, Some(2)), "{row}: {mistakes}");
+    }
+    for row in ["1,40,900,1000,800,40,steel 5", "1,40,900,1000,800,40,\"5 mm\"", "1,40,900,1000,800,40,"] {
+        assert!(table::pack(&table(&noted, row)).is_ok(), "{row}");
+    }
+    let parted = table(&noted, "1,40,900,1000,800,40,5 mm").replace(',', ";");
+    assert!(table::pack(&parted).is_ok(), "semicolons part the cells");
+    let before = format!("notes,{columns}\n3,1,40,900,1000,800,40\nsteel,1,40,900,3000,2400,300\n");
+    let mistakes = table::pack(&before).expect_err("a number before the sizes");
+    assert!(
+        mistakes.list[0].wrong.ends_with("right before a number without a point: the two may be one, 3,1"),
+        "{mistakes}"
+    );
+}
+
 #[test]
 fn a_quotation_mark_within_a_cell_is_written_twice() {
     let rows = "vane,0.5,6400,\"1 1/2\"\"\"\nvane,1.3,4000, \"a \"\"b, c\"\" d\" \nturbine,0.143,12000,DN 2\"\nvane,0.5,6400,\"\"";

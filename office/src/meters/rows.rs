@@ -1,8 +1,9 @@
 //! The rows of a list of meters.
 
-use super::{FORM, Packed, commas};
+use super::{FORM, Packed};
 use crate::at::{At, Lines};
 use crate::cells::Cells;
+use crate::commas;
 use crate::echo;
 use crate::header::Columns;
 use crate::measure::{self, Fault};
@@ -30,7 +31,7 @@ impl Given {
     /// Takes one row.
     pub fn take(&mut self, row: &Cells, columns: &Columns, mistakes: &mut Mistakes) {
         mistakes.extend(columns.stray(row));
-        mistakes.extend(commas::doubtful(row, columns));
+        mistakes.extend(commas::doubtful(row, columns, &FORM));
         let mut noted = |found: Result<i64, Mistake>| found.map_err(|mistake| mistakes.add(mistake)).unwrap_or(0);
         let design = noted(design(row, columns)) as u8;
         let resistance = noted(advised(row, columns, RESISTANCE, of_resistance)) as u16;

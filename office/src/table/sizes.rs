@@ -4,6 +4,7 @@ use super::FORM;
 use crate::at::{At, Lines};
 use crate::catalogue::{Row, Size};
 use crate::cells::Cells;
+use crate::commas;
 use crate::header::Columns;
 use crate::measure::{self, Quantity};
 use crate::mistake::{Mistake, Mistakes};
@@ -59,6 +60,7 @@ impl Given {
     pub fn take(&mut self, line: &Cells, columns: &Columns, mistakes: &mut Mistakes) {
         let row = Under { line, columns };
         mistakes.extend(columns.stray(line));
+        mistakes.extend(commas::doubtful(line, columns, &FORM));
         let size = match self.size(&row) {
             Ok(size) => size,
             Err(mistake) => {

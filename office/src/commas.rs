@@ -1,22 +1,22 @@
 //! Names and notes that may be parts of numbers: where commas part the cells, a comma within a number makes two cells of it, and
-//! the loss or the service flow would be another without a word.
+//! the number would be another without a word.
 
-use super::rows::{RESISTANCE, SERVICE};
 use crate::cells::Cells;
-use crate::header::Columns;
-use crate::measure;
+use crate::header::{Columns, Form};
+use crate::measure::Measure;
 use crate::mistake::Mistake;
 
 /// A name or a note of a row that may be a part of a number.
-pub fn doubtful(row: &Cells, columns: &Columns) -> Option<Mistake> {
+pub fn doubtful(row: &Cells, columns: &Columns, form: &Form) -> Option<Mistake> {
     let places = columns.words().filter(|_| row.separator == ',');
-    places.map(|place| Words { row, columns, place }).find_map(|words| words.pushed().or_else(|| words.joined()))
+    places.map(|place| Words { row, columns, form, place }).find_map(|words| words.pushed().or_else(|| words.joined()))
 }
 
 /// A name or a note.
 struct Words<'a, 'b> {
     row: &'a Cells<'b>,
     columns: &'a Columns,
+    form: &'a Form,
     place: usize,
 }
 
@@ -27,7 +27,7 @@ impl Words<'_, '_> {
 
     /// A number alone behind a column of numbers: a comma in one of these may have pushed the cells on.
     fn pushed(&self) -> Option<Mistake> {
-        let behind = [RESISTANCE, SERVICE].iter().any(|column| self.columns.places[*column] < self.place);
+        let behind = self.form.measures().any(|(column, _)| self.columns.places[column] < self.place);
         let wrong = format!(
             "`{}` stands where words are expected, behind numbers: a comma may stand in one of these",
             self.cell()
@@ -54,11 +54,11 @@ impl Words<'_, '_> {
         Some(self.row.mistake(wrong, expected))
     }
 
-    /// The cell at a place that has a number without a point, and its column.
-    fn whole(&self, place: Option<usize>) -> Option<(&str, usize)> {
-        let column = [RESISTANCE, SERVICE].into_iter().find(|column| Some(self.columns.places[*column]) == place)?;
+    /// The cell at a place that has a number without a point, and what is measured there.
+    fn whole(&self, place: Option<usize>) -> Option<(&str, &'static Measure)> {
+        let (_, measure) = self.form.measures().find(|(column, _)| Some(self.columns.places[*column]) == place)?;
         let number = self.row.at(place?);
-        (!number.is_empty() && !number.contains('.')).then_some((number, column))
+        (!number.is_empty() && !number.contains('.')).then_some((number, measure))
     }
 
     fn with_the_number_before(&self) -> Option<String> {
@@ -69,13 +69,13 @@ impl Words<'_, '_> {
 
     /// A name such as `DN 32` is no part of a resistance, which would be over what a list holds.
     fn with_the_number_behind(&self) -> Option<String> {
-        let (number, column) = self.whole(Some(self.place + 1))?;
+        let (number, measure) = self.whole(Some(self.place + 1))?;
         if is_number(self.cell()) {
             return Some(format!("{},{number}", behind_signs(self.cell())));
         }
         let (_, digits) = self.cell().split_at(self.cell().trim_end_matches(|c: char| c.is_ascii_digit()).len());
-        let resistance = measure::RESISTANCE.number(&format!("{digits}.{number}"), measure::RESISTANCE.decimals());
-        let held = column == RESISTANCE && resistance.is_ok_and(|value| measure::RESISTANCE.holds(value));
+        let joined = measure.number(&format!("{digits}.{number}"), measure.decimals());
+        let held = measure.decimals() > 0 && joined.is_ok_and(|value| measure.holds(value));
         held.then(|| format!("{digits},{number}"))
     }
 }
