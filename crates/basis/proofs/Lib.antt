@@ -4,6 +4,7 @@ pub mod Within
 pub mod Each
 pub mod Lowest
 pub mod Sum
+pub mod Most
 pub mod Slots
 pub mod Stored
 pub mod Part

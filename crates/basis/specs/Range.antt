@@ -1,6 +1,6 @@
--- Sums and tests over the whole numbers from 1 to n, and the lowest that passes a test.
+-- Sums, the most and tests over the whole numbers from 1 to n, and the lowest that passes a test.
 -- Assumes nothing.
-use Prim.Native.Nat.{ℕ, zero, suc, _+_}
+use Prim.Native.Nat.{ℕ, zero, suc, _+_, max}
 use mathlib.Core.Bool.{Bool, true, false, _&&_, _||_, cond}
 use mathlib.Core.List.{List, [], _++_}
 use lib.Dec.{leb}
@@ -13,6 +13,11 @@ within lo hi x = leb lo x && leb x hi
 unfoldable pub sumTo : ℕ → (ℕ → ℕ) → ℕ
 sumTo zero f = 0
 sumTo (suc n) f = sumTo n f + f (suc n)
+
+-- the most of f 1 .. f n, 0 where there is none
+unfoldable pub mostTo : ℕ → (ℕ → ℕ) → ℕ
+mostTo zero f = 0
+mostTo (suc n) f = max (mostTo n f) (f (suc n))
 
 -- each of f 1 .. f n is true
 unfoldable pub allTo : ℕ → (ℕ → Bool) → Bool

@@ -10,9 +10,10 @@ use Rattle.fields.specs.declared.Job.{Job}
 use Rattle.fields.specs.Fields.{residentsOf}
 use Rattle.tree.specs.Tree.{houseOf}
 use Rattle.norms.specs.Norms.{normOf}
-use Rattle.demand.specs.Demand.{serviceOf, normAt, shareOf, mOf, fixtureSumOf, flowOf, fixturesOf}
-use Rattle.demand.proofs.Equations.{share-is, m-is, fixture-is, flow-is}
+use Rattle.demand.specs.Demand.{serviceOf, normAt, shareOf, mOf, fixtureSumOf, averageFlowOf, flowOf, fixturesOf}
+use Rattle.demand.proofs.Equations.{share-is, m-is, fixture-is, average-is, flow-is}
 use Rattle.demand.proofs.Shares.{share-zero}
+use Rattle.demand.proofs.Taps.{one-tap-agree}
 
 -- two jobs, each with a vector, whose shares agree
 module _ (a b : Job) (n n′ : ℕ → ℕ) (services : serviceOf a ≡ serviceOf b)
@@ -29,8 +30,11 @@ module _ (a b : Job) (n n′ : ℕ → ℕ) (services : serviceOf a ≡ serviceO
       sum-ext 12 _ _ (λ kind p q. ap (λ x. x * normAt a kind .fixture) (shares kind p q) ∙ ap (λ x. shareOf b n′ kind * x) (fixture-agree kind)) ∙
       sym (fixture-is b n′)
 
-  pub flow-agree : flowOf a n ≡ flowOf b n′
-  flow-agree = flow-is a n ∙ rw (weighted-agree, m-agree) (sym (flow-is b n′))
+  average-agree : averageFlowOf a n ≡ averageFlowOf b n′
+  average-agree = average-is a n ∙ rw (weighted-agree, m-agree) (sym (average-is b n′))
+
+  pub flow-agree : ((kind : ℕ) → 0 < kind → kind ≤ 12 → n kind ≡ n′ kind) → flowOf a n ≡ flowOf b n′
+  flow-agree same = flow-is a n ∙ rw (average-agree, one-tap-agree a b n n′ services same) (sym (flow-is b n′))
 
 module _ (job : Job) (n n′ : ℕ → ℕ) (same : (kind : ℕ) → 0 < kind → kind ≤ 12 → n kind ≡ n′ kind) where
   share-same : (kind : ℕ) → 0 < kind → kind ≤ 12 → shareOf job n kind ≡ shareOf job n′ kind
@@ -43,7 +47,7 @@ module _ (job : Job) (n n′ : ℕ → ℕ) (same : (kind : ℕ) → 0 < kind �
   weighted-same = weighted-agree job job n n′ refl share-same
 
   pub flow-same : flowOf job n ≡ flowOf job n′
-  flow-same = flow-agree job job n n′ refl share-same
+  flow-same = flow-agree job job n n′ refl share-same same
 
   pub fixtures-same : fixturesOf n ≡ fixturesOf n′
   unfolding fixturesOf
@@ -61,4 +65,4 @@ module _ (a b : Job) (n : ℕ → ℕ) (services : serviceOf a ≡ serviceOf b)
       (lt-or-ge 0 (n kind))
 
   pub flow-depends : flowOf a n ≡ flowOf b n
-  flow-depends = flow-agree a b n n services share-depends
+  flow-depends = flow-agree a b n n services share-depends (λ kind p q. refl)

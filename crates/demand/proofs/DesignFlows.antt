@@ -9,9 +9,10 @@ use Rattle.fields.specs.declared.Job.{Job}
 use Rattle.tree.specs.Tree.{houseOf}
 use Rattle.coefficient.specs.Alpha.{alphaOf}
 use Rattle.coefficient.proofs.Coefficient.{alpha-ceiling}
-use Rattle.demand.specs.Demand.{mOf, fixtureSumOf, flowOf, houseFlow, hourSumOf, hourlySumOf, hourOf, Valid}
-use Rattle.demand.proofs.Equations.{flow-is, hour-is}
+use Rattle.demand.specs.Demand.{mOf, fixtureSumOf, averageFlowOf, flowOf, houseFlow, hourSumOf, hourlySumOf, hourOf, Valid}
+use Rattle.demand.proofs.Equations.{average-is, flow-is, hour-is}
 use Rattle.demand.proofs.Totals.{fixture-sum-le, hourly-sum-le, house-m-pos}
+use Rattle.demand.proofs.Taps.{one-tap-top}
 
 -- a sum of at most b times α
 pub alpha-product : (t b m : ℕ) → t ≤ b → t * alphaOf m ≤ b * 91900000
@@ -22,10 +23,13 @@ pub alpha-quotient : (t b d m : ℕ) → 0 < d → t ≤ b → b * 91900000 ≤ 
 alpha-quotient t b d m h k l = up-le (t * alphaOf m) 137850 h (omega (arith, alpha-product t b m k))
 
 module _ (job : Job) (n : ℕ → ℕ) where
-  pub flow-top : 0 < mOf job n → flowOf job n ≤ 137850
-  flow-top h =
-      rw (flow-is job n)
+  average-top : 0 < mOf job n → averageFlowOf job n ≤ 137850
+  average-top h =
+      rw (average-is job n)
       (alpha-quotient (fixtureSumOf job n) (30 * mOf job n) (20000 * mOf job n) (mOf job n) (omega arith) (fixture-sum-le job n) (omega arith))
+
+  pub flow-top : 0 < mOf job n → flowOf job n ≤ 137850
+  flow-top h = omega (arith, flow-is job n, average-top h, one-tap-top job n)
 
 pub house-flow-top : {job : Job} → Valid job → houseFlow job ≤ 137850
 house-flow-top {job} valid = flow-top job (houseOf job) (house-m-pos valid)

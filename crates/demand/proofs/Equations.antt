@@ -2,9 +2,9 @@
 -- Assumes nothing.
 use mathlib.Core.Path.{_≡_, refl}
 use mathlib.Core.Bool.{cond}
-use Prim.Native.Nat.{ℕ, _*_, _≤_, _<_}
-use lib.Dec.{eqb}
-use Rattle.basis.specs.Range.{sumTo}
+use Prim.Native.Nat.{ℕ, _*_, _≤_, _<_, max}
+use lib.Dec.{eqb, ltb}
+use Rattle.basis.specs.Range.{sumTo, mostTo}
 use Rattle.basis.specs.Round.{up}
 use Rattle.fields.specs.declared.Job.{Job}
 use Rattle.fields.specs.Fields.{residentsOf}
@@ -12,7 +12,7 @@ use Rattle.tree.specs.Tree.{houseOf}
 use Rattle.coefficient.specs.Alpha.{alphaOf}
 use Rattle.norms.specs.declared.Norm.{Norm}
 use Rattle.norms.proofs.Bounds.{NormIn, norm-in}
-use Rattle.demand.specs.Demand.{serviceOf, normAt, shareOf, mOf, fixtureSumOf, flowOf, hourShareOf, hourSumOf, hourlySumOf, hourOf}
+use Rattle.demand.specs.Demand.{serviceOf, normAt, shareOf, mOf, fixtureSumOf, averageFlowOf, tapOf, oneTapOf, flowOf, hourShareOf, hourSumOf, hourlySumOf, hourOf}
 
 -- the share by a kind's norms, its residents, and its fixtures, n of the house's: rate × n / (base × house)
 abbrev pub rateBy : Norm → ℕ → ℕ
@@ -49,7 +49,19 @@ module _ (job : Job) (n : ℕ → ℕ) where
   unfolding fixtureSumOf
   fixture-is = refl
 
-  pub flow-is : flowOf job n ≡ up (fixtureSumOf job n * alphaOf (mOf job n)) (20000 * mOf job n)
+  pub average-is : averageFlowOf job n ≡ up (fixtureSumOf job n * alphaOf (mOf job n)) (20000 * mOf job n)
+  unfolding averageFlowOf
+  average-is = refl
+
+  pub tap-is : (kind : ℕ) → tapOf job n kind ≡ cond (ltb 0 (n kind)) (normAt job kind .fixture) 0
+  unfolding tapOf
+  tap-is kind = refl
+
+  pub one-tap-is : oneTapOf job n ≡ 10 * mostTo 12 (tapOf job n)
+  unfolding oneTapOf
+  one-tap-is = refl
+
+  pub flow-is : flowOf job n ≡ max (averageFlowOf job n) (oneTapOf job n)
   unfolding flowOf
   flow-is = refl
 

@@ -5,6 +5,7 @@ pub mod Validity
 pub mod Serving
 pub mod Equations
 pub mod Shares
+pub mod Taps
 pub mod Totals
 pub mod Agreeing
 pub mod DesignFlows

@@ -36,7 +36,7 @@ module _ (a b : Job) (services : serviceOf a ≡ serviceOf b) (counts : countOf 
       m-agree a b (servedOf a i) (servedOf b i) services (shares (servedOf a i) (servedOf b i) (served-same a b counts sections i))
 
   pub house-flow-same : houseFlow a ≡ houseFlow b
-  house-flow-same = flow-agree a b (houseOf a) (houseOf b) services (shares (houseOf a) (houseOf b) houses)
+  house-flow-same = flow-agree a b (houseOf a) (houseOf b) services (shares (houseOf a) (houseOf b) houses) (λ kind p q. houses kind)
 
   hour-same : hourSumOf a ≡ hourSumOf b
   hour-same =

@@ -1,12 +1,12 @@
--- Document 01, "Norms and design flows": shares, m, design flow, hour, day and mean hour; refusals 8 and 9.
+-- Document 01, "Norms and design flows": shares, m, design flow, hour, day and mean hour; refusals 8 and 9. Document 02, L2: design flow.
 -- A vector n gives the fixtures of each kind: `houseOf job` for the house, `servedOf job i` for section i.
 -- Assumes nothing.
 use mathlib.Core.Path.{_≡_}
-use Prim.Native.Nat.{ℕ, _*_}
+use Prim.Native.Nat.{ℕ, _*_, max}
 use mathlib.Core.Bool.{Bool, true, _&&_, _||_, cond}
 use mathlib.Core.List.{List, [], _∷_}
 use lib.Dec.{leb, ltb, eqb}
-use Rattle.basis.specs.Range.{sumTo, anyTo}
+use Rattle.basis.specs.Range.{sumTo, mostTo, anyTo}
 use Rattle.basis.specs.Round.{up}
 use Rattle.answer.specs.Checks.{firstNo}
 use Rattle.fields.specs.declared.Job.{Job}
@@ -39,9 +39,21 @@ mOf job n = sumTo 12 (λ kind. shareOf job n kind)
 unfoldable pub fixtureSumOf : Job → (ℕ → ℕ) → ℕ
 fixtureSumOf job n = sumTo 12 (λ kind. shareOf job n kind * normAt job kind .fixture)
 
--- design flow in ml/s: (sum of share × Z) × α / (20,000 × m), up
+-- document 01's design flow in ml/s: (sum of share × Z) × α / (20,000 × m), up
+unfoldable pub averageFlowOf : Job → (ℕ → ℕ) → ℕ
+averageFlowOf job n = up (fixtureSumOf job n * alphaOf (mOf job n)) (20000 * mOf job n)
+
+-- Z of a kind served, which is one with fixtures above 0; 0 for any other
+unfoldable pub tapOf : Job → (ℕ → ℕ) → ℕ → ℕ
+tapOf job n kind = cond (ltb 0 (n kind)) (normAt job kind .fixture) 0
+
+-- what one tap draws, in ml/s: 10 × the largest Z among the kinds served
+unfoldable pub oneTapOf : Job → (ℕ → ℕ) → ℕ
+oneTapOf job n = 10 * mostTo 12 (λ kind. tapOf job n kind)
+
+-- design flow in ml/s: the larger of document 01's value and one tap
 unfoldable pub flowOf : Job → (ℕ → ℕ) → ℕ
-flowOf job n = up (fixtureSumOf job n * alphaOf (mOf job n)) (20000 * mOf job n)
+flowOf job n = max (averageFlowOf job n) (oneTapOf job n)
 
 -- the flow of section i
 abbrev pub sectionFlow : Job → ℕ → ℕ

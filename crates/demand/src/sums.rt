@@ -1,21 +1,23 @@
-// The sums over the twelve kinds: shares, and shares by norm.
+// The sums over the twelve kinds: shares, and shares by norm; and one tap of the kinds served.
 use fields::Job;
+use numbers::greater;
 use numbers::long16;
 use numbers::long32;
 ghost use mathlib.Core.Path.{_≡_};
 ghost use mathlib.Core.Bool.{cond};
 ghost use Prim.Native.Nat.{_+_, _*_, _≤_, _<_};
-ghost use lib.Dec.{eqb};
+ghost use lib.Dec.{eqb, ltb};
 ghost use Rattle.basis.specs.Round.{up};
 ghost use Rattle.norms.specs.Norms.{normOf};
 ghost use Rattle.tree.specs.Tree.{servedOf, Rooted};
 ghost use Rattle.tree.specs.Rows.{Counted};
-ghost use Rattle.demand.specs.Demand.{mOf, fixtureSumOf, hourSumOf, hourlySumOf};
+ghost use Rattle.demand.specs.Demand.{mOf, fixtureSumOf, oneTapOf, hourSumOf, hourlySumOf};
 
-// Of a section or the house: m, and the sum of share × Z.
+// Of a section or the house: m, the sum of share × Z, and one tap in ml/s.
 pub struct Sums {
     pub m: u64,
     pub weighted: u64,
+    pub tap: usize,
 }
 
 // Of the house's hour: the sum of the shares, and of share × O.
@@ -38,25 +40,40 @@ fn share(kind: usize, residents: u64, n: u64, house: u64) -> u64
     round::divide_up(25000 * norm.hour * residents * n, 9 * norm.fixture * house)
 }
 
+// Z of a kind with n fixtures: without any it is not served.
+fn served(n: u64, z: u64) -> usize
+    ensures { λ r. ⌜ r ≡ cond (ltb 0 n) z 0 ⌝ }
+{
+    if 0 < n { z as usize } else { 0 }
+}
+
 // The sums of row i of the counts: section i's, or the house's where i is 0. An index into a job's own array would copy the whole job.
 pub fn sums_of(job: Job, counts: &[u32; 768], i: usize) -> Sums
     requires { ⌜ Rooted job × Counted job (now counts) × (i < 64) ⌝ }
-    ensures { λ r. ⌜ (r .m ≡ mOf job (servedOf job i)) × (r .weighted ≡ fixtureSumOf job (servedOf job i)) ⌝ }
+    ensures { λ r. ⌜ (r .m ≡ mOf job (servedOf job i)) × (r .weighted ≡ fixtureSumOf job (servedOf job i))
+        × (r .tap ≡ oneTapOf job (servedOf job i)) ⌝ }
 {
     let mut m: u64 = 0;
     let mut weighted: u64 = 0;
+    let mut largest: usize = 0;
     let mut kind: usize = 1;
     while kind <= 12 {
         let c = kind - 1;
         let residents = job.residents;
         let n = long32(counts[i * 12 + c]);
-        let part = share(kind, long16(residents[c]), n, long32(counts[c]));
+        let house = long32(counts[c]);
+        let part = share(kind, long16(residents[c]), n, house);
         let norm = norms::norm_of(kind);
         m = m + part;
         weighted = weighted + part * norm.fixture;
+        largest = greater(largest, served(n, norm.fixture));
         kind += 1;
     }
-    Sums { m, weighted }
+    Sums {
+        m,
+        weighted,
+        tap: 10 * largest,
+    }
 }
 
 // The sums of the house's hour.

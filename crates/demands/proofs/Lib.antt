@@ -4,4 +4,5 @@ mod Ratings
 pub mod Demand2
 pub mod Demand3
 pub mod Metering
+pub mod OneTap
 pub mod Worked

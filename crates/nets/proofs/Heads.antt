@@ -4,7 +4,7 @@ use mathlib.Core.List.{List}
 use Prim.Native.Nat.{ℕ, _+_, _≤_, _<_}
 use Rattle.basis.specs.Sections.{sizeOf}
 use Rattle.nets.specs.Net.{Net, pathIn, Suits, headIn}
-use Rattle.nets.proofs.Most.{most-bound, most-le}
+use Rattle.basis.proofs.Most.{most-bound, most-le}
 
 module _ (N : Net) (z : List ℕ) where
   pub head-bound : (s : ℕ) → 0 < s → s ≤ N .sections → pathIn N (sizeOf z) s + N .need s ≤ headIn N z

@@ -3,9 +3,9 @@
 use mathlib.Core.Path.{_≡_}
 use mathlib.Core.Bool.{Bool, true}
 use mathlib.Core.List.{List}
-use Prim.Native.Nat.{ℕ, zero, suc, _+_, _≤_, _<_, max}
+use Prim.Native.Nat.{ℕ, _+_, _≤_, _<_}
 use lib.ListN.{length}
-use Rattle.basis.specs.Range.{sumTo}
+use Rattle.basis.specs.Range.{sumTo, mostTo}
 use Rattle.basis.specs.Sections.{sizeOf, pathOf}
 
 -- sections and sizes number from 1; parent 0 is the pump
@@ -37,11 +37,6 @@ pub record Suits (N : Net) (a : ℕ) (z : List ℕ) : Type 0 where
 -- the cost of a list in a net
 unfoldable pub costIn : Net → List ℕ → ℕ
 costIn N z = sumTo (N .sections) (λ s. N .cost s (sizeOf z s))
-
--- the most of f 1 .. f n, 0 where there is none
-unfoldable pub mostTo : ℕ → (ℕ → ℕ) → ℕ
-mostTo zero f = 0
-mostTo (suc n) f = max (mostTo n f) (f (suc n))
 
 -- the most of path loss + need: the least head at the pump with which a list gives each end what it needs
 unfoldable pub headIn : Net → List ℕ → ℕ

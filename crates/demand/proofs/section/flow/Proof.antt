@@ -17,7 +17,7 @@ top c =
     (alpha-quotient _ (30 * c .before .before .before .args .s .m) _ _ (omega arith) (omega arith) (omega arith))
 
 returns : tie.Need-returns
-returns c = c .divide-up .ensures ∙ rw (c .before .before .alpha .ensures)
+returns c = c .greater .ensures ∙ rw (c .before .divide-up .ensures, c .before .before .before .alpha .ensures)
 
 pub flow-spec : {M : Type 1} → statement M
 flow-spec = tie.close (tie.spec (λ c. search needs) (λ c κs. search needs) (λ c. search needs) (λ c. omega (arith, product (c .before))) (λ c. omega arith) (λ c κs. (omega arith, omega (arith, product (c .before)))) (λ c. omega (arith, top c)) returns)

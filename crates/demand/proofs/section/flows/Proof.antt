@@ -11,7 +11,8 @@ use Rattle.tree.specs.Tree.{servedOf}
 use Rattle.demand.specs.Demand.{sectionFlow}
 use Rattle.demand.proofs.Validity.{valid-rooted, valid-kinds, valid-count}
 use Rattle.demand.proofs.Totals.{m-pos, section-m-top, fixture-sum-le}
-use Rattle.demand.proofs.Equations.{flow-is}
+use Rattle.demand.proofs.Equations.{average-is, flow-is}
+use Rattle.demand.proofs.Taps.{one-tap-top}
 use Rattle.demand.proofs.section.flows.Statement.{statement}
 use Rattle.demand.proofs.section.flows.Tie as tie
 
@@ -38,11 +39,12 @@ flow-requires c κs =
     let start = c .before .before .before .before .before .before .before .before in
     let i = c .before .before .before .before .loop .i in
     let sums = c .sums-of .ensures in
-    rw (sums .0, sums .1) (
+    rw (sums .0, sums .1, sums .2) (
       c .before .before .before .before .before .table2 .ensures,
       m-pos (start .pre .valid) i (omega arith) (omega arith),
       section-m-top (start .pre) i,
       fixture-sum-le (start .args .job) (servedOf (start .args .job) i),
+      one-tap-top (start .args .job) (servedOf (start .args .job) i),
     )
 
 loop-again : tie.Need-loop-again Inv-loop μ-loop
@@ -51,7 +53,7 @@ loop-again c =
     let at = c .before .before .before .before .before in
     let i = at .loop .i in
     let sums = c .before .sums-of .ensures in
-    let flow : c .flow .result ≡ sectionFlow (start .args .job) i = c .flow .ensures ∙ rw (sums .0, sums .1) (sym (flow-is (start .args .job) (servedOf (start .args .job) i))) in (
+    let flow : c .flow .result ≡ sectionFlow (start .args .job) i = c .flow .ensures ∙ rw (sums .0, sums .1, sums .2, ← average-is (start .args .job) (servedOf (start .args .job) i)) (sym (flow-is (start .args .job) (servedOf (start .args .job) i))) in (
       omega arith,
       omega arith,
       rw (at .loop .inv .2, flow) (slots-more 64 1 i 0 (sectionFlow (start .args .job)) (omega arith) (omega (arith, valid-count (start .pre .valid) .high))),
