@@ -10,7 +10,7 @@ use lib.IntN.{pos}
 use lib.ListN.{length}
 use lib.Signed.{leZ}
 use Rattle.basis.specs.Sections.{pathFrom, pathOf}
-use Rattle.basis.specs.Range.{sumTo, allTo, anyTo, lowestTo}
+use Rattle.basis.specs.Range.{sumTo, mostTo, allTo, anyTo, lowestTo}
 use Rattle.basis.specs.Round.{up, line}
 use Rattle.basis.specs.Slots.{tabulate, slots}
 use Rattle.basis.specs.Stored.{stored}
@@ -26,7 +26,7 @@ use Rattle.norms.specs.Norms.{dayNorms, hourNorms, fixtureNorms, hourlyNorms, n
 use Rattle.coefficient.specs.Table.{table}
 use Rattle.coefficient.specs.Alpha.{along, alphaOf}
 use Rattle.coefficient.proofs.Worked.{worked as alpha}
-use Rattle.demand.specs.Demand.{shareOf, mOf, fixtureSumOf, flowOf, hourShareOf, hourSumOf, hourlySumOf, hourOf, dayOf, meanOf, fixturesOf, overSum, needsTableOne, overProbability, demandChecks}
+use Rattle.demand.specs.Demand.{shareOf, mOf, fixtureSumOf, averageFlowOf, tapOf, oneTapOf, flowOf, hourShareOf, hourSumOf, hourlySumOf, hourOf, dayOf, meanOf, fixturesOf, overSum, needsTableOne, overProbability, demandChecks}
 use Rattle.acceptance.specs.Acceptance.{jobChecks, jobNo}
 use Rattle.catalogue.specs.Layout.{boreOf, priceOf, partOf, flowAt, velocityAt, slopeAt}
 use Rattle.catalogue.specs.Rules.{shapeOk, rowOk, risesAt, rowsOk, sizeOk, sizesOk, catChecks, catNo}
@@ -49,8 +49,8 @@ use Rattle.choosing.proofs.Ordering.{choose-ready}
 -- size 1 is over the limit, whatever H is
 over-one : (high low : ℕ) → overAny (decode (jobOf high low)) ownCat (1 ∷ []) ≡ true
 unfolding
-    sumTo anyTo up line tabulate slots beAt headerAt residentsAt sectionFrom decode
-    parentOf reaches below ownOf servedOf houseOf hourNorms fixtureNorms normOf along table alphaOf shareOf mOf fixtureSumOf flowOf
+    sumTo mostTo anyTo up line tabulate slots beAt headerAt residentsAt sectionFrom decode
+    parentOf reaches below ownOf servedOf houseOf hourNorms fixtureNorms normOf along table alphaOf shareOf mOf fixtureSumOf averageFlowOf tapOf oneTapOf flowOf
     partOf flowAt velocityAt between servesAt readRows readingOf overBy overAt overAny
 over-one high low = refl
 

@@ -1,5 +1,6 @@
 -- Demand 2: "Flows, demands, velocities, losses, required head and pump head are those of the SNiP formulas with the units and roundings
 -- of document 01, and a job record written and read again has the same fields, as an accepted record read and written has the same bytes."
+-- Document 02, L2: "Where this or a later request changes a definition, demands 2 and 3 mean the changed one."
 -- The figures are read back from a result's bytes by its layout, as a caller reads them. The formulas are the definitions named here.
 -- Assumes nothing.
 use mathlib.Core.Path.{_≡_}

@@ -4,6 +4,7 @@
 -- 01. Nobody who keeps the job and the catalogue can spend less: every other list that suits them costs at least as much. Given enough
 -- workspace and result space, the chooser refuses with 16 exactly when no list suits them, and otherwise returns one. All this holds
 -- whatever the workspace and the result buffer held before."
+-- Document 02, L2: "Where this or a later request changes a definition, demands 2 and 3 mean the changed one."
 -- Assumes nothing.
 use mathlib.Core.Path.{_≡_}
 use mathlib.Core.Bool.{true, false}

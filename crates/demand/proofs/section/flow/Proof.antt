@@ -20,4 +20,4 @@ returns : tie.Need-returns
 returns c = c .greater .ensures ∙ rw (c .before .divide-up .ensures, c .before .before .before .alpha .ensures)
 
 pub flow-spec : {M : Type 1} → statement M
-flow-spec = tie.close (tie.spec (λ c. search needs) (λ c κs. search needs) (λ c. search needs) (λ c. omega (arith, product (c .before))) (λ c. omega arith) (λ c κs. (omega arith, omega (arith, product (c .before)))) (λ c. omega (arith, top c)) returns)
+flow-spec = tie.close (tie.spec (λ c. search needs) (λ c κs. search needs) (λ c. search needs) (λ c. omega (arith, product (c .before))) (λ c. omega arith) (λ c κs. (omega arith, omega (arith, product (c .before)))) (λ c κs. search needs) (λ c. let t = top (c .before) in omega (arith, c .greater .ensures)) returns)

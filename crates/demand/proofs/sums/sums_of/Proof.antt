@@ -1,26 +1,31 @@
--- `demand::sums::sums_of` meets its contract: before each kind the two sums are those of the kinds before it.
+-- `demand::sums::sums_of` meets its contract: before each kind the two sums and the largest Z are those of the kinds before it.
 -- Assumes nothing.
-use mathlib.Core.Path.{_≡_}
-use Prim.Native.Nat.{ℕ, _-_, _*_, _≤_}
+use mathlib.Core.Path.{_≡_, sym, _∙_}
+use Prim.Native.Nat.{ℕ, suc, _+_, _-_, _*_, _≤_}
 use native.Mathlib.Omega.{arith}
+use Rattle.basis.specs.Range.{mostTo}
 use Rattle.basis.proofs.Within.{Within}
+use Rattle.basis.proofs.Most.{most-none, most-more}
 use Rattle.tree.specs.Tree.{servedOf}
-use Rattle.demand.specs.Demand.{normAt, shareOf, mOf, fixtureSumOf}
+use Rattle.demand.specs.Demand.{normAt, shareOf, mOf, fixtureSumOf, tapOf}
 use Rattle.demand.proofs.Cells.{KindCounts, kind-counts}
 use Rattle.demand.proofs.Partial.{SoFar, sum-start, sum-turn, sum-end}
 use Rattle.demand.proofs.Tops.{fixture-top}
+use Rattle.demand.proofs.Equations.{tap-is, one-tap-is}
+use Rattle.demand.proofs.Taps.{most-tap-top}
 use borrow.Author.Needs.{needs}
 use Rattle.demand.proofs.sums.sums_of.Statement.{statement}
 use Rattle.demand.proofs.sums.sums_of.Tie as tie
 
 abbrev Inv-loop : tie.InvT-loop
-Inv-loop job counts i m₀ weighted₀ kind₀ m weighted kind =
+Inv-loop job counts i m₀ weighted₀ largest₀ kind₀ m weighted largest kind =
     Within 1 13 kind ×
     SoFar (λ k. shareOf job (servedOf job i) k) 16105635843750000 kind m ×
-    SoFar (λ k. shareOf job (servedOf job i) k * normAt job k .fixture) 483169075312500000 kind weighted
+    SoFar (λ k. shareOf job (servedOf job i) k * normAt job k .fixture) 483169075312500000 kind weighted ×
+    (largest ≡ mostTo (kind - 1) (tapOf job (servedOf job i)))
 
 abbrev μ-loop : tie.MeasureT-loop
-μ-loop job counts i m₀ weighted₀ kind₀ m weighted kind = 13 - kind
+μ-loop job counts i m₀ weighted₀ largest₀ kind₀ m weighted largest kind = 13 - kind
 
 known : (c : tie.In-loop Inv-loop μ-loop) →
     KindCounts (c .before .before .args .job) (c .before .before .args .counts .now) (c .before .before .args .i) (c .before .loop .kind)
@@ -33,29 +38,56 @@ is : (c : tie.After-share Inv-loop μ-loop) → c .share .result ≡ wanted (c .
 unfolding shareOf
 is c =
     let k = known (c .before .before .before .before .before .before .before) in
-    let n = c .before .before .before .before in
-    rw (← c .before .before .before .long16 .ensures .0, ← k .served, ← k .house, ← n .long32 .ensures .0, ← c .before .long322 .ensures .0)
+    let house = c .before .before in
+    rw (← c .before .long16 .ensures .0, ← k .served, ← k .house, ← house .before .before .long32 .ensures .0, ← house .long322 .ensures .0)
     (c .share .ensures .0)
 
 fixture : (c : tie.After-norm-of Inv-loop μ-loop) → c .before .share .result * c .norm-of .result .fixture ≤ 483169075312500000
 fixture c = fixture-top (c .norm-of .ensures) (omega arith) (omega arith)
 
+-- Z of this kind, where the section serves it
+tap : (c : tie.After-served Inv-loop μ-loop) →
+    let d = c .before .before .before .before .before .before .before .before .before .before in
+    c .served .result ≡ tapOf (d .before .before .args .job) (servedOf (d .before .before .args .job) (d .before .before .args .i)) (d .before .loop .kind)
+unfolding tapOf
+tap c =
+    let n = c .before .before .before .before .before .before .before in
+    let k = known (n .before .before .before) in
+    c .served .ensures ∙ rw (n .long32 .ensures .0, k .served, c .before .before .norm-of .ensures)
+
 loop-holds : tie.Need-loop-holds Inv-loop μ-loop
-loop-holds c = (omega arith, sum-start _ _, sum-start _ _)
+loop-holds c = (omega arith, sum-start _ _, sum-start _ _, sym (most-none _))
 
 loop-again : tie.Need-loop-again Inv-loop μ-loop
 loop-again c =
-    let d = c .before .before .before .before .before .before .before .before .before in (
+    let norm = c .before .before .before in
+    let share = norm .before in
+    let d = share .before .before .before .before .before .before .before in
+    let next : d .before .loop .kind + 1 - 1 ≡ suc (d .before .loop .kind - 1) = omega arith in
+    let here : suc (d .before .loop .kind - 1) ≡ d .before .loop .kind = omega arith in (
       omega arith,
-      sum-turn (d .before .loop .inv .1) (omega arith) (is (c .before .before)) (omega arith),
-      sum-turn (d .before .loop .inv .2) (omega arith) (rw (is (c .before .before), c .before .norm-of .ensures)) (fixture (c .before)),
+      sum-turn (d .before .loop .inv .1) (omega arith) (is share) (omega arith),
+      sum-turn (d .before .loop .inv .2) (omega arith) (rw (is share, norm .norm-of .ensures)) (fixture norm),
+      c .greater .ensures ∙ rw (next, most-more (d .before .loop .kind - 1) (tapOf (d .before .before .args .job) (servedOf (d .before .before .args .job) (d .before .before .args .i))), here, d .before .loop .inv .3, tap (c .before)),
     )
+
+-- after the twelfth kind
+largest : (c : tie.After-loop Inv-loop μ-loop) →
+    let a = c .before .before .args in
+    c .before .loop .largest ≡ mostTo 12 (tapOf (a .job) (servedOf (a .job) (a .i)))
+largest c =
+    let last : c .before .loop .kind - 1 ≡ 12 = omega arith in
+    rw last at (c .before .loop .inv .3)
+
+small : (c : tie.After-loop Inv-loop μ-loop) → c .before .loop .largest ≤ 30
+small c = rw (largest c) (most-tap-top (c .before .before .args .job) _)
 
 returns : tie.Need-returns Inv-loop μ-loop
 unfolding mOf fixtureSumOf
 returns c = (
   sum-end (c .before .loop .inv .1) (omega arith) (omega arith),
   sum-end (c .before .loop .inv .2) (omega arith) (omega arith),
+  rw (largest c) (sym (one-tap-is _ _)),
 )
 
 pub sums-of-spec : {M : Type 1} → statement M
@@ -64,5 +96,5 @@ sums-of-spec =
     (tie.spec Inv-loop μ-loop loop-holds (λ c. search needs) (λ c. search needs) (λ c. search needs) (λ c. search needs) (λ c. search needs)
     (λ c κs. search needs) (λ c. search needs) (λ c. search needs) (λ c κs. search needs) (λ c. search needs) (λ c. search needs)
     (λ c κs. search needs) (λ c κs. let k = known (c .before .before .before .before .before .before) in omega arith) (λ c κs. search needs)
-    (λ c. omega arith) (λ c. omega (arith, fixture (c .before))) (λ c. omega (arith, fixture (c .before))) (λ c. search needs)
-    (λ c. search needs) loop-again returns)
+    (λ c. omega arith) (λ c. omega (arith, fixture (c .before))) (λ c. omega (arith, fixture (c .before))) (λ c κs. search needs)
+    (λ c κs. search needs) (λ c. search needs) (λ c. search needs) loop-again (λ c. omega (arith, small c)) returns)

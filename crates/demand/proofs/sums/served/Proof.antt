@@ -1,0 +1,16 @@
+-- `demand::sums::served` meets its contract, with fixtures and without.
+-- Assumes nothing.
+use borrow.Author.Tests.{lt-ltb, le-ltb}
+use native.Mathlib.Omega.{arith}
+use borrow.Author.Needs.{needs}
+use Rattle.demand.proofs.sums.served.Statement.{statement}
+use Rattle.demand.proofs.sums.served.Tie as tie
+
+returns : tie.Need-returns
+returns c = rw (lt-ltb 0 (c .before .args .n) (omega arith))
+
+returns-2 : tie.Need-returns-2
+returns-2 c = rw (le-ltb 0 (c .before .args .n) (omega arith))
+
+pub served-spec : {M : Type 1} → statement M
+served-spec = tie.close (tie.spec returns returns-2)
