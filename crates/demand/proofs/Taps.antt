@@ -4,7 +4,7 @@ use mathlib.Core.Path.{_≡_, ap, sym, _∙_}
 use mathlib.Core.Logic.{⊎-elim}
 use Prim.Native.Nat.{ℕ, _*_, _≤_, _<_}
 use native.Mathlib.Omega.{arith}
-use borrow.Author.Tests.{lt-ltb, le-ltb}
+use borrow.Author.Tests.{lt-ltb}
 use Rattle.basis.specs.Range.{mostTo}
 use Rattle.basis.proofs.Most.{Reached, most-bound, most-le, most-ext, most-reached}
 use Rattle.basis.proofs.Split.{lt-or-ge}

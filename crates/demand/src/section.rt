@@ -4,7 +4,6 @@ use crate::sums::hour_sums;
 use crate::sums::sums_of;
 use answer::Answer;
 use fields::Job;
-use numbers::greater;
 ghost use mathlib.Core.Path.{_≡_};
 ghost use Prim.Native.Nat.{ℕ, _+_, _*_, _≤_, _<_, max};
 ghost use lib.ListN.{getD};
@@ -22,13 +21,17 @@ ghost use Rattle.demand.specs.Demand.{mOf, fixturesOf, needsTableOne, se
 
 // The design flow of sums that 8 let pass: document 01's value, and never less than one tap.
 fn flow(t: &[u32; 972], s: Sums) -> u32
-    requires { ⌜ (now t ≡ table) × (0 < s .m) × (s .m ≤ 400000000) × (s .weighted ≤ 30 * s .m) × (s .tap ≤ 300) ⌝ }
-    ensures { λ r. ⌜ r ≡ max (up (s .weighted * alphaOf (s .m)) (20000 * s .m)) (s .tap) ⌝ }
+    requires { ⌜ (now t ≡ table) × (0 < s .m) × (s .m ≤ 400000000) × (s .weighted ≤ 30 * s .m) × (s .least ≤ 300) ⌝ }
+    ensures { λ r. ⌜ r ≡ max (up (s .weighted * alphaOf (s .m)) (20000 * s .m)) (s .least) ⌝ }
 {
     let m = s.m;
     let alpha = coefficient::alpha(t, m as u32) as u64;
     let average = round::divide_up(s.weighted * alpha, 20000 * m) as usize;
-    greater(average, s.tap) as u32
+    if average < s.least {
+        s.least as u32
+    } else {
+        average as u32
+    }
 }
 
 // The flow of each section, at the section's place.

@@ -2,7 +2,7 @@
 -- Assumes nothing.
 use mathlib.Core.Path.{_≡_}
 use mathlib.Core.Logic.{inl, inr, ⊎-elim}
-use Prim.Native.Nat.{ℕ, _*_, _≤_, _<_}
+use Prim.Native.Nat.{ℕ, _≤_, _<_}
 use native.Mathlib.Omega.{arith}
 use Rattle.basis.proofs.Split.{lt-or-ge}
 use Rattle.fields.specs.declared.Job.{Job}
@@ -11,7 +11,7 @@ use Rattle.tree.specs.Tree.{servedOf, houseOf}
 use Rattle.demand.specs.Demand.{averageFlowOf, oneTapOf, flowOf}
 use Rattle.demand.proofs.Equations.{flow-is}
 use Rattle.demand.proofs.Taps.{Largest, one-tap-bound, one-tap-reached}
-use Rattle.demands.specs.OneTap.{Served, drawn, Drawn, NeverLess, OneTap}
+use Rattle.demands.specs.OneTap.{Drawn, NeverLess, OneTap}
 use Rattle.demands.proofs.Demand2.{demand-2}
 
 module _ (job : Job) (n : ℕ → ℕ) where

@@ -1,15 +1,17 @@
 -- `demand::sums::sums_of` meets its contract: before each kind the two sums and the largest Z are those of the kinds before it.
 -- Assumes nothing.
-use mathlib.Core.Path.{_≡_, sym, _∙_}
-use Prim.Native.Nat.{ℕ, suc, _+_, _-_, _*_, _≤_}
+use mathlib.Core.Path.{_≡_, ap, sym, _∙_}
+use mathlib.Core.Bool.{cond}
+use Prim.Native.Nat.{ℕ, _-_, _*_, _≤_}
 use native.Mathlib.Omega.{arith}
+use lib.Dec.{ltb}
 use Rattle.basis.specs.Range.{mostTo}
 use Rattle.basis.proofs.Within.{Within}
-use Rattle.basis.proofs.Most.{most-none, most-more}
+use Rattle.basis.proofs.Most.{most-none}
 use Rattle.tree.specs.Tree.{servedOf}
 use Rattle.demand.specs.Demand.{normAt, shareOf, mOf, fixtureSumOf, tapOf}
 use Rattle.demand.proofs.Cells.{KindCounts, kind-counts}
-use Rattle.demand.proofs.Partial.{SoFar, sum-start, sum-turn, sum-end}
+use Rattle.demand.proofs.Partial.{SoFar, sum-start, sum-turn, sum-end, most-turn}
 use Rattle.demand.proofs.Tops.{fixture-top}
 use Rattle.demand.proofs.Equations.{tap-is, one-tap-is}
 use Rattle.demand.proofs.Taps.{most-tap-top}
@@ -46,14 +48,15 @@ fixture : (c : tie.After-norm-of Inv-loop μ-loop) → c .before .share .result 
 fixture c = fixture-top (c .norm-of .ensures) (omega arith) (omega arith)
 
 -- Z of this kind, where the section serves it
-tap : (c : tie.After-served Inv-loop μ-loop) →
+tap-here : (c : tie.After-tap Inv-loop μ-loop) →
     let d = c .before .before .before .before .before .before .before .before .before .before in
-    c .served .result ≡ tapOf (d .before .before .args .job) (servedOf (d .before .before .args .job) (d .before .before .args .i)) (d .before .loop .kind)
-unfolding tapOf
-tap c =
+    c .tap .result ≡ tapOf (d .before .before .args .job) (servedOf (d .before .before .args .job) (d .before .before .args .i)) (d .before .loop .kind)
+tap-here c =
     let n = c .before .before .before .before .before .before .before in
-    let k = known (n .before .before .before) in
-    c .served .ensures ∙ rw (n .long32 .ensures .0, k .served, c .before .before .norm-of .ensures)
+    let d = n .before .before .before in
+    c .tap .ensures ∙
+    ap (λ x. cond (ltb 0 x) (c .before .before .norm-of .result .fixture) 0) (n .long32 .ensures .0 ∙ known d .served) ∙
+    rw (c .before .before .norm-of .ensures) (sym (tap-is (d .before .before .args .job) _ (d .before .loop .kind)))
 
 loop-holds : tie.Need-loop-holds Inv-loop μ-loop
 loop-holds c = (omega arith, sum-start _ _, sum-start _ _, sym (most-none _))
@@ -62,13 +65,11 @@ loop-again : tie.Need-loop-again Inv-loop μ-loop
 loop-again c =
     let norm = c .before .before .before in
     let share = norm .before in
-    let d = share .before .before .before .before .before .before .before in
-    let next : d .before .loop .kind + 1 - 1 ≡ suc (d .before .loop .kind - 1) = omega arith in
-    let here : suc (d .before .loop .kind - 1) ≡ d .before .loop .kind = omega arith in (
+    let d = share .before .before .before .before .before .before .before in (
       omega arith,
       sum-turn (d .before .loop .inv .1) (omega arith) (is share) (omega arith),
       sum-turn (d .before .loop .inv .2) (omega arith) (rw (is share, norm .norm-of .ensures)) (fixture norm),
-      c .greater .ensures ∙ rw (next, most-more (d .before .loop .kind - 1) (tapOf (d .before .before .args .job) (servedOf (d .before .before .args .job) (d .before .before .args .i))), here, d .before .loop .inv .3, tap (c .before)),
+      c .greater .ensures ∙ most-turn _ (omega arith) (d .before .loop .inv .3) (tap-here (c .before)),
     )
 
 -- after the twelfth kind
