@@ -39,11 +39,11 @@ mOf job n = sumTo 12 (λ kind. shareOf job n kind)
 unfoldable pub fixtureSumOf : Job → (ℕ → ℕ) → ℕ
 fixtureSumOf job n = sumTo 12 (λ kind. shareOf job n kind * normAt job kind .fixture)
 
--- document 01's design flow in ml/s: (sum of share × Z) × α / (20,000 × m), up
+-- document 01's value in ml/s, by the average Z of the kinds served: (sum of share × Z) × α / (20,000 × m), up
 unfoldable pub averageFlowOf : Job → (ℕ → ℕ) → ℕ
 averageFlowOf job n = up (fixtureSumOf job n * alphaOf (mOf job n)) (20000 * mOf job n)
 
--- Z of a kind served, which is one with fixtures above 0; 0 for any other
+-- Z of a kind served, which is one with fixtures above 0, in hundredths of l/s; 0 for any other
 unfoldable pub tapOf : Job → (ℕ → ℕ) → ℕ → ℕ
 tapOf job n kind = cond (ltb 0 (n kind)) (normAt job kind .fixture) 0
 

@@ -21,14 +21,14 @@ ghost use Rattle.demand.specs.Demand.{mOf, fixturesOf, needsTableOne, se
 
 // The design flow of sums that 8 let pass: document 01's value, and never less than one tap.
 fn flow(t: &[u32; 972], s: Sums) -> u32
-    requires { ⌜ (now t ≡ table) × (0 < s .m) × (s .m ≤ 400000000) × (s .weighted ≤ 30 * s .m) × (s .least ≤ 300) ⌝ }
-    ensures { λ r. ⌜ r ≡ max (up (s .weighted * alphaOf (s .m)) (20000 * s .m)) (s .least) ⌝ }
+    requires { ⌜ (now t ≡ table) × (0 < s .m) × (s .m ≤ 400000000) × (s .weighted ≤ 30 * s .m) × (s .tap ≤ 300) ⌝ }
+    ensures { λ r. ⌜ r ≡ max (up (s .weighted * alphaOf (s .m)) (20000 * s .m)) (s .tap) ⌝ }
 {
     let m = s.m;
     let alpha = coefficient::alpha(t, m as u32) as u64;
     let average = round::divide_up(s.weighted * alpha, 20000 * m) as usize;
-    if average < s.least {
-        s.least as u32
+    if average < s.tap {
+        s.tap as u32
     } else {
         average as u32
     }

@@ -13,11 +13,11 @@ ghost use Rattle.tree.specs.Tree.{servedOf, Rooted};
 ghost use Rattle.tree.specs.Rows.{Counted};
 ghost use Rattle.demand.specs.Demand.{mOf, fixtureSumOf, oneTapOf, hourSumOf, hourlySumOf};
 
-// Of a section or the house: m, the sum of share × Z, and the least that its flow may be, one tap in ml/s.
+// Of a section or the house: m, the sum of share × Z, and one tap in ml/s.
 pub struct Sums {
     pub m: u64,
     pub weighted: u64,
-    pub least: usize,
+    pub tap: usize,
 }
 
 // Of the house's hour: the sum of the shares, and of share × O.
@@ -40,8 +40,8 @@ fn share(kind: usize, residents: u64, n: u64, house: u64) -> u64
     round::divide_up(25000 * norm.hour * residents * n, 9 * norm.fixture * house)
 }
 
-// Z of a kind with n fixtures: without any it is not served.
-fn tap(n: u64, z: u64) -> usize
+// Z of a kind that is served, and 0 for a kind without fixtures.
+fn served_z(n: u64, z: u64) -> usize
     ensures { λ r. ⌜ r ≡ cond (ltb 0 n) z 0 ⌝ }
 {
     if 0 < n { z as usize } else { 0 }
@@ -51,7 +51,7 @@ fn tap(n: u64, z: u64) -> usize
 pub fn sums_of(job: Job, counts: &[u32; 768], i: usize) -> Sums
     requires { ⌜ Rooted job × Counted job (now counts) × (i < 64) ⌝ }
     ensures { λ r. ⌜ (r .m ≡ mOf job (servedOf job i)) × (r .weighted ≡ fixtureSumOf job (servedOf job i))
-        × (r .least ≡ oneTapOf job (servedOf job i)) ⌝ }
+        × (r .tap ≡ oneTapOf job (servedOf job i)) ⌝ }
 {
     let mut m: u64 = 0;
     let mut weighted: u64 = 0;
@@ -66,13 +66,13 @@ pub fn sums_of(job: Job, counts: &[u32; 768], i: usize) -> Sums
         let norm = norms::norm_of(kind);
         m = m + part;
         weighted = weighted + part * norm.fixture;
-        largest = greater(largest, tap(n, norm.fixture));
+        largest = greater(largest, served_z(n, norm.fixture));
         kind += 1;
     }
     Sums {
         m,
         weighted,
-        least: 10 * largest,
+        tap: 10 * largest,
     }
 }
 

@@ -1,22 +1,27 @@
--- L2: the flows are never less than one tap.
+-- L2: a flow is the larger of document 01's value and one tap, and velocities, losses and meters are judged by it.
 -- Assumes nothing.
-use mathlib.Core.Path.{_≡_}
+use mathlib.Core.Path.{_≡_, refl, ap, sym}
 use mathlib.Core.Logic.{inl, inr, ⊎-elim}
+use mathlib.Core.List.{List}
 use Prim.Native.Nat.{ℕ, _≤_, _<_}
 use native.Mathlib.Omega.{arith}
 use Rattle.basis.proofs.Split.{lt-or-ge}
 use Rattle.fields.specs.declared.Job.{Job}
 use Rattle.record.specs.Record.{decode}
 use Rattle.tree.specs.Tree.{servedOf, houseOf}
-use Rattle.demand.specs.Demand.{averageFlowOf, oneTapOf, flowOf}
+use Rattle.demand.specs.Demand.{averageFlowOf, oneTapOf, flowOf, sectionFlow}
 use Rattle.demand.proofs.Equations.{flow-is}
 use Rattle.demand.proofs.Taps.{Largest, one-tap-bound, one-tap-reached}
-use Rattle.demands.specs.OneTap.{Drawn, NeverLess, OneTap}
+use Rattle.catalogue.specs.Layout.{rowsOf, partOf}
+use Rattle.catalogue.specs.Reading.{readRows}
+use Rattle.sizing.specs.Losses.{readingOf}
+use Rattle.meters.specs.Meters.{meterAt, meterLoss}
+use Rattle.demands.specs.OneTap.{OfOneTap, Larger, OneTap}
 use Rattle.demands.proofs.Demand2.{demand-2}
 
 module _ (job : Job) (n : ℕ → ℕ) where
   -- where document 01's value is less, a kind served sets the flow
-  tap-sets : averageFlowOf job n < oneTapOf job n → Drawn job n (flowOf job n)
+  tap-sets : averageFlowOf job n < oneTapOf job n → OfOneTap job n (flowOf job n)
   tap-sets h =
       let l : Largest job n = one-tap-reached job n (omega arith) in
       record {
@@ -28,8 +33,8 @@ module _ (job : Job) (n : ℕ → ℕ) where
   average-sets : oneTapOf job n ≤ averageFlowOf job n → flowOf job n ≡ averageFlowOf job n
   average-sets h = omega (arith, flow-is job n)
 
-  never-less : NeverLess job n (flowOf job n)
-  never-less =
+  larger : Larger job n (flowOf job n)
+  larger =
       record {
         average = omega (arith, flow-is job n);
         taps = λ kind s. omega (arith, flow-is job n, one-tap-bound job n kind (s .low) (s .high) (s .some));
@@ -41,9 +46,15 @@ module _ (job : Job) (n : ℕ → ℕ) where
             (lt-or-ge (averageFlowOf job n) (oneTapOf job n));
       }
 
+reading : (job : Job) (cat : List ℕ) (s i : ℕ) → readingOf job cat s i ≡ readRows (partOf cat s) (rowsOf cat) (sectionFlow job i)
+unfolding readingOf
+reading job cat s i = refl
+
 pub one-tap : OneTap
 one-tap =
     record {
-      section = λ job out₀ out bytes given i h k. rw (demand-2 .flow job out₀ out bytes given .flow i h k) (never-less (decode job) (servedOf (decode job) i));
-      house = λ job out₀ out given. rw (demand-2 .duty job out₀ out given) (never-less (decode job) (houseOf (decode job)));
+      section = λ job out₀ out bytes g i h k. rw (demand-2 .flow job out₀ out bytes g .flow i h k) (larger (decode job) (servedOf (decode job) i));
+      house = λ job out₀ out g. rw (demand-2 .duty job out₀ out g) (larger (decode job) (houseOf (decode job)));
+      reading = λ job out₀ out bytes g cat s i h k. rw (demand-2 .flow job out₀ out bytes g .flow i h k) (reading (decode job) cat s i);
+      meter = λ job out₀ out g meters t. ap (meterLoss (meterAt meters t)) (sym (demand-2 .duty job out₀ out g));
     }

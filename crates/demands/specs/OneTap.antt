@@ -1,5 +1,6 @@
 -- Document 02, L2: "From now on the flow of a section, and of the house, is the larger of document 01's value and 10 × the largest Z among
--- the kinds it serves."
+-- the kinds it serves. This replaces the definition of design flow, so velocities, losses, the meter and the cheapest list are judged by
+-- the new flow."
 -- Assumes nothing.
 use mathlib.Core.Path.{_≡_}
 use mathlib.Core.Logic.{_⊎_}
@@ -11,8 +12,13 @@ use Rattle.fields.specs.Fields.{countOf}
 use Rattle.record.specs.Record.{decode}
 use Rattle.tree.specs.Tree.{servedOf, houseOf}
 use Rattle.demand.specs.Demand.{normAt, averageFlowOf}
+use Rattle.catalogue.specs.Layout.{rowsOf, partOf}
+use Rattle.catalogue.specs.Reading.{readRows}
+use Rattle.sizing.specs.Losses.{readingOf}
+use Rattle.meters.specs.Meters.{meterAt, meterLoss}
 use Rattle.order.specs.Promises.{FlowGiven, DutyGiven}
 use Rattle.demands.specs.Demand2.{Bytes}
+use Rattle.demands.specs.Metering.{meterLossAt}
 
 -- a kind that the fixtures n serve
 pub record Served (n : ℕ → ℕ) (kind : ℕ) : Type 0 where
@@ -20,31 +26,45 @@ pub record Served (n : ℕ → ℕ) (kind : ℕ) : Type 0 where
   pub high : kind ≤ 12
   pub some : 0 < n kind
 
--- what one tap of a kind draws, in ml/s
+-- what one fixture of a kind draws, in ml/s
 abbrev pub drawn : Job → ℕ → ℕ
 drawn job kind = 10 * normAt job kind .fixture
 
--- q is what one tap of a kind served draws
-pub record Drawn (job : Job) (n : ℕ → ℕ) (q : ℕ) : Type 0 where
+-- q is what one fixture of a kind served draws
+pub record OfOneTap (job : Job) (n : ℕ → ℕ) (q : ℕ) : Type 0 where
   pub kind : ℕ
   pub served : Served n kind
   pub by : q ≡ drawn job kind
 
 -- q is the larger of document 01's value and 10 × the largest Z among the kinds served
-pub record NeverLess (job : Job) (n : ℕ → ℕ) (q : ℕ) : Type 0 where
+pub record Larger (job : Job) (n : ℕ → ℕ) (q : ℕ) : Type 0 where
   -- it is no less than document 01's value
   pub average : averageFlowOf job n ≤ q
-  -- nor than what one tap of any kind served draws
+  -- nor than what one fixture of any kind served draws
   pub taps : (kind : ℕ) → Served n kind → drawn job kind ≤ q
   -- and it is one of these
-  pub reached : (q ≡ averageFlowOf job n) ⊎ Drawn job n q
-  -- it is document 01's value where that is no less than any tap
+  pub reached : (q ≡ averageFlowOf job n) ⊎ OfOneTap job n q
+  -- it is document 01's value where no fixture of a kind served draws more
   pub kept : ((kind : ℕ) → Served n kind → drawn job kind ≤ averageFlowOf job n) → q ≡ averageFlowOf job n
 
--- the flows in the results of the flow call and the duty call
+-- the flow of section i in a result of the flow call
+abbrev pub flowIn : List ℕ → ℕ → ℕ
+flowIn out i = beAt 4 out (12 + 4 * (i - 1))
+
+-- the flow of the house in a result of the duty call
+abbrev pub dutyIn : List ℕ → ℕ
+dutyIn out = beAt 4 out 0
+
+-- the flows that these calls give, and what is judged by them
 pub record OneTap : Type 0 where
   -- of each section, with the fixtures at or below its end
   pub section : (job out₀ out : List ℕ) → Bytes job → FlowGiven job out₀ out 0 → (i : ℕ) → 0 < i → i ≤ countOf (decode job) →
-      NeverLess (decode job) (servedOf (decode job) i) (beAt 4 out (12 + 4 * (i - 1)))
+      Larger (decode job) (servedOf (decode job) i) (flowIn out i)
   -- of the house, with all its fixtures
-  pub house : (job out₀ out : List ℕ) → DutyGiven job out₀ out 0 → NeverLess (decode job) (houseOf (decode job)) (beAt 4 out 0)
+  pub house : (job out₀ out : List ℕ) → DutyGiven job out₀ out 0 → Larger (decode job) (houseOf (decode job)) (dutyIn out)
+  -- a section's velocity and slope are those of its size at that flow: by them go its loss, 13, and whether a list suits
+  pub reading : (job out₀ out : List ℕ) → Bytes job → FlowGiven job out₀ out 0 → (cat : List ℕ) (s i : ℕ) → 0 < i → i ≤ countOf (decode job) →
+      readingOf (decode job) cat s i ≡ readRows (partOf cat s) (rowsOf cat) (flowIn out i)
+  -- and a meter's loss is that of the house's
+  pub meter : (job out₀ out : List ℕ) → DutyGiven job out₀ out 0 → (meters : List ℕ) (t : ℕ) →
+      meterLossAt (decode job) meters t ≡ meterLoss (meterAt meters t) (dutyIn out)

@@ -48,13 +48,13 @@ fixture : (c : tie.After-norm-of Inv-loop μ-loop) → c .before .share .result 
 fixture c = fixture-top (c .norm-of .ensures) (omega arith) (omega arith)
 
 -- Z of this kind, where the section serves it
-tap-here : (c : tie.After-tap Inv-loop μ-loop) →
+tap-here : (c : tie.After-served-z Inv-loop μ-loop) →
     let d = c .before .before .before .before .before .before .before .before .before .before in
-    c .tap .result ≡ tapOf (d .before .before .args .job) (servedOf (d .before .before .args .job) (d .before .before .args .i)) (d .before .loop .kind)
+    c .served-z .result ≡ tapOf (d .before .before .args .job) (servedOf (d .before .before .args .job) (d .before .before .args .i)) (d .before .loop .kind)
 tap-here c =
     let n = c .before .before .before .before .before .before .before in
     let d = n .before .before .before in
-    c .tap .ensures ∙
+    c .served-z .ensures ∙
     ap (λ x. cond (ltb 0 x) (c .before .before .norm-of .result .fixture) 0) (n .long32 .ensures .0 ∙ known d .served) ∙
     rw (c .before .before .norm-of .ensures) (sym (tap-is (d .before .before .args .job) _ (d .before .loop .kind)))
 
