@@ -14,12 +14,29 @@ pub struct Served {
     pub m: i128,
     /// The sum of share × Z.
     weighted: i128,
+    /// The kinds served whose Z is the largest, rising.
+    largest: Vec<u8>,
 }
 
 impl Served {
+    /// Document 01's value in ml/s, of an accepted job.
+    pub fn average_flow(&self) -> i128 {
+        up(self.weighted * alpha(self.m), 20_000 * self.m)
+    }
+
+    /// What one tap of the largest Z draws, ml/s; 0 where nothing is served.
+    pub fn one_tap(&self) -> i128 {
+        self.largest.first().map_or(0, |kind| 10 * norms::of(usize::from(*kind)).fixture)
+    }
+
     /// ml/s
     fn flow(&self) -> i128 {
-        up(self.weighted * alpha(self.m), 20_000 * self.m)
+        self.average_flow().max(self.one_tap())
+    }
+
+    /// The kinds of the tap that sets the flow.
+    fn taps(&self) -> Vec<u8> {
+        if self.one_tap() > self.average_flow() { self.largest.clone() } else { Vec::new() }
     }
 }
 
@@ -76,6 +93,17 @@ impl Demand {
         self.house.flow()
     }
 
+    /// Of each section the kinds of which one tap sets the flow, rising; empty where document 01's value stands. Of an
+    /// accepted job.
+    pub fn section_taps(&self) -> Vec<Vec<u8>> {
+        self.sections.iter().map(Served::taps).collect()
+    }
+
+    /// The same of the house.
+    pub fn house_taps(&self) -> Vec<u8> {
+        self.house.taps()
+    }
+
     /// l/h, of an accepted job.
     pub fn hour(&self) -> i128 {
         up(self.hour_weighted * alpha(self.hour_sum), 200_000 * self.hour_sum)
@@ -105,5 +133,13 @@ fn served(house: &House, totals: &[i128; 13], fixtures: [i128; 13]) -> Served {
         fixtures: fixtures.iter().sum(),
         m: share.iter().sum(),
         weighted: (1..=12).map(|kind| share[kind] * norms::of(kind).fixture).sum(),
+        largest: largest(&fixtures),
     }
+}
+
+/// The kinds that have fixtures and whose Z no other such kind surpasses.
+fn largest(fixtures: &[i128; 13]) -> Vec<u8> {
+    let with: Vec<usize> = (1..=12).filter(|kind| fixtures[*kind] > 0).collect();
+    let unsurpassed = |kind: &usize| with.iter().all(|other| norms::of(*other).fixture <= norms::of(*kind).fixture);
+    with.iter().filter(|kind| unsurpassed(kind)).map(|kind| *kind as u8).collect()
 }
