@@ -47,7 +47,7 @@ fn one(rng: &Rng, about: About, flow: i64, mean: i64) -> DraftMeter {
     DraftMeter { design: rng.pick(&[1, 2]), resistance: sixteen_bits(resistance), service: service(rng, mean) }
 }
 
-/// What the greatest resistance loses, in whole cm: in a house of few residents less than any meter may.
+/// What the greatest resistance loses, in whole cm. In a house of few residents every meter may lose as much.
 fn most_lost(flow: i64) -> i64 {
     65_535 * flow * flow / 100_000_000
 }

@@ -18,6 +18,7 @@ pub fn mixed(rng: &Rng, large_once_in: u64) -> Draft {
 /// in an average.
 fn of_few_residents(rng: &Rng, large_once_in: u64) -> Draft {
     let mut draft = houses::house(rng, large_once_in);
+    // A section alone serves one kind.
     while draft.sections.len() == 1 {
         draft = houses::house(rng, large_once_in);
     }
