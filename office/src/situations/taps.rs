@@ -193,6 +193,8 @@ mod tests {
     fn parents() {
         let ask = [TapUnderAverage, TapOverAverage, TapUnderMore, ChildDrawsMore];
         assert_eq!(in_flow(&baths_over_basins(), ask), [0, 0, 0, 0], "basins alone serve one Z");
+        let row = job(&[(0, 0, 0), (1, 4, 2), (2, 11, 20)], &[(4, 1), (11, 2)]);
+        assert_eq!(in_flow(&row, ask), [0, 0, 0, 0], "one tap sets both");
         let under = [(0, 0, 0), (1, 11, 40), (2, 8, 1), (1, 11, 60), (4, 8, 3)];
         assert_eq!(in_flow(&job(&under, &[(8, 1), (11, 20)]), ask), [1, 0, 0, 1], "300 under 358, 326 under 306");
         let over = [(0, 8, 1), (1, 11, 70), (2, 10, 1), (0, 11, 30), (4, 10, 1), (0, 8, 99)];
