@@ -15,10 +15,11 @@ import job
 import rating
 import rating_vectors
 from edit import OWN, head, house, people, put, section
-from flow_vectors import (chain_of_kinds, comb_of_kinds, end, flow_broken, halving_of_kinds,
-                          star_of_kinds)
+from flow_vectors import (BATHS_OVER_BASINS, CHILD_ABOVE, TAP_OVER_256, chain_of_kinds,
+                          comb_of_kinds, end, flow_broken, halving_of_kinds, star_of_kinds)
 from houses import greedy, star
-from rating_vectors import GREEDY_SIZES, LEVEL, SIZE_1, SIZE_2, SIZES, catalogue, low, pair, tree
+from rating_vectors import (ENDS_AT_299, ENDS_AT_300, GREEDY_SIZES, LEVEL, SIZE_1, SIZE_2, SIZES,
+                            TAPPED, catalogue, low, pair, tree)
 from vector import Call, Parts, Vector, buffer_after, listed, room_of
 
 FILL = 0x5a
@@ -389,10 +390,6 @@ def without_kind(elevation):
 
 
 def small_trees():
-    # Flows 256, 300, 1,257 and 365: a child with more than its parent.
-    mixed = house([end(11, 1), end(8, 1, 1), end(8, 99), end(11, 99, 3)], {8: 27, 11: 36})
-    to_299 = catalogue((20, 100, (1, 100, 10), (299, 200, 10)),
-                       (30, 300, (1, 100, 10), (2000, 200, 10)))
     short = house([(0, 0, 0, 1, 600, 0), (1, 0, 0, 1, 600, 0), (2, 7, 80, 1, 600, 200)], {7: 71})
     one = flat((20, 100, 900, 10))
     inner_kind = house([(0, 7, 40, 100, 900, 200), (1, 7, 40, 100, 600, 200)], {7: 71})
@@ -403,8 +400,8 @@ def small_trees():
                sizes=TRADE),
         chosen("three ends around the bounds", 70_000, [2, 1, 2], record=ends(49, 48, 87, H=100),
                sizes=TRADE),
-        chosen("a child flows more than its parent", 100_000, [1, 2, 2, 2], record=mixed,
-               sizes=to_299),
+        chosen("a child flows more than its parent", 40_000, [1, 2], record=CHILD_ABOVE,
+               sizes=ending_at(348)),
         # Meter 50: 1,098 + 52 and 1,137 + 13 reach 1,150.
         chosen("a section without a kind just reached by size 1", 20_000, [1, 1],
                record=without_kind(1098), sizes=TRADE),
@@ -419,6 +416,44 @@ def small_trees():
         chosen("three in a row, each loss up", 300, [1, 1, 1], record=head(short, H=853),
                sizes=one),
         refused("three in a row, each loss up, H 852", 16, record=head(short, H=852), sizes=one),
+    ]
+
+
+# One tap
+
+def ending_at(flow):
+    """A size whose last row is at this flow, and a dearer one for every flow there."""
+    return catalogue((20, 100, (1, 100, 10), (flow, 200, 10)),
+                     (30, 300, (1, 100, 10), (2000, 200, 10)))
+
+
+def one_tap():
+    """Section 1 has 300 ml/s, section 2 144; by document 01 alone section 1 would have 240, and
+    nothing here would be refused. With TAPPED the sections lose 52 and 26, by document 01 alone
+    37 and 26; with the flat size they lose 13 each."""
+    two = {"record": BATHS_OVER_BASINS}
+    flat_beside = {"sizes": catalogue(TAPPED, (50, 900, (1, 1, 10), (400, 1, 10)))}
+    return [
+        chosen("one tap: size 1 ends at 299", 40_000, [2, 1], sizes=ending_at(299), **two),
+        chosen("one tap: size 1 ends at 300", 20_000, [1, 1], sizes=ending_at(300), **two),
+        # By document 01 alone section 1 would have 256 and size 1, for 100,000.
+        chosen("one tap over another: size 1 ends at 299", 120_000, [2, 2, 2, 2],
+               record=TAP_OVER_256, sizes=ending_at(299)),
+        refused("one tap: every size ends at 299", 16, sizes=catalogue(ENDS_AT_299), **two),
+        chosen("one tap: every size ends at 300", 40_000, [1, 1], sizes=catalogue(ENDS_AT_300),
+               **two),
+        chosen("one tap: velocity equal to the limit", 60_000, [1, 1], sizes=catalogue(TAPPED),
+               record=head(BATHS_OVER_BASINS, limit=700)),
+        refused("one tap: velocity one over the limit", 16, sizes=catalogue(TAPPED),
+                record=head(BATHS_OVER_BASINS, limit=699)),
+        # 50 + 800 + 52 + 26.
+        chosen("one tap: just enough head", 60_000, [1, 1], sizes=catalogue(TAPPED),
+               record=head(BATHS_OVER_BASINS, H=928)),
+        refused("one tap: 1 too little", 16, sizes=catalogue(TAPPED),
+                record=head(BATHS_OVER_BASINS, H=927)),
+        # Both with TAPPED would require 913 by document 01 alone.
+        chosen("one tap: section 1 is wider for the head", 120_000, [2, 1],
+               record=head(BATHS_OVER_BASINS, H=914), **flat_beside),
     ]
 
 
@@ -731,6 +766,7 @@ GROUPS = [
     ("choosing, low ends", low_ends), ("choosing, high ends", high_ends),
     ("choosing, three sections", three_sections), ("choosing, two in a row", two_in_a_row),
     ("choosing, three ends", three_ends), ("choosing, small trees", small_trees),
+    ("choosing, one tap", one_tap),
     ("choosing, sizes and prices", sizes_and_prices), ("choosing, equal costs", equal_costs),
     ("choosing, order", order), ("choosing, damaged catalogues", damaged_catalogues),
     ("choosing, random houses", random_houses), ("choosing, long houses by hand", long_by_hand),

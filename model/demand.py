@@ -1,4 +1,5 @@
-"""A model of norms and design flows, written from document 01, without the code.
+"""A model of norms and design flows, written from document 01 and document 02's
+request L2, without the code.
 
     alpha(m)          the coefficient, in millionths
     flow(data, room)  gives (0, result), or (number, None) with 1 to 9 or 14
@@ -7,7 +8,7 @@
 The formulas are those of SNiP 2.04.01-85, in their own units (litres, seconds,
 hours) and as exact fractions; a figure is rounded only where document 01 says
 "up". The quoted sentences are those of "Norms and design flows", "Rating and
-choosing" and "Refused orders".
+choosing", "Refused orders" and L2.
 """
 
 import csv
@@ -113,9 +114,14 @@ def everything(house):
 
 # Shares, m and the flows
 
+def kinds_served(numbers, house):
+    """The kinds that have fixtures at these sections."""
+    return [kind for kind in job.KINDS if fixtures_of(kind, numbers, house) > 0]
+
+
 def kinds_of(house):
-    """The kinds that have fixtures in the house; the others have share 0."""
-    return [kind for kind in job.KINDS if fixtures_of(kind, everything(house), house) > 0]
+    """Those of the house; the others have share 0."""
+    return kinds_served(everything(house), house)
 
 
 def residents(kind, house):
@@ -158,10 +164,22 @@ def five_rates(shared, rates):
     return 5 * weighed(shared, rates) * Fraction(alpha(sum(shared.values())), MILLION)
 
 
-def design_flow(numbers, house):
-    """The design flow of a pipe that serves these sections, in ml/s."""
+def average_flow(numbers, house):
+    """Document 01's value for a pipe that serves these sections, in ml/s."""
     rates = {kind: NORMS[kind].second for kind in NORMS}
     return up(1000 * five_rates(shares(numbers, house), rates))
+
+
+def one_tap(numbers, house):
+    """What one fixture draws, of "the largest Z among the kinds it serves", in ml/s:
+    a whole number, for Z is in hundredths of l/s."""
+    return up(1000 * max(NORMS[kind].second for kind in kinds_served(numbers, house)))
+
+
+def design_flow(numbers, house):
+    """In ml/s: "the larger of document 01's value and 10 x the largest Z among the
+    kinds it serves"."""
+    return max(average_flow(numbers, house), one_tap(numbers, house))
 
 
 def hour(house):
@@ -190,6 +208,17 @@ def house_flow(house):
 def section_flows(house):
     """The flows of sections 1 to S."""
     return [design_flow(served_by(number, house), house) for number in range(1, house.S + 1)]
+
+
+# Document 01's values of the house and of sections 1 to S, beside which the vectors have the
+# flows that one tap sets
+
+def house_average(house):
+    return average_flow(everything(house), house)
+
+
+def section_averages(house):
+    return [average_flow(served_by(number, house), house) for number in range(1, house.S + 1)]
 
 
 # The refusals

@@ -3,7 +3,8 @@
 import demand
 import job
 from edit import OWN, head, house, section
-from flow_vectors import end, flow_broken, inner, one_kind
+from flow_vectors import (BATHS_BESIDE_BASINS, BATHS_OVER_BASINS, bath_and, end, flow_broken, inner,
+                          one_kind)
 from houses import chain, star
 from vector import (Call, Vector, buffer_bytes, buffer_line, listed, room_of, roomed, with_room,
                     words)
@@ -157,6 +158,43 @@ def single_kinds():
             for kind, duty in ONE_KIND.items()]
 
 
+# One tap
+
+def tapped(name, record, duty, average, *flows):
+    """A vector with its duty, the house's value by document 01 alone, and the flows of its
+    sections."""
+    lines = [f"average {average}", f"house {duty}", words("flows", flows)]
+    return asking(name, record, 4, 0, set(), lines)
+
+
+# Residents of two kinds at the pump, and the house's average, which 20 and 10 fixtures leave
+# as it is: 298.48, 299.18 and 300.19, then 198.21, 199.84 and 200.31.
+BESIDE_ONE_TAP = [
+    ({11: 12, 1: 1}, 300, 299), ({12: 18, 1: 1}, 300, 300), ({12: 16, 6: 1}, 301, 301),
+    ({11: 6, 10: 1}, 200, 199), ({11: 5, 10: 2}, 200, 200), ({11: 2, 10: 4}, 201, 201),
+]
+
+
+def one_tap():
+    """The house's kinds are judged as a section's, and apart from the sections."""
+    found = [
+        tapped("one tap raises the house and a section", BATHS_OVER_BASINS, 300, 240, 300, 144),
+        tapped("one tap raises the house and no section", BATHS_BESIDE_BASINS, 300, 240, 300, 144),
+        tapped("one tap raises a section and not the house", bath_and(40), 358, 358,
+               300, 300, 306, 326),
+        tapped("one tap of 200 raises the house", house([end(12, 20), end(10, 2)], {12: 1, 10: 1}),
+               200, 165, 140, 200),
+        tapped("kinds 11 and 12: nothing is raised to 140",
+               house([end(11, 20), end(12, 20)], {11: 1, 12: 1}), 140, 140, 140, 140),
+    ]
+    for residents, duty, average in BESIDE_ONE_TAP:
+        (many, _), (few, _) = residents.items()
+        vector = accepted(f"kinds {many} and {few}, average {average}",
+                          house([end(many, 20), end(few, 10)], residents), duty)
+        found.append(vector._replace(lines=[f"average {average}"] + vector.lines))
+    return found
+
+
 def fields_without_part():
     """Fields that the duty doesn't depend on."""
     edited = head(OWN, k=2, T=1, meter=0, G=0, H=1, limit=1)
@@ -171,7 +209,8 @@ GROUPS = [
     ("duty, examples", examples), ("duty, room", rooms), ("duty, order", order),
     ("duty, refusals", refusals), ("duty, sections at the pump", pump_sections),
     ("duty, rounding", rounded_shares), ("duty, ends of the table", table_ends),
-    ("duty, single kinds", single_kinds), ("duty, other fields", fields_without_part),
+    ("duty, single kinds", single_kinds), ("duty, one tap", one_tap),
+    ("duty, other fields", fields_without_part),
 ]
 
 
@@ -179,7 +218,8 @@ GROUPS = [
 
 def figure_lines(record):
     found = job.decode(record)
-    return [f"house {demand.house_flow(found)}", words("flows", demand.section_flows(found))]
+    return [f"average {demand.house_average(found)}", f"house {demand.house_flow(found)}",
+            words("flows", demand.section_flows(found))]
 
 
 def duty_lines(raw):

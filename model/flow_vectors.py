@@ -234,7 +234,6 @@ def one_of(kind, others, residents):
 def least_flows():
     """Of one fixture of kind 8, 250,000 x U / (9 x N); of kind 11,
     500,000 x U / (63 x N)."""
-    mixed = house([end(11, 1), end(8, 1, 1), end(8, 99), end(11, 99, 3)], {8: 27, 11: 36})
     return [
         accepted("section m 14999, kind 8", one_of(8, 312, 169), "flows 300 3674"),
         accepted("section m 15000, kind 8", one_of(8, 49, 27), "flows 303 1235"),
@@ -243,8 +242,138 @@ def least_flows():
         accepted("section m 15000, kind 11", one_of(11, 99, 189), "flows 142 846"),
         accepted("section m 15001, kind 11", one_of(11, 90, 172), "flows 142 801"),
         accepted("section m 28", one_of(8, 999, 1), "flows 300 349"),
-        # 10 x (7,500 x 30 + 2,858 x 14) / 10,358 is 255.9.
-        accepted("300 under 256", mixed, "flows 256 300 1257 365"),
+    ]
+
+
+# One tap
+
+# Two shared baths of a hotel and 20 basins of an office. The shares 11,574.07 and 15,873.02 go up
+# to m 27,449 with alpha 231,347, so that document 01's value is 239.99, up to 240 ml/s; a bath
+# draws 300. The hour's shares are 41,667 and 100,000 with alpha 390,667, which by formula 8 gives
+# 5 x 144.71 x 0.390667 = 282.66, up to 283 l/h; a bath's own O is 300, and 300 ml/s are 1,080 l/h.
+HOTEL_AND_OFFICE = {4: 1, 11: 2}
+BATHS_OVER_BASINS = house([end(4, 2), end(11, 20, 1)], HOTEL_AND_OFFICE)
+BASINS_OVER_BATHS = house([end(11, 20), end(4, 2, 1)], HOTEL_AND_OFFICE)
+BATHS_BESIDE_BASINS = house([end(4, 2), end(11, 20)], HOTEL_AND_OFFICE)
+
+# Section 1 has share 2,857.14 of kind 11 and 7,500 of kind 8: 10 x (7,500 x 30 + 2,858 x 14) /
+# 10,358 is 255.9.
+TAP_OVER_256 = house([end(11, 1), end(8, 1, 1), end(8, 99), end(11, 99, 3)], {8: 27, 11: 36})
+
+# Shares 31,747 and 27,778, alpha 288,288: 309.4. The bath alone has alpha 232,445 and 348.7.
+CHILD_ABOVE = house([end(11, 2), end(8, 1, 1)], {8: 1, 11: 4})
+
+
+def drawing(name, record, house_line, flows, averages):
+    """A vector whose sections have these flows, and by document 01 alone these."""
+    return accepted(name, record, house_line, words("flows", flows), words("averages", averages))
+
+
+def one_tap():
+    """Alpha is at least 0.2, so that document 01's value is at least 10 x the mean Z: of one Z
+    alone nothing is raised, and so nothing to 140, which is the least."""
+    figures = "house 283 152 7"
+    return [
+        drawing("a bath over basins", BATHS_OVER_BASINS, figures, (300, 144), (240, 144)),
+        drawing("a bath under basins", BASINS_OVER_BATHS, figures, (300, 300), (240, 300)),
+        drawing("a bath and basins under a section without a kind",
+                house([inner(), end(11, 20, 1), end(4, 2, 1)], HOTEL_AND_OFFICE), figures,
+                (300, 144, 300), (240, 144, 300)),
+        drawing("a bath and basins beside each other at the pump", BATHS_BESIDE_BASINS, figures,
+                (300, 144), (300, 144)),
+        # m 8,970 of 3,612 and 5,358: 10 x 16.42.
+        drawing("200 in the place of 165", house([end(12, 20), end(10, 2, 1)], {12: 1, 10: 1}),
+                "house 129 35 2", (200, 200), (165, 200)),
+        drawing("300 in the place of 279, over 200s",
+                house([end(2, 2), end(4, 2, 1)], {2: 1, 4: 1}), "house 311 220 10",
+                (300, 300), (279, 300)),
+        drawing("kinds 11 and 12: nothing is raised to 140",
+                house([end(11, 20), end(12, 20, 1)], {11: 1, 12: 1}), "house 137 36 2",
+                (140, 140), (140, 140)),
+        drawing("300, 200 and 140 in one house",
+                house([inner(), inner(1), end(12, 20, 2), end(10, 2, 2), end(4, 2, 1)],
+                      {12: 1, 10: 1, 4: 1}), "house 303 155 7",
+                (300, 200, 140, 200, 300), (261, 165, 140, 200, 300)),
+        drawing("300 over 300, whose average is 256", TAP_OVER_256, "house 2530 8676 362",
+                (300, 300, 1257, 365), (256, 300, 1257, 365)),
+        # The bath of section 5 is no kind of sections 1 and 3; section 6 has m 7,937.
+        drawing("200 and 140 beside a bath",
+                house([end(11, 30), end(10, 1, 1), end(11, 60), end(10, 1, 3), end(8, 50),
+                       end(11, 10)], {11: 10, 10: 1, 8: 20}), "house 2103 6175 258",
+                (200, 200, 200, 200, 1072, 140), (164, 200, 194, 200, 1072, 140)),
+    ]
+
+
+def bath_and(basins):
+    """Section 1 serves so many of 100 basins, and one of four baths; section 3 the others."""
+    return house([end(11, basins), end(8, 1, 1), end(11, 100 - basins), end(8, 3, 3)],
+                 {11: 20, 8: 1})
+
+
+def clinic_and(basins):
+    """The same with one of two fixtures of a polyclinic."""
+    return house([end(11, basins), end(10, 1, 1), end(11, 100 - basins), end(10, 1, 3)],
+                 {11: 10, 10: 1})
+
+
+# Of so many basins the flows and the averages. Of 94, 95 and 96 document 01's value is 298.76,
+# 299.78 and 300.80, of 66, 67 and 68 198.999, 199.80 and 200.61.
+AT_A_BATH = {
+    40: ((300, 300, 306, 326), (238, 300, 306, 326)),
+    94: ((300, 300, 300, 326), (299, 300, 297, 326)),
+    95: ((300, 300, 301, 326), (300, 300, 301, 326)),
+    96: ((301, 300, 303, 326), (301, 300, 303, 326)),
+}
+AT_A_CLINIC = {
+    30: ((200, 200, 203, 200), (164, 200, 203, 200)),
+    66: ((200, 200, 200, 200), (199, 200, 169, 200)),
+    67: ((200, 200, 200, 200), (200, 200, 168, 200)),
+    68: ((201, 200, 200, 200), (201, 200, 167, 200)),
+}
+
+
+def beside_one_tap():
+    """The average one under one tap, equal to it and one over it; the house is over it."""
+    return [drawing(f"{n} basins and a bath", bath_and(n), "house 511 620 26", *figures)
+            for n, figures in AT_A_BATH.items()] + [
+        drawing(f"{n} basins and a polyclinic's fixture", clinic_and(n), "house 280 175 8",
+                *figures) for n, figures in AT_A_CLINIC.items()]
+
+
+def children_above():
+    """A child flows more than its parent, whichever sets the parent's flow."""
+    return [
+        drawing("349 under 310", CHILD_ABOVE, "house 410 364 16", (310, 349), (310, 349)),
+        drawing("317 under 300, whose average is 289",
+                house([end(11, 10), end(8, 1, 1), end(8, 2)], {11: 1, 8: 2}), "house 632 616 26",
+                (300, 317, 376), (289, 317, 376)),
+    ]
+
+
+def crowded_taps():
+    """8 and 9 go by m. A section that one tap raises is far from 9: two fixtures with m 200,000
+    have alpha 449,000, and 5 x 0.14 x 0.449 l/s are 314 ml/s."""
+    # 18 residents of kind 11 and one of kind 8 have hour sum 1,000,000, with 10 fixtures.
+    def few(residents):
+        return house([end(11, 1), end(8, 1, 1), end(11, 5), end(8, 3, 3)], {11: residents, 8: 1})
+
+    # Of kind 11 each fixture has m 100,000 with 3,150 residents and 250 fixtures.
+    def many(residents):
+        return house([end(11, 1), end(8, 1, 1), end(11, 200), end(11, 49), end(8, 99)],
+                     {11: residents, 8: 1})
+
+    def full(residents):
+        return house([end(11, 5), end(8, 1, 1), end(8, 59_999)], {11: residents, 8: 3999})
+    return [
+        drawing("one tap in a house of hour sum 1000000 and 10 fixtures", few(18),
+                "house 495 588 25", (300, 300, 319, 326), (211, 300, 319, 326)),
+        refused("one tap in a house of hour sum 1050000 and 10 fixtures", few(19), 9),
+        drawing("one tap beside 200 fixtures of m 20000000", many(3150), "house 15596 50700 2113",
+                (300, 300, 4826, 1767, 348), (242, 300, 4826, 1767, 348)),
+        refused("one tap beside 200 fixtures of m 20006350", many(3151), 9),
+        drawing("one tap in a house of hour sum 400000000", full(2), "house 137825 1199732 49989",
+                (300, 300, 42636), (164, 300, 42636)),
+        refused("one tap in a house of hour sum 400050000", full(3), 8),
     ]
 
 
@@ -443,6 +572,21 @@ def random_house(rng, count):
     return head(house(parts, people_in), T=1 + rng.randrange(24))
 
 
+def mixed_house(rng, count):
+    """A house of few residents, with baths and showers among many basins."""
+    parts = [part if part[1] == 0 else end(rng.choice((11, 12, 11, 12, 10, 9, 8, 4)),
+                                           1 + rng.randrange(60), part[0])
+             for part in random_parts(rng, count)]
+    return house(parts, {kind: rng.choice((1, 1, 2)) for _, kind, *_ in parts if kind})
+
+
+def mixed_houses():
+    rng = random.Random(2)
+    counts = [3, 3, 4, 4, 5, 5] + [6 + rng.randrange(15) for _ in range(12)] + [40, 63]
+    return [accepted(f"mixed house {i}, {count} sections", mixed_house(rng, count))
+            for i, count in enumerate(counts, start=1)]
+
+
 def random_houses():
     rng = random.Random(1)
     counts = [1 + i % 3 for i in range(10)] + [4 + rng.randrange(17) for _ in range(20)] + [
@@ -456,10 +600,13 @@ GROUPS = [
     ("coefficient, every key", at_keys), ("flow, examples", examples), ("flow, room", rooms),
     ("flow, ends of the table", table_ends), ("flow, crowded houses", crowded_houses),
     ("flow, crowded sections", crowded_sections), ("flow, start of the table", least_flows),
+    ("flow, one tap", one_tap), ("flow, beside one tap", beside_one_tap),
+    ("flow, children above their parents", children_above),
+    ("flow, crowded houses and one tap", crowded_taps),
     ("flow, order", order), ("flow, damaged records", damaged_records),
     ("flow, hours", hours), ("flow, single kinds", single_kinds),
     ("flow, small houses", small_houses), ("flow, long houses", long_houses),
-    ("flow, random houses", random_houses),
+    ("flow, mixed houses", mixed_houses), ("flow, random houses", random_houses),
 ]
 
 
@@ -472,7 +619,8 @@ def alpha_lines(raw):
 def figure_lines(record):
     found = job.decode(record)
     return [words("house", demand.house_figures(found)),
-            words("flows", demand.section_flows(found))]
+            words("flows", demand.section_flows(found)),
+            words("averages", demand.section_averages(found))]
 
 
 def flow_lines(raw):

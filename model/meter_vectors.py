@@ -6,7 +6,8 @@ import demand
 import job
 import meter
 from edit import OWN, head, house, people, section
-from flow_vectors import end, flow_broken, inner, random_house
+from flow_vectors import (BATHS_BESIDE_BASINS, BATHS_OVER_BASINS, bath_and, end, flow_broken, inner,
+                          random_house)
 from houses import TWO_ENDS, chain, star
 from vector import Call, Parts, Vector, buffer_bytes, buffer_line, listed, room_of, words
 
@@ -308,6 +309,33 @@ def pump_sections():
     ]
 
 
+def one_tap():
+    """Where one tap sets the house's flow, 300 ml/s, the loss is r x 9 / 10,000; by document 01
+    alone, 240 ml/s, it would be r x 5.76 / 10,000. No meter fails by its loss there: the greatest
+    resistance loses 58.98. The mean hour is 7 l/h whatever the flow is."""
+    def won_there(name, place, loss, *offered, record=BATHS_OVER_BASINS, **more):
+        return won(name, place, loss, *offered, record=record, **more)
+    return [
+        # By 240 ml/s both would lose 1, of 0.979 and 0.634.
+        won_there("one tap: losses 1.53 and 0.99, the second wins", 2, 1, (VANE, 1700, 7),
+                  (VANE, 1100, 7), losses=(2, 1)),
+        won_there("one tap: losses 0.99 and 1.53, the first wins", 1, 1, (VANE, 1100, 7),
+                  (VANE, 1700, 7), losses=(1, 2)),
+        won_there("one tap: losses 1.35, 1.53 and 0.99, the third wins", 3, 1, (VANE, 1500, 7),
+                  (TURBINE, 1700, 7), (TURBINE, 1100, 7), losses=(2, 2, 1)),
+        won_there("one tap: resistance 1111", 1, 1, (VANE, 1111, 7)),
+        won_there("one tap: resistance 1112", 1, 2, (VANE, 1112, 7)),
+        won_there("one tap: the greatest resistance", 1, 59, (TURBINE, 65_535, 7)),
+        refused("one tap: service flow 6", 18, (VANE, 1100, 6), record=BATHS_OVER_BASINS,
+                losses=[1]),
+        won_there("one tap in the house and in no section", 2, 1, (VANE, 1700, 7),
+                  (VANE, 1100, 7), losses=(2, 1), record=BATHS_BESIDE_BASINS),
+        # 358 squared is 128,164: 0.99968 and 1.00096. By section 1, 300 ml/s, both would lose 1.
+        won_there("one tap in a section and not in the house", 2, 1, (VANE, 781, 26),
+                  (VANE, 780, 26), losses=(2, 1), record=bath_and(40)),
+    ]
+
+
 def wide_losses():
     """Losses that 16 bits don't hold; 32 bits hold resistance x q x q up to 42.94 cm, and
     the greatest is 119,187,280,044,060."""
@@ -492,7 +520,8 @@ GROUPS = [
     ("meter, values", list_values), ("meter, most losses", loss_limits),
     ("meter, service flows", service_limits), ("meter, ties", ties),
     ("meter, the least loss left out", least_out), ("meter, places", places),
-    ("meter, sections at the pump", pump_sections), ("meter, wide losses", wide_losses),
+    ("meter, sections at the pump", pump_sections), ("meter, one tap", one_tap),
+    ("meter, wide losses", wide_losses),
     ("meter, records", records), ("meter, room", rooms), ("meter, order", order),
     ("meter, refusals", refusals), ("meter, random houses", random_houses),
 ]

@@ -6,7 +6,8 @@ import struct
 
 import rating
 from edit import OWN, head, house, put, section
-from flow_vectors import end, flow_broken, inner, random_house
+from flow_vectors import (BASINS_OVER_BATHS, BATHS_OVER_BASINS, bath_and, end, flow_broken, inner,
+                          random_house)
 from houses import TWO_ENDS, greedy
 from vector import Call, Parts, Vector, buffer_bytes, buffer_line, listed, room_of, words
 
@@ -228,6 +229,40 @@ def limits():
     ]
 
 
+# One tap
+
+# Over 100 decimetres, with k 3, a slope of 40 loses 52, of 28 37 and of 20 26 cm. At 300 ml/s this
+# size has velocity 700 and slope 40, at 240 it would have 580 and 28; 144 is under its first row.
+TAPPED = (40, 300, (200, 500, 20), (400, 900, 60))
+ENDS_AT_299 = (20, 100, (200, 500, 20), (299, 698, 40))
+ENDS_AT_300 = (30, 200, (200, 500, 20), (300, 700, 40))
+
+
+def one_tap():
+    """The flows are 300 and 144 with the bath above, 300 and 300 with it below; by document 01
+    alone section 1 would have 240. Of bath_and see flow_vectors.py: 300, 300, 301 and 326 with 95
+    basins, and with 96 section 1 has 301."""
+    above = {"record": BATHS_OVER_BASINS, "sizes": catalogue(ENDS_AT_299, ENDS_AT_300, TAPPED)}
+    below = dict(above, record=BASINS_OVER_BATHS)
+    figures = ((700, 52), (500, 26))
+    return [
+        rated("one tap: velocity and loss", (928, 428, 2), *figures, numbers=[3, 3], **above),
+        rated("one tap: velocity equal to the limit", (928, 428, 2), *figures, numbers=[3, 3],
+              **dict(above, record=head(BATHS_OVER_BASINS, limit=700))),
+        refused("one tap: velocity one over the limit", 13, numbers=[3, 3],
+                **dict(above, record=head(BATHS_OVER_BASINS, limit=699))),
+        rated("one tap equal to the last row", (928, 428, 2), *figures, numbers=[2, 1], **above),
+        refused("one tap one over the last row", 13, numbers=[1, 1], **above),
+        rated("one tap of a kind below, equal to the last row", (954, 454, 2), (700, 52),
+              (700, 52), numbers=[2, 2], **below),
+        refused("one tap of a kind below, one over the last row", 13, numbers=[1, 2], **below),
+        rated("one tap and an average of 300", (964, 464, 4), (700, 52), (700, 52), (702, 54),
+              (752, 60), numbers=[2, 2, 3, 3], **dict(above, record=bath_and(95))),
+        refused("one tap and an average of 301", 13, numbers=[2, 2, 3, 3],
+                **dict(above, record=bath_and(96))),
+    ]
+
+
 # Heads
 
 def pair(first, second):
@@ -425,7 +460,7 @@ GROUPS = [
     ("rating, own case", own_case), ("rating, room", rooms), ("rating, lists", lists),
     ("rating, shapes of catalogues", catalogue_shapes),
     ("rating, rules of catalogues", catalogue_rules), ("rating, flows at rows", flows_at_rows),
-    ("rating, limits", limits), ("rating, pump heads", pump_heads),
+    ("rating, limits", limits), ("rating, one tap", one_tap), ("rating, pump heads", pump_heads),
     ("rating, dictating sections", dictating), ("rating, three sections", three_sections),
     ("rating, long houses", long_houses), ("rating, order", order),
     ("rating, random houses", random_houses),

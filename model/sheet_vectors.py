@@ -4,9 +4,10 @@ import random
 
 import sheet
 from edit import OWN, head, house, put, section
-from flow_vectors import end, inner
+from flow_vectors import BATHS_OVER_BASINS, end, inner
 from houses import greedy
-from rating_vectors import (GREEDY_SIZES, LEVEL, SIZES, catalogue, low, order_parts, random_parts)
+from rating_vectors import (GREEDY_SIZES, LEVEL, SIZES, TAPPED, catalogue, low, order_parts,
+                            random_parts)
 from vector import Call, Parts, Vector
 
 # The bytes of the own case: the job, the catalogue, and size 2.
@@ -166,6 +167,17 @@ def negative_heads():
 
 # Houses of several sections
 
+def one_tap():
+    """As rated: section 1 has one tap's 300 ml/s."""
+    sizes = catalogue(TAPPED) + b"\1\1"
+    return [
+        whole("sheet, one tap", BATHS_OVER_BASINS + sizes, "house 283 152 7",
+              "section 1 300 700 52", "section 2 144 500 26", "head 928 428 2"),
+        refused("sheet, one tap over the limit", head(BATHS_OVER_BASINS, limit=699) + sizes, 13,
+                {13}),
+    ]
+
+
 def many():
     turns = bytes(1 + i % 3 for i in range(63))
     star = house([(0, 7, 30, 100, 600, 200)] * 63, {7: 71})
@@ -198,7 +210,8 @@ GROUPS = [
     ("sheet, short inputs", short_inputs), ("sheet, stated lengths of jobs", stated_jobs),
     ("sheet, stated lengths of catalogues", stated_catalogues), ("sheet, size lists", sizes),
     ("sheet, long inputs", long_inputs), ("sheet, order", order), ("sheet, heads", negative_heads),
-    ("sheet, several sections", many), ("sheet, random houses", random_sheets),
+    ("sheet, one tap", one_tap), ("sheet, several sections", many),
+    ("sheet, random houses", random_sheets),
 ]
 
 

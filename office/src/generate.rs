@@ -11,6 +11,7 @@ mod extremes;
 mod fitting;
 mod houses;
 mod meters;
+mod mixed;
 mod rng;
 
 use crate::case::{Buffer, Call, Case};
@@ -66,6 +67,7 @@ fn sound(rng: &Rng, call: Call) -> Case {
     let mut draft = match rng.below(8) {
         _ if extreme => extremes::longest(rng),
         0 => demands::marked(rng),
+        1 | 2 => mixed::mixed(rng, large_once_in),
         _ => houses::house(rng, large_once_in),
     };
     let mut case = Case {
@@ -82,7 +84,7 @@ fn sound(rng: &Rng, call: Call) -> Case {
     }
     if matches!(call, Call::Rate | Call::Choose) {
         let house = House::of(&case.job);
-        let flows = fitting::flows(&house);
+        let flows = fitting::flows(rng, &house);
         let measure = fitting::measure(rng, &draft, &house, &flows);
         let sizes = if extreme { extremes::greatest(rng) } else { catalogue(rng, &measure) };
         case.cat = catalogue_bytes(&sizes);

@@ -3,6 +3,7 @@
 mod meters;
 mod notes;
 mod searches;
+mod taps;
 
 use crate::case::Call;
 use crate::model::{self, faults::LAST};
@@ -26,6 +27,31 @@ situations! {
     InnerKind: "fixtures at the end of a section that is a parent",
     AllKinds: "all twelve kinds in one house",
     ChildDrawsMore: "a section with more flow than its parent",
+    Tap200: "one tap of 200 ml/s sets a section's flow",
+    Tap300: "one tap of 300 ml/s sets a section's flow",
+    TapOfOwnEnd: "one tap of a section's own end alone sets its flow",
+    TapFromBelow: "one tap sets a section's flow that draws more than those of its own end",
+    TapBesideMore: "one tap sets a section's flow where a kind that it does not serve draws more",
+    TapUnderAverage: "one tap sets the flow of a section and not of its parent",
+    TapOverAverage: "one tap sets the flow of a section and not of one below it that serves several Z",
+    TapUnderMore: "a section with more flow than its parent, whose flow one tap sets",
+    AverageUnderTap: "an average 1 ml/s under one tap",
+    AverageAtTap: "an average equal to one tap in a section that serves several Z",
+    AverageOverTap: "an average 1 ml/s over one tap in a section that serves several Z",
+    TapInFlow: "a flow result with a section's flow that one tap sets",
+    TapInRating: "a list rated with a section's flow that one tap sets",
+    TapInChoice: "a list chosen with a section's flow that one tap sets",
+    TapAlone13: "13 where by the averages the list would be rated",
+    TapAlone16: "16 where by the averages a list would suit",
+    TapDearer: "a list chosen where by the averages a cheaper one would suit",
+    TapInDuty: "a duty that one tap sets",
+    TapInMeter: "a meter given at a flow that one tap sets",
+    TapOtherMeter: "a meter given where by the average another one would win",
+    TapInHouseAlone: "one tap sets the house's flow and no section's",
+    TapInSectionAlone: "one tap sets a section's flow and not the house's",
+    HouseAverageAtTap: "an average equal to one tap in a house of several Z",
+    TapCrowded: "one tap sets a flow where a sum is exactly 100,000 for each of at most 200 fixtures",
+    TapTooCrowded: "9 where one tap would set a section's flow",
     MUnder15000: "m under 15,000",
     M15000: "m exactly 15,000",
     MAtKey: "m at a key over 15,000",

@@ -9,10 +9,17 @@ use crate::model::demand::Demand;
 use crate::model::house::House;
 use crate::model::rating::Order;
 
-/// Each section's flow, or none where the job is refused.
-pub fn flows(house: &House) -> Vec<i128> {
+/// Each section's flow, or none where the job is refused. Now and then it is document 01's value, so that the answer turns on
+/// what one tap makes of it.
+pub fn flows(rng: &Rng, house: &House) -> Vec<i128> {
     let demand = Demand::of(house);
-    if house.faults().any() || demand.faults().any() { Vec::new() } else { demand.flows() }
+    if house.faults().any() || demand.faults().any() {
+        Vec::new()
+    } else if rng.once_in(3) {
+        demand.averages()
+    } else {
+        demand.flows()
+    }
 }
 
 /// A slope at which the longest path loses about as much as there is to lose.

@@ -14,12 +14,29 @@ pub struct Served {
     pub m: i128,
     /// The sum of share × Z.
     weighted: i128,
+    /// The kinds served whose Z is the largest, rising.
+    largest: Vec<u8>,
 }
 
 impl Served {
+    /// Document 01's value in ml/s, of an accepted job.
+    pub fn average_flow(&self) -> i128 {
+        up(self.weighted * alpha(self.m), 20_000 * self.m)
+    }
+
+    /// What one tap of the largest Z draws, ml/s; 0 where nothing is served.
+    pub fn one_tap(&self) -> i128 {
+        self.largest.first().map_or(0, |kind| 10 * norms::of(usize::from(*kind)).fixture)
+    }
+
     /// ml/s
     fn flow(&self) -> i128 {
-        up(self.weighted * alpha(self.m), 20_000 * self.m)
+        self.average_flow().max(self.one_tap())
+    }
+
+    /// The kinds of the tap that sets the flow.
+    fn taps(&self) -> Vec<u8> {
+        if self.one_tap() > self.average_flow() { self.largest.clone() } else { Vec::new() }
     }
 }
 
@@ -71,9 +88,25 @@ impl Demand {
         self.sections.iter().map(Served::flow).collect()
     }
 
+    /// Each section's average flow, document 01's value, in ml/s, of an accepted job.
+    pub fn averages(&self) -> Vec<i128> {
+        self.sections.iter().map(Served::average_flow).collect()
+    }
+
     /// The house's design flow in ml/s, of an accepted job: that of its own m, with all of its fixtures.
     pub fn house_flow(&self) -> i128 {
         self.house.flow()
+    }
+
+    /// Of each section the kinds of which one tap sets the flow, rising; empty where document 01's value stands. Of an
+    /// accepted job.
+    pub fn section_taps(&self) -> Vec<Vec<u8>> {
+        self.sections.iter().map(Served::taps).collect()
+    }
+
+    /// The same of the house.
+    pub fn house_taps(&self) -> Vec<u8> {
+        self.house.taps()
     }
 
     /// l/h, of an accepted job.
@@ -105,5 +138,62 @@ fn served(house: &House, totals: &[i128; 13], fixtures: [i128; 13]) -> Served {
         fixtures: fixtures.iter().sum(),
         m: share.iter().sum(),
         weighted: (1..=12).map(|kind| share[kind] * norms::of(kind).fixture).sum(),
+        largest: largest(&fixtures),
+    }
+}
+
+/// The kinds that have fixtures and whose Z no other such kind surpasses.
+fn largest(fixtures: &[i128; 13]) -> Vec<u8> {
+    let with: Vec<usize> = (1..=12).filter(|kind| fixtures[*kind] > 0).collect();
+    let unsurpassed = |kind: &usize| with.iter().all(|other| norms::of(*other).fixture <= norms::of(*kind).fixture);
+    with.iter().filter(|kind| unsurpassed(kind)).map(|kind| *kind as u8).collect()
+}
+
+#[cfg(test)]
+mod tests {
+    use super::*;
+
+    /// The demand of an accepted job with these sections, given as parent, kind and fixtures.
+    fn demand(ends: &[(u8, u8, u8)], residents: &[(usize, u8)]) -> Demand {
+        let mut job = vec![0; 40 + 10 * ends.len()];
+        (job[3], job[4], job[5], job[6], job[7], job[15]) = (job.len() as u8, 1, 2, ends.len() as u8, 24, 1);
+        residents.iter().for_each(|(kind, number)| job[15 + 2 * kind] = *number);
+        for (section, (parent, kind, fixtures)) in job[40..].chunks_mut(10).zip(ends) {
+            (section[0], section[1], section[3], section[5]) = (*parent, *kind, *fixtures, 1);
+        }
+        let house = House::of(&job);
+        let demand = Demand::of(&house);
+        assert!(!house.faults().any() && !demand.faults().any());
+        demand
+    }
+
+    /// Shares 11,575 and 15,874 with α 231,347: (11,575 × 30 + 15,874 × 14) × 231,347 / (20,000 × 27,449) is 239.99.
+    #[test]
+    fn a_bath_over_basins() {
+        let demand = demand(&[(0, 4, 2), (1, 11, 20)], &[(4, 1), (11, 2)]);
+        assert_eq!(demand.averages(), [240, 144]);
+        assert_eq!(demand.flows(), [300, 144]);
+        assert_eq!(demand.section_taps(), [vec![4], vec![]]);
+        assert_eq!((demand.house.average_flow(), demand.house_flow(), demand.house_taps()), (240, 300, vec![4]));
+        assert_eq!(demand.hour(), 283);
+    }
+
+    /// With 95 basins and a bath the average is 299.78, up to 300: equal, so that nothing is named.
+    #[test]
+    fn an_average_equal_to_one_tap() {
+        let taps = |basins| {
+            let ends = [(0, 11, basins), (1, 8, 1), (0, 11, 100 - basins), (3, 8, 3)];
+            demand(&ends, &[(8, 1), (11, 20)]).section_taps()
+        };
+        assert_eq!(taps(94), [vec![8], vec![], vec![8], vec![]]);
+        assert_eq!(taps(95), [vec![], vec![], vec![], vec![]]);
+    }
+
+    #[test]
+    fn every_kind_of_the_largest_z() {
+        let ends = [(0, 0, 0), (1, 11, 20), (1, 8, 1), (1, 4, 1), (1, 10, 1), (0, 8, 9), (0, 4, 9)];
+        let demand = demand(&ends, &[(4, 1), (8, 1), (10, 1), (11, 2)]);
+        assert_eq!(demand.section_taps()[0], [4, 8]);
+        assert_eq!(demand.house_taps(), []);
     }
 }

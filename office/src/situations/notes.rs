@@ -16,6 +16,7 @@ impl Counters {
         self.note_marks(judged);
         if !judged.flows.is_empty() {
             self.note_house(judged);
+            self.note_taps(case, judged);
         }
         match &judged.result {
             Expected::Rated(rating) => self.note_rating(judged, rating),
@@ -81,6 +82,9 @@ impl Counters {
         let any_exactly =
             demand.sections.iter().any(|s| exactly(s.fixtures, s.m)) || exactly(fixtures, demand.hour_sum);
         self.saw(ExactlyCrowded, fine && any_exactly);
+        let tapped = || demand.section_taps().iter().any(|kinds| !kinds.is_empty());
+        self.saw(TapCrowded, fine && any_exactly && tapped());
+        self.saw(TapTooCrowded, nine && tapped());
     }
 
     /// An accepted job.
