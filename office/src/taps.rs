@@ -69,3 +69,58 @@ pub fn words(kinds: &[u8]) -> String {
 pub fn behind(kinds: &[u8]) -> String {
     if kinds.is_empty() { String::new() } else { format!(", {}", words(kinds)) }
 }
+
+#[cfg(test)]
+mod tests {
+    use super::*;
+    use crate::{calls, house};
+
+    #[test]
+    fn kinds_in_words() {
+        for (kinds, said) in [
+            (&[][..], ""),
+            (&[8], "one tap of hotel-100"),
+            (&[7, 8], "one tap of hotel-75 or hotel-100"),
+            (&[2, 5, 9], "one tap of hostel-showers, hotel-showers or hospital"),
+        ] {
+            assert_eq!(words(kinds), said);
+        }
+        assert_eq!((behind(&[]), behind(&[8])), (String::new(), ", one tap of hotel-100".to_string()));
+    }
+
+    /// A house of two sections of one kind each, in which the average flow stands whatever sets a flow.
+    const PLAIN: &str = "local losses 0.3\nhours 24\nmeter loss 50 cm\nguaranteed head 500 cm\ndelivered head 1200 cm\n\
+        velocity limit 1500 mm/s\nresidents dwelling 84\nresidents offices 30\n\
+        section 1 from pump length 10 m elevation 600 cm kind dwelling fixtures 80 free 200 cm\n\
+        section 2 from pump length 10 m elevation 600 cm kind offices fixtures 20 free 200 cm\n";
+
+    /// Nothing is said of flows that are not the model's, whichever of them it is.
+    #[test]
+    fn every_difference_is_found() {
+        let job = house::pack(PLAIN).expect("a house");
+        let (flow, duty) = (calls::flow(&job).expect("accepted"), calls::duty(&job).expect("accepted"));
+        let none = Taps { house: Vec::new(), sections: vec![Vec::new(); 2] };
+        assert_eq!(Taps::of(&job, &flow, duty), Ok(none.clone()));
+        assert!(!none.any());
+        assert!(Taps { house: vec![8], ..none.clone() }.any());
+        assert!(Taps { sections: vec![Vec::new(), vec![8]], ..none }.any());
+        let with = |flows: &[u32]| Flow { flows: flows.to_vec(), ..flow.clone() };
+        let (first, second) = (flow.flows[0], flow.flows[1]);
+        for (flow, duty, wanted) in [
+            (
+                with(&[first + 1, second]),
+                duty,
+                format!("section 1 is {} ml/s by the library and {first} ml/s", first + 1),
+            ),
+            (with(&[first, second - 1]), duty, format!("section 2 is {} ml/s by the library", second - 1)),
+            (flow.clone(), duty + 1, format!("the house is {} ml/s by the library and {duty} ml/s", duty + 1)),
+            (with(&[first]), duty, "the house has 1 sections by the library and 2 by the command".to_string()),
+        ] {
+            let said = Taps::of(&job, &flow, duty).expect_err("they differ");
+            assert!(said.contains(&wanted), "{said}");
+        }
+        // A house that the model refuses has no flow by it.
+        let refused = Taps::of(&job[..59], &flow, duty).expect_err("they differ");
+        assert_eq!(refused, "the library takes a house that the command refuses with 1");
+    }
+}

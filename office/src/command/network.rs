@@ -193,3 +193,36 @@ fn unsuitable(given: &Given) -> Result<String, Unanswered> {
         Err(differs) => Err(differs),
     }
 }
+
+#[cfg(test)]
+mod tests {
+    use super::*;
+    use office::house;
+
+    const OWN: &str = "local losses 0.3\nhours 24\nmeter loss 50 cm\nguaranteed head 500 cm\ndelivered head 1200 cm\n\
+        velocity limit 1500 mm/s\nresidents hotel-75 71\n\
+        section 1 from pump length 10 m elevation 600 cm kind hotel-75 fixtures 80 free 200 cm\n";
+
+    /// A flow of the library that the model has otherwise is not shown: there is no answer, and both flows are named.
+    #[test]
+    fn flows_that_differ_are_not_shown() {
+        let job = house::pack(OWN).expect("document 01's own case");
+        // Document 01 has 2,052 ml/s for it.
+        let (flow, duty) = (calls::flow(&job).expect("accepted"), calls::duty(&job).expect("accepted"));
+        assert!(Demand::with(&job, flow.clone(), duty).is_ok_and(|demand| demand.duty == 2_052));
+        let other = Flow { flows: vec![2_053], ..flow.clone() };
+        for (whose, found) in
+            [("section 1", Demand::with(&job, other, duty)), ("the house", Demand::with(&job, flow, 2_053))]
+        {
+            let why = found.err().expect("they differ");
+            let Err(misuse) = report::unanswered(&Arguments::default(), &why, &Given::default()) else {
+                panic!("a difference is no answer");
+            };
+            let said = format!(
+                "office: library and command differ: the design flow of {whose} is 2053 ml/s by the library and 2052 ml/s \
+                 by the command; there is no answer, please report it with the files\n"
+            );
+            assert_eq!(misuse.text(), said);
+        }
+    }
+}

@@ -170,7 +170,7 @@ mod tests {
         let list = Meters { source, names: Vec::new() };
         let job = house::pack(OWN).expect("document 01's own case");
         let found = calls::meter(&job, &list.source.bytes).expect("one qualifies");
-        let picked = Picked::of(&job, &list, Ok(found.clone())).ok().expect("the two agree");
+        let picked = Picked::of(&job, &list, Ok(found.clone())).expect("the two agree");
         assert_eq!((picked.place, picked.loss, picked.former), (2, 61, 50));
         let mut changed = found.clone();
         changed.job[7] = 23;
