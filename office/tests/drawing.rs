@@ -122,14 +122,15 @@ fn marked() -> Vec<Vec<u8>> {
     jobs.flat_map(|job| [short(&job), job]).collect()
 }
 
-/// The end of section 1, with fixtures of its own and a tap that sets its flow, lies highest and dictates; below it hangs
-/// another row.
+/// Section 1 has basins of its own and leads to a bath, whose tap sets its flow; right below it is drawn section 3.
+fn basins_on_the_way() -> String {
+    let sections = [("pump", "offices", 8), ("1", "hotel-100", 1), ("pump", "hotel-100", 10)];
+    mixed::house(&[("hotel-100", 1), ("offices", 1)], &sections)
+}
+
+/// The same with the end of section 1 so high that it dictates.
 fn high() -> String {
-    branch(&["hotel-100"]).replacen(
-        "elevation 310 cm kind none",
-        "elevation 2000 cm kind offices fixtures 1 free 200 cm",
-        1,
-    )
+    basins_on_the_way().replacen("elevation 310 cm", "elevation 2000 cm", 1)
 }
 
 /// The house with a delivered head of 0.
@@ -283,7 +284,9 @@ fn a_marked_end_that_dictates_has_its_line() {
     assert_eq!(texts.len(), 7);
     assert_eq!((texts[3].as_str(), texts[6].as_str()), ("one tap of hotel-100", "dictating end"));
     let height = |svg: &str| elements(svg)[0].number("height");
-    // Three ends in rows of their own below the heading's 130.
-    assert_eq!(height(&svg), 130 + 3 * 104);
-    assert_eq!(height(&drawn(&packed(&branch(&["hotel-100"]))).0), 130 + 3 * 90);
+    // Two ends in rows of their own below the heading's 130.
+    assert_eq!(height(&svg), 130 + 2 * 104);
+    let low = drawn(&packed(&basins_on_the_way())).0;
+    assert!(texts_of(&low, 1).0.contains(&"one tap of hotel-100".to_string()), "{low}");
+    assert_eq!(height(&low), 130 + 2 * 90);
 }
