@@ -14,8 +14,8 @@ use run::{office, office_with, read};
 const MIXED: &str = "examples/mixed.txt";
 const TABLE: &str = "examples/table.csv";
 const METERS: &str = "examples/meters.csv";
-const LEGEND: &str = "one tap of a kind: one fixture of this kind draws more than the average of all kinds served, and the flow \
-    is what it draws\n";
+const LEGEND: &str = "one tap of a kind: one fixture of this kind draws more than the average flow of all kinds served; the \
+    flow is what it draws\n";
 
 /// What a command says of a house, in words.
 fn words(command: &[&str], house: &str) -> String {
@@ -78,7 +78,7 @@ section  from  kind       fixtures  flow
     for command in [&["choose", MIXED, TABLE][..], &["rate", MIXED, TABLE, sizes]] {
         let text = office(command).text();
         assert!(text.ends_with(&format!("* lies on the dictating path\n{LEGEND}")), "{text}");
-        assert!(line(&text, 5).ends_with("  one tap of hotel-100"), "{text}");
+        assert!(line(&text, 5).ends_with("  flow: one tap of hotel-100"), "{text}");
         assert_eq!(text.matches("one tap of hotel-100\n").count(), 1, "{text}");
     }
     let metered = office(&["meter", MIXED, METERS]).text();

@@ -60,7 +60,8 @@ JOB is a readable house or a job record. The house's design flow is what its pum
 
 A design flow is the average flow of all kinds that the section, or the house, serves, but never less than what one fixture of
 any of these kinds draws (Z, `office kinds`). Where one fixture sets it, `one tap of` and the kind stand behind it; of several
-kinds with the same Z all are named.
+kinds with the same Z all are named. A pipe may have a greater flow than the one that it hangs from, since the average of fewer
+kinds may be greater.
 
 --json: duty_ml_per_s (the house's design flow), duty_one_tap_kinds (the kinds of which one tap sets it, by number; empty where
 none does), hour_l_per_h, day_l, mean_hour_l_per_h, sections (section, flow_ml_per_s, one_tap_kinds).",
@@ -108,7 +109,7 @@ path, and only what is done there brings the required head down.
 The delivered head plays no part in rating; `to spare` and `left` compare with it: left is the head left at a section's end
 when the delivered head is delivered, less meter loss, losses and elevation. An end with less than its free head is SHORT.
 
-`office help flow` explains the design flow, and `one tap of` behind a section's line.
+`office help flow` explains the design flow, and `one tap of` behind it.
 
 --json: duty_ml_per_s, duty_one_tap_kinds, hour_l_per_h, day_l, mean_hour_l_per_h, cost_tenths (in tenths of the price unit),
 sizes, suits, required_head_cm, pump_head_cm, guaranteed_head_cm, delivered_head_cm, dictating_section, sections (section,

@@ -79,7 +79,7 @@ pub fn legend(marked: bool) -> &'static str {
 }
 
 const ONE_TAP: &str = "\
-one tap of a kind: one fixture of this kind draws more than the average of all kinds served, and the flow is what it draws
+one tap of a kind: one fixture of this kind draws more than the average flow of all kinds served; the flow is what it draws
 ";
 
 /// What the house asks for as a whole, for people.

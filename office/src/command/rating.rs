@@ -152,6 +152,6 @@ fn row(pipe: &Pipe) -> Vec<String> {
         pipe.left.to_string(),
         section.free.to_string(),
         format!("{}{}", if pipe.dictating { "*" } else { "" }, if short { " SHORT" } else { "" }),
-        taps::words(&pipe.taps),
+        if pipe.taps.is_empty() { String::new() } else { format!("flow: {}", taps::words(&pipe.taps)) },
     ]
 }
