@@ -10,7 +10,8 @@ use crate::calls::{Flow, Rating};
 use crate::kinds;
 use crate::pipes::Pipe;
 use crate::record::Record;
-use layout::{COLUMN, LEFT, Place, ROW, TOP};
+use crate::taps;
+use layout::{COLUMN, LEFT, LINE, Place, TOP};
 use svg::Svg;
 
 /// Half of the turn that a pipe takes below its parent's end, so that text beside the end has room.
@@ -26,6 +27,8 @@ const INK: &str = "#1c2329";
 pub struct Totals<'a> {
     /// The house's design flow in ml/s.
     pub duty: u32,
+    /// The kinds of which one tap sets it; none where the average flow stands.
+    pub taps: &'a [u8],
     pub flow: &'a Flow,
     /// In tenths of the price unit.
     pub cost: u64,
@@ -34,47 +37,68 @@ pub struct Totals<'a> {
 /// The drawing of a rated house.
 pub fn draw(record: &Record, pipes: &[Pipe], rating: &Rating, totals: &Totals) -> String {
     let warning = if missing(record, rating) > 0 { ": TOO LITTLE HEAD" } else { "" };
-    let (mut svg, places) = sheet(pipes, warning);
-    heading(&mut svg, record, rating, totals);
+    let texts: Vec<Texts> = pipes.iter().map(|pipe| Texts::of(pipe, Some(rating))).collect();
+    let (mut svg, places) = sheet(pipes, &texts, totals.taps, warning);
+    heading(&mut svg, record, rating, totals, legend(pipes, totals.taps));
     pump(&mut svg, record, &format!("head {} cm", rating.pump));
-    risers(&mut svg, pipes, &places);
-    for (pipe, place) in pipes.iter().zip(&places) {
-        section(&mut svg, pipe, place, &rated(pipe, pipe.number == rating.dictating));
-    }
+    network(&mut svg, pipes, &places, &texts);
     svg.finish()
 }
 
-/// The drawing of a house in which no size serves some section, whose size is 0: flows and velocities, and no heads.
-pub fn sketch(record: &Record, pipes: &[Pipe], duty: u32) -> String {
-    let (mut svg, places) = sheet(pipes, ": NO SIZE SERVES");
+/// The drawing of a house in which no size serves some section, whose size is 0: flows and velocities, and no heads. One tap
+/// of the kinds in `taps` sets the house's design flow `duty`.
+pub fn sketch(record: &Record, pipes: &[Pipe], duty: u32, taps: &[u8]) -> String {
+    let texts: Vec<Texts> = pipes.iter().map(|pipe| Texts::of(pipe, None)).collect();
+    let (mut svg, places) = sheet(pipes, &texts, taps, ": NO SIZE SERVES");
     let unserved: Vec<String> =
         pipes.iter().filter(|pipe| pipe.size == 0).map(|pipe| pipe.number.to_string()).collect();
     let more = if unserved.len() > NAMED { format!(" and {} more", unserved.len() - NAMED) } else { String::new() };
     let named = unserved[..unserved.len().min(NAMED)].join(", ");
     svg.text(20, 28, 15, SHORT, "bold", &format!("NO SIZE SERVES section {named}{more}"));
-    let limit = format!("velocity limit {} mm/s; the other pipes have the size of their least loss", record.limit);
+    let legend = legend(pipes, taps);
+    let limit =
+        format!("velocity limit {} mm/s; the other pipes have the size of their least loss{legend}", record.limit);
     svg.text(20, 48, 12, FAINT, "normal", &limit);
-    let set = format!("pump set: {duty} ml/s; without a size for each section there are no heads");
+    let tap = mark(taps).map_or(String::new(), |tap| format!(", {tap}"));
+    let set = format!("pump set: {duty} ml/s{tap}; without a size for each section there are no heads");
     svg.text(20, 65, 12, FAINT, "normal", &set);
     pump(&mut svg, record, "head unknown");
-    risers(&mut svg, pipes, &places);
-    for (pipe, place) in pipes.iter().zip(&places) {
-        section(&mut svg, pipe, place, &[]);
-    }
+    network(&mut svg, pipes, &places, &texts);
     svg.finish()
 }
 
 /// So many sections are named above a drawing.
 const NAMED: usize = 9;
 
-/// An empty sheet with room for the pipes, and their places on it.
-fn sheet(pipes: &[Pipe], warning: &str) -> (Svg, Vec<Place>) {
-    let places = layout::places(pipes);
-    let (columns, rows) = layout::extent(&places);
+/// An empty sheet with room for the pipes and their texts, and the pipes' places on it.
+fn sheet(pipes: &[Pipe], texts: &[Texts], taps: &[u8], warning: &str) -> (Svg, Vec<Place>) {
+    let row = layout::row(1 + texts.iter().map(|own| own.notes.len()).max().unwrap_or(0));
+    let places = layout::places(pipes, row);
+    let (right, height) = layout::extent(&places, row);
     // Room for the heading over a small house.
-    let width = (LEFT + columns * COLUMN + 40).max(720);
-    let title = format!("House network of {} sections{warning}", pipes.len());
-    (Svg::new(width, TOP + rows * ROW, &title), places)
+    let heading = if legend(pipes, taps).is_empty() { 720 } else { 1_020 };
+    let house = if taps.is_empty() { String::new() } else { format!("; design flow: {}", taps::words(taps)) };
+    let title = format!("House network of {} sections{warning}{house}", pipes.len());
+    (Svg::new((right + 40).max(heading), height, &title), places)
+}
+
+/// What a mark means, behind another line above the drawing; nothing where there is no mark.
+fn legend(pipes: &[Pipe], taps: &[u8]) -> &'static str {
+    let marked = !taps.is_empty() || pipes.iter().any(|pipe| !pipe.taps.is_empty());
+    if marked { "; one tap: it draws more than the average, and is the flow" } else { "" }
+}
+
+/// So many letters fit between the ends of a pipe.
+const FITTING: usize = 32;
+
+/// The kinds of which one tap sets a flow, in a column's width: where they do not fit, how many they are.
+fn mark(taps: &[u8]) -> Option<String> {
+    let words = taps::words(taps);
+    match words.chars().count() {
+        0 => None,
+        1..=FITTING => Some(words),
+        _ => Some(format!("one tap ({} kinds)", taps.len())),
+    }
 }
 
 /// How many cm the delivered head lacks of the required one; none, or fewer than none, where it is enough.
@@ -84,9 +108,10 @@ fn missing(record: &Record, rating: &Rating) -> i64 {
 
 /// Four lines above the drawing, first what the pump set has to deliver, and a fifth where the head is too little: an end
 /// marked SHORT may lie far from here.
-fn heading(svg: &mut Svg, record: &Record, rating: &Rating, totals: &Totals) {
+fn heading(svg: &mut Svg, record: &Record, rating: &Rating, totals: &Totals, legend: &str) {
     let (required, pump, guaranteed) = (rating.required, rating.pump, record.guaranteed);
-    let set = format!("pump set: {} ml/s at {pump} cm over the guaranteed {guaranteed} cm", totals.duty);
+    let tap = mark(totals.taps).map_or(String::new(), |tap| format!(", {tap},"));
+    let set = format!("pump set: {} ml/s{tap} at {pump} cm over the guaranteed {guaranteed} cm", totals.duty);
     svg.text(20, 22, 15, INK, "bold", &set);
     let Flow { hour, day, .. } = totals.flow;
     let house = format!("greatest hour {hour} l, greatest day {day} l; required head {required} cm");
@@ -94,11 +119,11 @@ fn heading(svg: &mut Svg, record: &Record, rating: &Rating, totals: &Totals) {
     let bought = format!("the pipes cost {}.{}", totals.cost / 10, totals.cost % 10);
     let path = format!("dictating path, red and wide: pump to section {}; {bought}", rating.dictating);
     svg.text(20, 55, 12, FAINT, "normal", &path);
-    let left = format!("left: head left at an end when {} cm are delivered; needs: its free head", record.delivered);
+    let delivered = record.delivered;
+    let left = format!("left: head left at an end when {delivered} cm are delivered; needs: its free head{legend}");
     svg.text(20, 70, 12, FAINT, "normal", &left);
     let missing = missing(record, rating);
     if missing > 0 {
-        let delivered = record.delivered;
         let warning = format!("TOO LITTLE HEAD: {delivered} cm are delivered, {missing} cm are missing");
         svg.text(20, 87, 13, SHORT, "bold", &warning);
     }
@@ -115,6 +140,14 @@ fn pump(svg: &mut Svg, record: &Record, head: &str) {
     svg.middle(x, y - 26, 11, FAINT, "normal", &format!("meter {} cm", record.meter));
 }
 
+/// All pipes with their texts.
+fn network(svg: &mut Svg, pipes: &[Pipe], places: &[Place], texts: &[Texts]) {
+    risers(svg, pipes, places);
+    for ((pipe, place), texts) in pipes.iter().zip(places).zip(texts) {
+        section(svg, pipe, place, texts);
+    }
+}
+
 /// The uprights of all sections. Branches of one pipe leave along the same one; the dictating one is drawn last, over the
 /// others.
 fn risers(svg: &mut Svg, pipes: &[Pipe], places: &[Place]) {
@@ -127,21 +160,14 @@ fn risers(svg: &mut Svg, pipes: &[Pipe], places: &[Place]) {
 
 /// The upright line from the parent's end down to this section's row, where it is not the parent's own.
 fn riser(svg: &mut Svg, pipe: &Pipe, place: &Place, places: &[Place]) {
-    let (x, from) = start(pipe, place, places);
-    let y = TOP + place.row * ROW;
-    if from != y {
-        let (colour, width) = stroke(pipe);
-        svg.line(x, from, x, y, colour, width);
-    }
-}
-
-/// Where a section begins: the column of its parent's end and the parent's row.
-fn start(pipe: &Pipe, place: &Place, places: &[Place]) -> (i64, i64) {
-    let above = match usize::from(pipe.section.parent) {
+    let from = match usize::from(pipe.section.parent) {
         0 => TOP,
-        parent => places.get(parent - 1).map_or(TOP, |above| TOP + above.row * ROW),
+        parent => places.get(parent - 1).map_or(TOP, |above| above.y),
     };
-    (LEFT + place.column * COLUMN, above)
+    if from != place.y {
+        let (colour, width) = stroke(pipe);
+        svg.line(place.x, from, place.x, place.y, colour, width);
+    }
 }
 
 fn stroke(pipe: &Pipe) -> (&'static str, i64) {
@@ -152,12 +178,29 @@ fn stroke(pipe: &Pipe) -> (&'static str, i64) {
 /// A line of text below a pipe: its colour, its weight, and what it says.
 type Note = (&'static str, &'static str, String);
 
+/// What is said of a section beside its figures.
+struct Texts {
+    /// What a viewer shows when the pointer rests on it.
+    title: String,
+    /// Below flow and velocity.
+    notes: Vec<Note>,
+}
+
+impl Texts {
+    /// Without a rating there are no heads. By the flow stands the tap that sets it.
+    fn of(pipe: &Pipe, rating: Option<&Rating>) -> Texts {
+        let mut notes: Vec<Note> = mark(&pipe.taps).map(|tap| (INK, "normal", tap)).into_iter().collect();
+        notes.extend(rating.map_or(Vec::new(), |rating| rated(pipe, pipe.number == rating.dictating)));
+        Texts { title: title(pipe, rating.is_some()), notes }
+    }
+}
+
 /// A pipe with its texts: above it number, size and length; below it flow and velocity, and the notes.
-fn section(svg: &mut Svg, pipe: &Pipe, place: &Place, notes: &[Note]) {
-    let x = LEFT + place.column * COLUMN;
-    let (y, end) = (TOP + place.row * ROW, x + COLUMN);
+fn section(svg: &mut Svg, pipe: &Pipe, place: &Place, texts: &Texts) {
+    let Place { x, y } = *place;
+    let end = x + COLUMN;
     let (colour, width) = stroke(pipe);
-    svg.open(&format!("section-{}", pipe.number), &title(pipe, !notes.is_empty()));
+    svg.open(&format!("section-{}", pipe.number), &texts.title);
     svg.line(x, y, end, y, colour, width);
     svg.circle(end, y, 5, "white", colour, 2);
     let at = x + STUB;
@@ -170,8 +213,8 @@ fn section(svg: &mut Svg, pipe: &Pipe, place: &Place, notes: &[Note]) {
         svg.text(at + 24, y - 9, 11, INK, "normal", &format!("{} mm (size {})  {length}", pipe.bore, pipe.size));
         svg.text(at, y + 18, 11, INK, "normal", &format!("{} ml/s  {} mm/s", pipe.flow, pipe.velocity));
     }
-    for (line, (colour, weight, words)) in (1..).zip(notes) {
-        svg.text(at, y + 18 + 14 * line, 11, colour, weight, words);
+    for (line, (colour, weight, words)) in (1..).zip(&texts.notes) {
+        svg.text(at, y + 18 + LINE * line, 11, colour, weight, words);
     }
     svg.close();
 }
@@ -200,10 +243,14 @@ fn ending(pipe: &Pipe) -> (&'static str, String) {
 fn title(pipe: &Pipe, rated: bool) -> String {
     let section = &pipe.section;
     let from = if section.parent == 0 { "the pump".to_string() } else { format!("section {}", section.parent) };
-    let taps = match section.kind {
+    let ends = match section.kind {
         0 => "junction".to_string(),
         kind => format!("{} fixtures of kind {}, free head {} cm", section.fixtures, kinds::name(kind), section.free),
     };
     let left = if rated { format!(", head left {} cm", pipe.left) } else { String::new() };
-    format!("Section {} from {from}: {taps}, elevation {} cm{left}", pipe.number, section.elevation)
+    let flow = match pipe.taps.as_slice() {
+        [] => String::new(),
+        kinds => format!(", flow that of {}, which draws more than the average", taps::words(kinds)),
+    };
+    format!("Section {} from {from}: {ends}, elevation {} cm{left}{flow}", pipe.number, section.elevation)
 }

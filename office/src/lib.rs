@@ -4,8 +4,8 @@
 //! - `ffi` has the same calls on lent buffers, and the only unsafe code.
 //! - `model` is document 01 once more, written independently; [`soak`] and [`replay`] compare the two.
 //! - [`bench()`] times the library against the model and against `rivals`, searches in safe Rust.
-//! - [`house`], [`table`] and [`meters`] are the readable files, [`places`] says where a refusal lies, [`draw`] draws a house; the command
-//!   `office` puts them before people.
+//! - [`house`], [`table`] and [`meters`] are the readable files, [`places`] says where a refusal lies, [`taps`] what sets a flow,
+//!   [`draw`] draws a house; the command `office` puts them before people.
 
 #![deny(unsafe_code)]
 
@@ -46,5 +46,6 @@ pub mod places;
 pub mod readable;
 pub mod record;
 pub mod table;
+pub mod taps;
 pub mod warnings;
 pub mod which;

@@ -4,6 +4,7 @@ use crate::calls::{Flow, Rating};
 use crate::catalogue::Catalogue;
 use crate::places::{gentlest, reading};
 use crate::record::{Record, Section};
+use crate::taps::Taps;
 
 /// One section with its size. Where no size serves it, its size is 0.
 #[derive(Clone, Debug, PartialEq, Eq)]
@@ -17,6 +18,8 @@ pub struct Pipe {
     pub price: u16,
     /// ml/s
     pub flow: u32,
+    /// The kinds of which one tap sets the flow; none where the average flow stands.
+    pub taps: Vec<u8>,
     /// mm/s
     pub velocity: u16,
     /// cm
@@ -37,7 +40,7 @@ impl Pipe {
 
 /// The pipes of a house, section 1 first. The job, the catalogue and the sizes are ones that the library has rated; if the
 /// answers are not of this house there are no pipes.
-pub fn pipes(job: &[u8], cat: &[u8], sizes: &[u8], flow: &Flow, rating: &Rating) -> Option<Vec<Pipe>> {
+pub fn pipes(job: &[u8], cat: &[u8], sizes: &[u8], (flow, taps): (&Flow, &Taps), rating: &Rating) -> Option<Vec<Pipe>> {
     let record = Record::read(job).ok()?;
     let catalogue = Catalogue::read(cat).ok()?;
     let path = path_to(&record, rating.dictating);
@@ -59,6 +62,7 @@ pub fn pipes(job: &[u8], cat: &[u8], sizes: &[u8], flow: &Flow, rating: &Rating)
             bore: of_table.bore,
             price: of_table.price,
             flow: *flow.flows.get(place)?,
+            taps: taps.sections.get(place)?.clone(),
             velocity: rated.velocity,
             loss: rated.loss,
             left: i64::from(record.delivered) - i64::from(record.meter) - paths[place] - i64::from(section.elevation),
@@ -70,11 +74,12 @@ pub fn pipes(job: &[u8], cat: &[u8], sizes: &[u8], flow: &Flow, rating: &Rating)
 
 /// The pipes of a house for which no list of sizes suits: each section with the size of the least loss that serves it. Without
 /// a size for each there is no rating, so losses and heads are 0 and not to be shown.
-pub fn sketch(job: &[u8], cat: &[u8], flow: &Flow) -> Option<Vec<Pipe>> {
+pub fn sketch(job: &[u8], cat: &[u8], (flow, taps): (&Flow, &Taps)) -> Option<Vec<Pipe>> {
     let record = Record::read(job).ok()?;
     let catalogue = Catalogue::read(cat).ok()?;
     let sizes = gentlest(&record, &catalogue, &flow.flows);
-    let pipes = record.numbered().zip(sizes).zip(&flow.flows).map(|(((number, section), size), flow)| {
+    let flows = flow.flows.iter().zip(&taps.sections);
+    let pipes = record.numbered().zip(sizes).zip(flows).map(|(((number, section), size), (flow, taps))| {
         let of_table = size.and_then(|size| catalogue.size(size));
         let velocity = of_table.and_then(|size| reading(size, *flow)).map_or(0, |reading| reading.velocity as u16);
         Pipe {
@@ -84,6 +89,7 @@ pub fn sketch(job: &[u8], cat: &[u8], flow: &Flow) -> Option<Vec<Pipe>> {
             bore: of_table.map_or(0, |size| size.bore),
             price: of_table.map_or(0, |size| size.price),
             flow: *flow,
+            taps: taps.clone(),
             velocity,
             loss: 0,
             left: 0,

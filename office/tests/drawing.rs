@@ -1,12 +1,16 @@
 //! Drawings: well formed, every section named, nothing that runs, no text over another.
 
+#[path = "tools/mixed.rs"]
+mod mixed;
 #[path = "tools/xml.rs"]
 mod xml;
 
+use mixed::{branch, flat};
 use office::draw::{Totals, draw};
 use office::pipes::{pipes, sketch};
 use office::record::{Record, Section};
-use office::{calls, draw, house, table};
+use office::taps::Taps;
+use office::{Flow, calls, draw, house, table};
 use xml::{Element, elements};
 
 const CAT: &str = "size,bore mm,price,flow ml/s,velocity mm/s,slope mm/m\n1,40,900,1,1,1\n1,40,900,3000,1000,40\n\
@@ -14,21 +18,27 @@ const CAT: &str = "size,bore mm,price,flow ml/s,velocity mm/s,slope mm/m\n1,40,9
 
 /// The drawing of a house with wide pipes, and how many sections it has.
 fn drawn(job: &[u8]) -> (String, usize) {
+    drawn_with(job, &asked(job).2.house)
+}
+
+/// The same with one tap of these kinds for the house.
+fn drawn_with(job: &[u8], house: &[u8]) -> (String, usize) {
     let cat = table::pack(CAT).expect("a table");
     let record = Record::read(job).expect("a record");
     let sizes = vec![2; record.sections.len()];
-    let flow = calls::flow(job).unwrap_or_else(|refusal| panic!("{refusal}"));
+    let (flow, duty, taps) = asked(job);
     let rating = calls::rate(job, &cat, &sizes).unwrap_or_else(|refusal| panic!("{refusal}"));
-    let pipes = pipes(job, &cat, &sizes, &flow, &rating).expect("the answers are this house's");
-    (
-        draw(
-            &record,
-            &pipes,
-            &rating,
-            &Totals { duty: calls::duty(job).expect("accepted"), flow: &flow, cost: u64::from(u32::MAX) },
-        ),
-        pipes.len(),
-    )
+    let pipes = pipes(job, &cat, &sizes, (&flow, &taps), &rating).expect("the answers are this house's");
+    let totals = Totals { duty, taps: house, flow: &flow, cost: u64::from(u32::MAX) };
+    (draw(&record, &pipes, &rating, &totals), pipes.len())
+}
+
+/// The flows of a house, its design flow, and which of them one tap sets.
+fn asked(job: &[u8]) -> (Flow, u32, Taps) {
+    let flow = calls::flow(job).unwrap_or_else(|refusal| panic!("{refusal}"));
+    let duty = calls::duty(job).expect("accepted");
+    let taps = Taps::of(job, &flow, duty).expect("the model's flows are the library's");
+    (flow, duty, taps)
 }
 
 /// Tables in which some section, or every one, has no size.
@@ -37,9 +47,9 @@ const NONE: &str = "size,bore mm,price,flow ml/s,velocity mm/s,slope mm/m\n1,20,
 
 /// The drawing of a house without heads.
 fn sketch_of(job: &[u8], cat: &str) -> String {
-    let flow = calls::flow(job).unwrap_or_else(|refusal| panic!("{refusal}"));
-    let pipes = sketch(job, &table::pack(cat).expect("a table"), &flow).expect("of this house");
-    draw::sketch(&Record::read(job).expect("a record"), &pipes, calls::duty(job).expect("accepted"))
+    let (flow, duty, taps) = asked(job);
+    let pipes = sketch(job, &table::pack(cat).expect("a table"), (&flow, &taps)).expect("of this house");
+    draw::sketch(&Record::read(job).expect("a record"), &pipes, duty, &taps.house)
 }
 
 #[test]
@@ -83,7 +93,44 @@ fn houses() -> Vec<Vec<u8>> {
     (one[2], one[3], one[6]) = (0, 50, 1);
     let halves = great(|number| number / 2);
     let low = short(&hotel);
-    vec![hotel, low, one, great(|_| 0), great(|number| number - 1), halves, great(|number| number.saturating_sub(3))]
+    let plain =
+        [hotel, low, one, great(|_| 0), great(|number| number - 1), halves, great(|number| number.saturating_sub(3))];
+    plain.into_iter().chain(marked()).collect()
+}
+
+/// The kinds of each Z, most of them at once.
+const THIRTY: [&str; 5] = ["dwelling", "hotel-shared", "hotel-25", "hotel-75", "hotel-100"];
+const TWENTY: [&str; 5] = ["hostel-showers", "hostel-kitchens", "hotel-showers", "hospital", "polyclinic"];
+
+fn packed(text: &str) -> Vec<u8> {
+    house::pack(text).unwrap_or_else(|_| panic!("a house: {text}"))
+}
+
+/// Houses in which one tap sets a flow: of a section or of the house, of one kind or of several, also at the dictating end.
+fn marked() -> Vec<Vec<u8>> {
+    let kinds: [&[&str]; 6] = [
+        &["hotel-100"],
+        &["hotel-75", "hotel-100"],
+        &["hostel-kitchens"],
+        &["hotel-shared", "hotel-100"],
+        &THIRTY,
+        &TWENTY,
+    ];
+    let mut texts: Vec<String> = kinds.iter().map(|kinds| branch(kinds)).collect();
+    texts.extend([flat(), high()]);
+    let jobs = texts.iter().map(|text| packed(text));
+    jobs.flat_map(|job| [short(&job), job]).collect()
+}
+
+/// Section 1 has basins of its own and leads to a bath, whose tap sets its flow; right below it is drawn section 3.
+fn basins_on_the_way() -> String {
+    let sections = [("pump", "offices", 8), ("1", "hotel-100", 1), ("pump", "hotel-100", 10)];
+    mixed::house(&[("hotel-100", 1), ("offices", 1)], &sections)
+}
+
+/// The same with the end of section 1 so high that it dictates.
+fn high() -> String {
+    basins_on_the_way().replacen("elevation 310 cm", "elevation 2000 cm", 1)
 }
 
 /// The house with a delivered head of 0.
@@ -143,7 +190,9 @@ fn meet(a: (i64, i64, i64, i64), b: (i64, i64, i64, i64)) -> bool {
 fn no_text_meets_another_or_a_pipe() {
     let jobs = houses();
     let sketched = jobs.iter().flat_map(|job| [NARROW, NONE].map(|cat| sketch_of(job, cat)));
-    for svg in jobs.iter().map(|job| drawn(job).0).chain(sketched) {
+    // The kinds of a house's tap, the longest that are written out and the most.
+    let named = [&[7, 8][..], &[1, 4, 6, 7, 8]].map(|taps| drawn_with(&short(&packed(&flat())), taps).0);
+    for svg in jobs.iter().map(|job| drawn(job).0).chain(sketched).chain(named) {
         let all = elements(&svg);
         let texts: Vec<&Element> = all.iter().filter(|element| element.name == "text").collect();
         let (width, height) = (all[0].number("width"), all[0].number("height"));
@@ -165,4 +214,79 @@ fn no_text_meets_another_or_a_pipe() {
             }
         }
     }
+}
+
+/// The texts of a section, and what the pointer shows.
+fn texts_of(svg: &str, section: usize) -> (Vec<String>, String) {
+    let (_, group) = svg.split_once(&format!("<g id=\"section-{section}\">")).expect("it is drawn");
+    let (group, _) = group.split_once("</g>").expect("a group ends");
+    let all = elements(&format!("<?xml version=\"1.0\" encoding=\"UTF-8\"?>\n<g>{group}</g>"));
+    let texts = all.iter().filter(|element| element.name == "text").map(|text| text.text.clone()).collect();
+    (texts, all.into_iter().find(|element| element.name == "title").expect("a title").text)
+}
+
+/// The mark stands below the flow and the velocity, and where its kinds are too long for a column they are counted; the
+/// pointer shows them all. One tap draws 10 × Z: 300 or 200 ml/s.
+#[test]
+fn a_flow_that_one_tap_sets_is_marked() {
+    let long = "one tap of dwelling, hotel-shared, hotel-25, hotel-75 or hotel-100";
+    let cases: [(&[&str], u32, &str, &str); 4] = [
+        (&["hotel-100"], 300, "one tap of hotel-100", "one tap of hotel-100"),
+        (&["hotel-75", "hotel-100"], 300, "one tap of hotel-75 or hotel-100", "one tap of hotel-75 or hotel-100"),
+        (
+            &["hotel-showers", "hostel-kitchens"],
+            200,
+            "one tap (2 kinds)",
+            "one tap of hostel-kitchens or hotel-showers",
+        ),
+        (&THIRTY, 300, "one tap (5 kinds)", long),
+    ];
+    for (kinds, flow, mark, whole) in cases {
+        let job = packed(&branch(kinds));
+        let (svg, sections) = drawn(&job);
+        let (texts, title) = texts_of(&svg, 1);
+        assert!(texts[2].starts_with(&format!("{flow} ml/s  ")) && texts[3] == mark, "{texts:?}");
+        assert!(title.ends_with(&format!(", flow that of {whole}, which draws more than the average")), "{title}");
+        assert!((2..=sections).all(|section| {
+            let (texts, title) = texts_of(&svg, section);
+            texts.iter().chain([&title]).all(|text| !text.contains("tap"))
+        }));
+        assert!(svg.contains("; one tap: it draws more than the average, and is the flow<"), "{svg}");
+        let (texts, title) = texts_of(&sketch_of(&job, NONE), 1);
+        assert_eq!(texts[2..], [format!("{flow} ml/s"), mark.to_string()]);
+        assert!(title.contains(whole) && !title.contains("head left"), "{title}");
+    }
+}
+
+#[test]
+fn a_tap_that_sets_the_flow_of_the_house_stands_above_the_drawing() {
+    let job = packed(&flat());
+    let (svg, _) = drawn(&job);
+    assert!(svg.contains("<title>House network of 2 sections; design flow: one tap of dwelling</title>"), "{svg}");
+    assert!(svg.contains(">pump set: 300 ml/s, one tap of dwelling, at "), "{svg}");
+    assert!(svg.contains("; one tap: it draws more than the average, and is the flow<"), "{svg}");
+    assert!([1, 2].iter().all(|section| !texts_of(&svg, *section).1.contains("tap")));
+    assert!(sketch_of(&job, NONE).contains(">pump set: 300 ml/s, one tap of dwelling; without a size"));
+    let (counted, _) = drawn_with(&job, &[1, 4, 6, 7, 8]);
+    assert!(counted.contains(">pump set: 300 ml/s, one tap (5 kinds), at "), "{counted}");
+    assert!(
+        counted.contains("design flow: one tap of dwelling, hotel-shared, hotel-25, hotel-75 or hotel-100</title>")
+    );
+    let plain = drawn(&houses()[0]).0 + &sketch_of(&houses()[0], NARROW);
+    assert!(!plain.contains("tap"), "{plain}");
+}
+
+/// Rows are higher only where an end has one more line: the tap, and that it dictates.
+#[test]
+fn a_marked_end_that_dictates_has_its_line() {
+    let (svg, _) = drawn(&packed(&high()));
+    let (texts, _) = texts_of(&svg, 1);
+    assert_eq!(texts.len(), 7);
+    assert_eq!((texts[3].as_str(), texts[6].as_str()), ("one tap of hotel-100", "dictating end"));
+    let height = |svg: &str| elements(svg)[0].number("height");
+    // Two ends in rows of their own below the heading's 130.
+    assert_eq!(height(&svg), 130 + 2 * 104);
+    let low = drawn(&packed(&basins_on_the_way())).0;
+    assert!(texts_of(&low, 1).0.contains(&"one tap of hotel-100".to_string()), "{low}");
+    assert_eq!(height(&low), 130 + 2 * 90);
 }

@@ -110,7 +110,7 @@ fn the_pump_has_no_end() {
 
 #[test]
 fn the_examples_are_sound() {
-    let mut houses = vec![HOUSE.to_string(), "examples/attic.txt".to_string()];
+    let mut houses = vec![HOUSE.to_string(), "examples/attic.txt".to_string(), "examples/mixed.txt".to_string()];
     for file in std::fs::read_dir(top().join("examples/mistakes")).expect("the examples are there") {
         houses.push(format!("examples/mistakes/{}", file.expect("a file").file_name().to_string_lossy()));
     }

@@ -58,8 +58,13 @@ nor 5 for each meter, can't be shown: status 2.
         text: "\
 JOB is a readable house or a job record. The house's design flow is what its pump set has to deliver.
 
---json: duty_ml_per_s (the house's design flow), hour_l_per_h, day_l, mean_hour_l_per_h, sections (section,
-flow_ml_per_s).",
+A design flow is the average flow of all kinds that the section, or the house, serves, but never less than what one fixture of
+any of these kinds draws (Z, `office kinds`). Where one fixture sets it, `one tap of` and the kind stand behind it; of several
+kinds with the same Z all are named. A pipe may have a greater flow than the one that it hangs from, since the average of fewer
+kinds may be greater.
+
+--json: duty_ml_per_s (the house's design flow), duty_one_tap_kinds (the kinds of which one tap sets it, by number; empty where
+none does), hour_l_per_h, day_l, mean_hour_l_per_h, sections (section, flow_ml_per_s, one_tap_kinds).",
     },
     Command {
         name: "meter",
@@ -81,9 +86,9 @@ much, and what would do.
 house one number is another and all else stays, comments too; a record stays a record. `-o -` sends the house to standard
 output in place of the answer: office meter house.txt meters.csv -o - | office choose - table.csv
 
---json: duty_ml_per_s (the house's design flow), mean_hour_l_per_h, meter (the winner's place), meter_loss_cm,
-former_meter_loss_cm, record (the job with the meter, in hex), meters (meter, type, type_name, resistance_ten_thousandths,
-service_flow_l_per_h, name, loss_cm, limit_cm, over_limit_cm, over_service_flow_l_per_h, qualifies).",
+--json: duty_ml_per_s (the house's design flow), duty_one_tap_kinds, mean_hour_l_per_h, meter (the winner's place),
+meter_loss_cm, former_meter_loss_cm, record (the job with the meter, in hex), meters (meter, type, type_name,
+resistance_ten_thousandths, service_flow_l_per_h, name, loss_cm, limit_cm, over_limit_cm, over_service_flow_l_per_h, qualifies).",
     },
     Command {
         name: "rate",
@@ -104,9 +109,11 @@ path, and only what is done there brings the required head down.
 The delivered head plays no part in rating; `to spare` and `left` compare with it: left is the head left at a section's end
 when the delivered head is delivered, less meter loss, losses and elevation. An end with less than its free head is SHORT.
 
---json: duty_ml_per_s, hour_l_per_h, day_l, mean_hour_l_per_h, cost_tenths (in tenths of the price unit), sizes, suits, required_head_cm,
-pump_head_cm, guaranteed_head_cm, delivered_head_cm, dictating_section, sections (section, parent, size, bore_mm,
-flow_ml_per_s, velocity_mm_per_s, loss_cm, head_left_cm, free_head_cm).",
+`office help flow` explains the design flow, and `one tap of` behind it.
+
+--json: duty_ml_per_s, duty_one_tap_kinds, hour_l_per_h, day_l, mean_hour_l_per_h, cost_tenths (in tenths of the price unit),
+sizes, suits, required_head_cm, pump_head_cm, guaranteed_head_cm, delivered_head_cm, dictating_section, sections (section,
+parent, size, bore_mm, flow_ml_per_s, one_tap_kinds, velocity_mm_per_s, loss_cm, head_left_cm, free_head_cm).",
     },
     Command {
         name: "choose",
@@ -132,8 +139,9 @@ suits, rated; which of equally cheap lists comes is left free. Its line `sizes` 
         text: "\
 JOB, CAT and SIZES as for `rate`; without SIZES a cheapest list is drawn. The pump is at the left. Each pipe has its number,
 bore, size and length above it, flow, velocity and loss below it, and the head left at its end against the free head. The
-dictating path is red and wide. Where no list suits (refusal 16, status 1) the house is drawn all the same, and the refusal
-stands on standard error.",
+dictating path is red and wide. Below a flow that one tap sets (`office help flow`) stand the tap's kinds, or how many they are
+where they don't fit; a pointer that rests on the section shows them all. Where no list suits (refusal 16, status 1) the house
+is drawn all the same, and the refusal stands on standard error.",
     },
     Command {
         name: "kinds",

@@ -4,7 +4,7 @@ use super::arguments::Arguments;
 use super::files::to_a_terminal;
 use super::input::{File, Reading, Source};
 use super::outcome::{Misuse, Outcome, word};
-use super::picked::{Picked, Unpicked};
+use super::picked::Picked;
 use super::refused::Given;
 use super::report;
 use office::at::Field;
@@ -24,8 +24,7 @@ pub fn meter(arguments: &Arguments) -> Result<Outcome, Misuse> {
     let found = calls::meter(&job.bytes, &list.source.bytes);
     let picked = match Picked::of(&job.bytes, &list, found) {
         Ok(picked) => picked,
-        Err(Unpicked::Refused(why)) => return Ok(report::refusal(arguments, &why, &given)),
-        Err(Unpicked::Differs(why)) => return Err(differ(&why)),
+        Err(why) => return report::unanswered(arguments, &why, &given),
     };
     if arguments.is_piped() && read == job.bytes {
         to_a_terminal(arguments)?;
@@ -46,11 +45,6 @@ fn any_loss_does(misuse: Misuse) -> Misuse {
         mistake.expected = "any figure in its range, as `meter loss 0 cm`, since `meter` replaces it".to_string();
     }
     Misuse::Mistakes(name, mistakes)
-}
-
-/// The command works the losses of the whole list out for its table, and so the winner too.
-fn differ(why: &str) -> Misuse {
-    Misuse::Words(format!("library and command differ: {why}; there is no answer, please report it with both files"))
 }
 
 /// The house with the library's meter loss, in the form that was read: a record is the library's own, in a text one number is

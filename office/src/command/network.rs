@@ -5,11 +5,12 @@ use super::charts::{Figure, chart, figures, number, words};
 use super::input::Source;
 use super::json::Json;
 use super::outcome::{Misuse, Outcome};
-use super::rating::Rated;
+use super::rating::{Rated, bytes};
 use super::refused::Given;
-use super::report::{self, Fields};
+use super::report::{self, Fields, Unanswered};
 use office::pipes::sketch;
 use office::record::Record;
+use office::taps::{self, Taps};
 use office::{Flow, Refusal, calls, draw as drawing, kinds};
 
 pub fn flow(arguments: &Arguments) -> Result<Outcome, Misuse> {
@@ -19,7 +20,7 @@ pub fn flow(arguments: &Arguments) -> Result<Outcome, Misuse> {
         Ok(demand) => {
             report::answer(arguments, &given, || flow_fields(&demand), || flow_chart(&job, &demand).into_bytes())
         }
-        Err(why) => Ok(report::refusal(arguments, &why, &given)),
+        Err(why) => report::unanswered(arguments, &why, &given),
     }
 }
 
@@ -28,30 +29,64 @@ pub struct Demand {
     pub flow: Flow,
     /// The design flow of the whole house in ml/s.
     pub duty: u32,
+    /// Which of these one tap sets.
+    pub taps: Taps,
 }
 
 impl Demand {
-    pub fn of(job: &[u8]) -> Result<Demand, Refusal> {
-        Ok(Demand { flow: calls::flow(job)?, duty: calls::duty(job)? })
+    pub fn of(job: &[u8]) -> Result<Demand, Unanswered> {
+        Demand::with(job, calls::flow(job)?, calls::duty(job)?)
     }
+
+    /// With the library's answers to the job. No flow of them is shown unless it is known what sets it.
+    fn with(job: &[u8], flow: Flow, duty: u32) -> Result<Demand, Unanswered> {
+        let taps = Taps::of(job, &flow, duty).map_err(Unanswered::Differs)?;
+        Ok(Demand { flow, duty, taps })
+    }
+}
+
+/// The house's design flow.
+pub fn duty_fields(demand: &Demand) -> Fields {
+    vec![("duty_ml_per_s", demand.duty.into()), ("duty_one_tap_kinds", kinds_of(&demand.taps.house))]
+}
+
+/// The kinds of which one tap sets a flow.
+pub fn kinds_of(taps: &[u8]) -> Json {
+    Json::List(taps.iter().map(|kind| (*kind).into()).collect())
 }
 
 /// What the house asks for as a whole.
 pub fn house_fields(demand: &Demand) -> Fields {
     let flow = &demand.flow;
-    vec![
-        ("duty_ml_per_s", demand.duty.into()),
+    let mut fields = duty_fields(demand);
+    fields.extend([
         ("hour_l_per_h", flow.hour.into()),
         ("day_l", flow.day.into()),
         ("mean_hour_l_per_h", flow.mean_hour.into()),
-    ]
+    ]);
+    fields
 }
+
+/// The house's design flow for people.
+pub fn duty_figure(demand: &Demand) -> Figure {
+    let remark = format!("ml/s for the pump set to deliver{}", taps::behind(&demand.taps.house));
+    ("design flow", demand.duty.to_string(), remark)
+}
+
+/// What `one tap` means, for below a table in which some flow has this mark.
+pub fn legend(marked: bool) -> &'static str {
+    if marked { ONE_TAP } else { "" }
+}
+
+const ONE_TAP: &str = "\
+one tap of a kind: one fixture of this kind draws more than the average flow of all kinds served; the flow is what it draws
+";
 
 /// What the house asks for as a whole, for people.
 pub fn house_figures(demand: &Demand) -> Vec<Figure> {
     let flow = &demand.flow;
     vec![
-        ("design flow", demand.duty.to_string(), "ml/s for the pump set to deliver".to_string()),
+        duty_figure(demand),
         ("greatest hour", flow.hour.to_string(), "l/h".to_string()),
         ("greatest day", flow.day.to_string(), "l".to_string()),
         ("mean hour", flow.mean_hour.to_string(), "l/h".to_string()),
@@ -59,9 +94,13 @@ pub fn house_figures(demand: &Demand) -> Vec<Figure> {
 }
 
 fn flow_fields(demand: &Demand) -> Fields {
-    let sections = (1_u8..)
-        .zip(&demand.flow.flows)
-        .map(|(section, flow)| Json::Object(vec![("section", section.into()), ("flow_ml_per_s", (*flow).into())]));
+    let sections = (1_u8..).zip(&demand.flow.flows).zip(&demand.taps.sections).map(|((section, flow), taps)| {
+        Json::Object(vec![
+            ("section", section.into()),
+            ("flow_ml_per_s", (*flow).into()),
+            ("one_tap_kinds", kinds_of(taps)),
+        ])
+    });
     let mut fields = house_fields(demand);
     fields.push(("sections", Json::List(sections.collect())));
     fields
@@ -70,16 +109,30 @@ fn flow_fields(demand: &Demand) -> Fields {
 fn flow_chart(job: &Source, demand: &Demand) -> String {
     let house = figures(&house_figures(demand));
     let record = Record::read(&job.bytes).unwrap_or_default();
-    let columns = [number("section", ""), words("from"), words("kind"), number("fixtures", ""), number("flow", "ml/s")];
+    let columns = [
+        number("section", ""),
+        words("from"),
+        words("kind"),
+        number("fixtures", ""),
+        number("flow", "ml/s"),
+        words(""),
+    ];
+    let flows = demand.flow.flows.iter().zip(&demand.taps.sections);
     let rows: Vec<Vec<String>> = record
         .numbered()
-        .zip(&demand.flow.flows)
-        .map(|((section, own), flow)| {
-            let fixtures = own.fixtures.to_string();
-            vec![section.to_string(), from(own.parent), kinds::name(own.kind), fixtures, flow.to_string()]
+        .zip(flows)
+        .map(|((section, own), (flow, taps))| {
+            vec![
+                section.to_string(),
+                from(own.parent),
+                kinds::name(own.kind),
+                own.fixtures.to_string(),
+                flow.to_string(),
+                taps::words(taps),
+            ]
         })
         .collect();
-    format!("{house}\n{}", chart(&columns, &rows))
+    format!("{house}\n{}{}", chart(&columns, &rows), legend(demand.taps.any()))
 }
 
 /// A parent's name.
@@ -100,10 +153,10 @@ pub fn choose(arguments: &Arguments) -> Result<Outcome, Misuse> {
     rated(arguments, &given, Rated::chosen(&given))
 }
 
-fn rated(arguments: &Arguments, given: &Given, rated: Result<Rated, Refusal>) -> Result<Outcome, Misuse> {
+fn rated(arguments: &Arguments, given: &Given, rated: Result<Rated, Unanswered>) -> Result<Outcome, Misuse> {
     match rated {
         Ok(rated) => report::answer(arguments, given, || rated.fields(), || rated.chart().into_bytes()),
-        Err(why) => Ok(report::refusal(arguments, &why, given)),
+        Err(why) => report::unanswered(arguments, &why, given),
     }
 }
 
@@ -116,23 +169,60 @@ pub fn draw(arguments: &Arguments) -> Result<Outcome, Misuse> {
     let rated = if sizes.is_some() { Rated::with_sizes(&given) } else { Rated::chosen(&given) };
     match rated {
         Ok(rated) => report::answer(arguments, &given, Vec::new, || rated.drawing().into_bytes()),
-        Err(why) if why == Refusal::NoSuitableList => {
-            let drawn = unsuitable(&given).unwrap_or_default();
-            Ok(report::all_the_same(arguments, &given, &why, Vec::new(), drawn.into_bytes()))
-        }
-        Err(why) => Ok(report::refusal(arguments, &why, &given)),
+        Err(Unanswered::Refused(why @ Refusal::NoSuitableList)) => match unsuitable(&given) {
+            Ok(drawn) => Ok(report::all_the_same(arguments, &given, &why, Vec::new(), drawn.into_bytes())),
+            Err(why) => report::unanswered(arguments, &why, &given),
+        },
+        Err(why) => report::unanswered(arguments, &why, &given),
     }
 }
 
 /// The drawing of a house for which no list suits: with the sizes of the least losses, or, where some section has none at
 /// all, without heads.
-fn unsuitable(given: &Given) -> Option<String> {
-    let (job, cat) = (given.job?, given.cat?);
-    let demand = Demand::of(&job.bytes).ok()?;
-    let pipes = sketch(&job.bytes, &cat.bytes, &demand.flow)?;
+fn unsuitable(given: &Given) -> Result<String, Unanswered> {
+    let (job, cat) = (bytes(given.job), bytes(given.cat));
+    let Demand { flow, duty, taps } = Demand::of(job)?;
+    // What the library has searched can be read; were it otherwise there would be no pipes to draw.
+    let pipes = sketch(job, cat, (&flow, &taps)).unwrap_or_default();
     let sizes: Vec<u8> = pipes.iter().map(|pipe| pipe.size).collect();
     match Rated::with_sizes(&Given { sizes: &sizes, ..*given }) {
-        Ok(rated) => Some(rated.drawing()),
-        Err(_) => Some(drawing::sketch(&Record::read(&job.bytes).ok()?, &pipes, demand.duty)),
+        Ok(rated) => Ok(rated.drawing()),
+        Err(Unanswered::Refused(_)) => {
+            Ok(drawing::sketch(&Record::read(job).unwrap_or_default(), &pipes, duty, &taps.house))
+        }
+        Err(differs) => Err(differs),
+    }
+}
+
+#[cfg(test)]
+mod tests {
+    use super::*;
+    use office::house;
+
+    const OWN: &str = "local losses 0.3\nhours 24\nmeter loss 50 cm\nguaranteed head 500 cm\ndelivered head 1200 cm\n\
+        velocity limit 1500 mm/s\nresidents hotel-75 71\n\
+        section 1 from pump length 10 m elevation 600 cm kind hotel-75 fixtures 80 free 200 cm\n";
+
+    /// A flow of the library that the model has otherwise is not shown: there is no answer, and both flows are named.
+    #[test]
+    fn flows_that_differ_are_not_shown() {
+        let job = house::pack(OWN).expect("document 01's own case");
+        // Document 01 has 2,052 ml/s for it.
+        let (flow, duty) = (calls::flow(&job).expect("accepted"), calls::duty(&job).expect("accepted"));
+        assert!(Demand::with(&job, flow.clone(), duty).is_ok_and(|demand| demand.duty == 2_052));
+        let other = Flow { flows: vec![2_053], ..flow.clone() };
+        for (whose, found) in
+            [("section 1", Demand::with(&job, other, duty)), ("the house", Demand::with(&job, flow, 2_053))]
+        {
+            let why = found.err().expect("they differ");
+            let Err(misuse) = report::unanswered(&Arguments::default(), &why, &Given::default()) else {
+                panic!("a difference is no answer");
+            };
+            let said = format!(
+                "office: library and command differ: the design flow of {whose} is 2053 ml/s by the library and 2052 ml/s \
+                 by the command; there is no answer, please report it with the files\n"
+            );
+            assert_eq!(misuse.text(), said);
+        }
     }
 }

@@ -4,8 +4,8 @@ use super::charts::{chart, figures, number, words};
 use super::fields::of_meter;
 use super::input::Meters;
 use super::json::Json;
-use super::network::Demand;
-use super::report::Fields;
+use super::network::{Demand, duty_fields, duty_figure, legend};
+use super::report::{Fields, Unanswered};
 use office::measure::RESISTANCE;
 use office::meter::{self, Fit};
 use office::{Metered, Refusal};
@@ -24,29 +24,25 @@ pub struct Picked {
     pub job: Vec<u8>,
 }
 
-/// Why there is no meter: the library refuses, or its answer is not what the table would show.
-pub enum Unpicked {
-    Refused(Refusal),
-    Differs(String),
-}
-
 impl Picked {
-    /// The library's answer with the figures of the whole list.
-    pub fn of(job: &[u8], list: &Meters, found: Result<Metered, Refusal>) -> Result<Picked, Unpicked> {
+    /// The library's answer with the figures of the whole list, unless the table would show another.
+    pub fn of(job: &[u8], list: &Meters, found: Result<Metered, Refusal>) -> Result<Picked, Unanswered> {
         let demand = match (Demand::of(job), &found) {
             (Ok(demand), _) => demand,
-            (Err(_), Err(why)) => return Err(Unpicked::Refused(*why)),
-            (Err(why), Ok(_)) => {
-                return Err(Unpicked::Differs(format!("a meter is picked for a house with refusal {}", why.number())));
+            (Err(Unanswered::Refused(_)), Err(why)) => return Err(Unanswered::Refused(*why)),
+            (Err(Unanswered::Refused(why)), Ok(_)) => {
+                let why = format!("a meter is picked for a house with refusal {}", why.number());
+                return Err(Unanswered::Differs(why));
             }
+            (Err(differs), _) => return Err(differs),
         };
         let meters = meter::read(&list.source.bytes).unwrap_or_default();
         let fit = |meter| Fit::of(meter, demand.duty, demand.flow.mean_hour);
         let fits: Vec<Fit> = meters.into_iter().map(fit).collect();
         if let Some(why) = meter::difference(job, &fits, &found) {
-            return Err(Unpicked::Differs(why));
+            return Err(Unanswered::Differs(why));
         }
-        let metered = found.map_err(Unpicked::Refused)?;
+        let metered = found?;
         Ok(Picked {
             demand,
             fits,
@@ -65,15 +61,16 @@ impl Picked {
 
     pub fn fields(&self) -> Fields {
         let meters = (1..).zip(&self.fits).map(|(place, fit)| self.of_fit(place, fit));
-        vec![
-            ("duty_ml_per_s", self.demand.duty.into()),
+        let mut fields = duty_fields(&self.demand);
+        fields.extend([
             ("mean_hour_l_per_h", self.demand.flow.mean_hour.into()),
             ("meter", Json::Number(self.place as i64)),
             ("meter_loss_cm", self.loss.into()),
             ("former_meter_loss_cm", self.former.into()),
             ("record", Json::hex(&self.job)),
             ("meters", Json::List(meters.collect())),
-        ]
+        ]);
+        fields
     }
 
     fn of_fit(&self, place: usize, fit: &Fit) -> Json {
@@ -98,13 +95,14 @@ impl Picked {
             None => format!("cm; the house has {} cm", self.former),
         };
         let rows = [
-            ("design flow", self.demand.duty.to_string(), "ml/s for the pump set to deliver".to_string()),
+            duty_figure(&self.demand),
             ("mean hour", self.demand.flow.mean_hour.to_string(), "l/h".to_string()),
             ("meter", self.place.to_string(), self.name(self.place).to_string()),
             ("meter loss", self.loss.to_string(), former),
         ];
         let written = written.map(|file| format!("The house with this meter loss was written to {file}.\n"));
-        format!("{}\n{}{LEGEND}{}", figures(&rows), self.listed(), written.unwrap_or_default())
+        let tap = legend(!self.demand.taps.house.is_empty());
+        format!("{}\n{}{LEGEND}{tap}{}", figures(&rows), self.listed(), written.unwrap_or_default())
     }
 
     /// One line a meter. A star marks the winner.
@@ -172,7 +170,7 @@ mod tests {
         let list = Meters { source, names: Vec::new() };
         let job = house::pack(OWN).expect("document 01's own case");
         let found = calls::meter(&job, &list.source.bytes).expect("one qualifies");
-        let picked = Picked::of(&job, &list, Ok(found.clone())).ok().expect("the two agree");
+        let picked = Picked::of(&job, &list, Ok(found.clone())).expect("the two agree");
         assert_eq!((picked.place, picked.loss, picked.former), (2, 61, 50));
         let mut changed = found.clone();
         changed.job[7] = 23;
@@ -182,12 +180,12 @@ mod tests {
             Ok(changed),
             Err(Refusal::NoMeter),
         ] {
-            assert!(matches!(Picked::of(&job, &list, other), Err(Unpicked::Differs(_))));
+            assert!(matches!(Picked::of(&job, &list, other), Err(Unanswered::Differs(_))));
         }
         // A refusal of the house, and a meter for a house that is refused.
         let short = &job[..49];
         let refused = Picked::of(short, &list, Err(Refusal::JobLength));
-        assert!(matches!(refused, Err(Unpicked::Refused(Refusal::JobLength))));
-        assert!(matches!(Picked::of(short, &list, Ok(found)), Err(Unpicked::Differs(_))));
+        assert!(matches!(refused, Err(Unanswered::Refused(Refusal::JobLength))));
+        assert!(matches!(Picked::of(short, &list, Ok(found)), Err(Unanswered::Differs(_))));
     }
 }

@@ -3,13 +3,14 @@
 use super::charts::{chart, figures, number, words};
 use super::input::Source;
 use super::json::Json;
-use super::network::{Demand, from, house_fields, house_figures};
+use super::network::{Demand, from, house_fields, house_figures, kinds_of, legend};
 use super::refused::Given;
-use super::report::Fields;
+use super::report::{Fields, Unanswered};
 use office::draw::{self, Totals};
 use office::pipes::{Pipe, pipes};
 use office::record::Record;
-use office::{Rating, Refusal, calls, kinds};
+use office::taps;
+use office::{Rating, calls, kinds};
 
 pub struct Rated {
     pub record: Record,
@@ -23,24 +24,24 @@ pub struct Rated {
 
 impl Rated {
     /// The list that was given.
-    pub fn with_sizes(given: &Given) -> Result<Rated, Refusal> {
+    pub fn with_sizes(given: &Given) -> Result<Rated, Unanswered> {
         let (job, cat) = (bytes(given.job), bytes(given.cat));
         let rating = calls::rate(job, cat, given.sizes)?;
         Rated::of(job, cat, given.sizes.to_vec(), None, rating)
     }
 
     /// The cheapest list.
-    pub fn chosen(given: &Given) -> Result<Rated, Refusal> {
+    pub fn chosen(given: &Given) -> Result<Rated, Unanswered> {
         let (job, cat) = (bytes(given.job), bytes(given.cat));
         let choice = calls::choose(job, cat)?;
         let rating = calls::rate(job, cat, &choice.sizes)?;
         Rated::of(job, cat, choice.sizes, Some(choice.cost), rating)
     }
 
-    fn of(job: &[u8], cat: &[u8], sizes: Vec<u8>, cost: Option<u32>, rating: Rating) -> Result<Rated, Refusal> {
+    fn of(job: &[u8], cat: &[u8], sizes: Vec<u8>, cost: Option<u32>, rating: Rating) -> Result<Rated, Unanswered> {
         let demand = Demand::of(job)?;
         // What the library has rated can be read; were it otherwise there would be no pipes to show.
-        let pipes = pipes(job, cat, &sizes, &demand.flow, &rating).unwrap_or_default();
+        let pipes = pipes(job, cat, &sizes, (&demand.flow, &demand.taps), &rating).unwrap_or_default();
         let cost = cost.map_or_else(|| pipes.iter().map(Pipe::cost).sum(), u64::from);
         Ok(Rated { record: Record::read(job).unwrap_or_default(), sizes, cost, rating, demand, pipes })
     }
@@ -51,8 +52,9 @@ impl Rated {
     }
 
     pub fn drawing(&self) -> String {
-        let Demand { flow, duty } = &self.demand;
-        draw::draw(&self.record, &self.pipes, &self.rating, &Totals { duty: *duty, flow, cost: self.cost })
+        let Demand { flow, duty, taps } = &self.demand;
+        let totals = Totals { duty: *duty, taps: &taps.house, flow, cost: self.cost };
+        draw::draw(&self.record, &self.pipes, &self.rating, &totals)
     }
 
     pub fn fields(&self) -> Fields {
@@ -87,11 +89,12 @@ impl Rated {
             ("dictating section", self.rating.dictating.to_string(), String::new()),
         ]);
         let set = format!("pump set: {} ml/s at {} cm", self.demand.duty, self.rating.pump);
-        format!("{set}\n{}sizes  {}\n\n{}", figures(&rows), list.join(","), sections(&self.pipes))
+        let (sections, legend) = (sections(&self.pipes), legend(self.demand.taps.any()));
+        format!("{set}\n{}sizes  {}\n\n{sections}{legend}", figures(&rows), list.join(","))
     }
 }
 
-fn bytes(source: Option<&Source>) -> &[u8] {
+pub fn bytes(source: Option<&Source>) -> &[u8] {
     source.map_or(&[], |source| &source.bytes)
 }
 
@@ -102,6 +105,7 @@ fn of_pipe(pipe: &Pipe) -> Json {
         ("size", pipe.size.into()),
         ("bore_mm", pipe.bore.into()),
         ("flow_ml_per_s", pipe.flow.into()),
+        ("one_tap_kinds", kinds_of(&pipe.taps)),
         ("velocity_mm_per_s", pipe.velocity.into()),
         ("loss_cm", pipe.loss.into()),
         ("head_left_cm", pipe.left.into()),
@@ -109,7 +113,8 @@ fn of_pipe(pipe: &Pipe) -> Json {
     ])
 }
 
-/// One line a section. A star marks the dictating path.
+/// One line a section. A star marks the dictating path; last stands the tap that sets a flow, where the columns of numbers
+/// are not parted by it.
 fn sections(pipes: &[Pipe]) -> String {
     let columns = [
         number("section", ""),
@@ -123,6 +128,7 @@ fn sections(pipes: &[Pipe]) -> String {
         number("loss", "cm"),
         number("left", "cm"),
         number("free", "cm"),
+        words(""),
         words(""),
     ];
     let rows: Vec<Vec<String>> = pipes.iter().map(row).collect();
@@ -146,5 +152,6 @@ fn row(pipe: &Pipe) -> Vec<String> {
         pipe.left.to_string(),
         section.free.to_string(),
         format!("{}{}", if pipe.dictating { "*" } else { "" }, if short { " SHORT" } else { "" }),
+        if pipe.taps.is_empty() { String::new() } else { format!("flow: {}", taps::words(&pipe.taps)) },
     ]
 }

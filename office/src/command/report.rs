@@ -50,6 +50,30 @@ pub fn answer(
     .with(warned))
 }
 
+/// Why the library's answer is not shown.
+#[derive(Debug, PartialEq, Eq)]
+pub enum Unanswered {
+    Refused(Refusal),
+    /// What the command works out beside the answer does not go with it: either of the two is wrong.
+    Differs(String),
+}
+
+impl From<Refusal> for Unanswered {
+    fn from(why: Refusal) -> Unanswered {
+        Unanswered::Refused(why)
+    }
+}
+
+/// What is said in place of an answer.
+pub fn unanswered(arguments: &Arguments, why: &Unanswered, given: &Given) -> Result<Outcome, Misuse> {
+    match why {
+        Unanswered::Refused(why) => Ok(refusal(arguments, why, given)),
+        Unanswered::Differs(why) => Err(Misuse::Words(format!(
+            "library and command differ: {why}; there is no answer, please report it with the files"
+        ))),
+    }
+}
+
 /// A refusal as the answer, in words or as JSON. Behind `-o -` the next program of a pipe would take the words for the answer.
 pub fn refusal(arguments: &Arguments, refusal: &Refusal, given: &Given) -> Outcome {
     let outcome = match arguments.json {
