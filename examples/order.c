@@ -53,7 +53,7 @@ int main(void)
     static const uint8_t wide[1] = {2}, narrow[1] = {1};
     size_t needed = 4u * (1 + 1) * (1200 + 1001);
 
-    is("version", ORDER_VERSION, 1);
+    is("version", ORDER_VERSION, 2);
 
     is("flow", order_flow(job, sizeof job, out, ORDER_FLOW_BYTES), 0);
     is("hour", number_at(out), 4542);

@@ -51,9 +51,9 @@
 extern "C" {
 #endif
 
-/* Rises when a call that is here changes or goes; a call or a refusal that is added leaves it as it is. A number that a
- * program does not know is a refusal of a newer library. */
-#define ORDER_VERSION 1
+/* Rises when a call that is here takes or gives something else, or goes; a call or a refusal that is added leaves it as it is.
+ * A number that a program does not know is a refusal of a newer library. 2: design flows are never less than one tap. */
+#define ORDER_VERSION 2
 
 /* The greatest sizes that any accepted job needs (S = 63, H = 6,000). */
 #define ORDER_FLOW_BYTES 264u      /* 12 + 4 * 63 */

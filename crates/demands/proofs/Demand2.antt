@@ -10,7 +10,7 @@ use Rattle.basis.proofs.Stored.{stored-front}
 use Rattle.job.proofs.RoundTrip.{written-read-same, same-bytes, copied as copied-number, not-refused}
 use Rattle.acceptance.proofs.Accepting.{input-cat}
 use Rattle.flow.proofs.Ordering.{flow-done, duty-done}
-use Rattle.rating.proofs.Ordering.{rate-done}
+use Rattle.rating.proofs.Ordering.{rate-over, rate-done}
 use Rattle.order.specs.Promises.{Copied}
 use Rattle.demands.specs.Demand2.{Demand2}
 use Rattle.demands.proofs.Flows.{flow-figures, duty-figure}
@@ -25,6 +25,7 @@ demand-2 =
       flow-given = λ b room e h. flow-done b room e h;
       duty-given = λ b room e h. duty-done b room e h;
       rate-given = λ b cat sizes room e f named none h. rate-done b cat sizes room (input-cat b cat e .0 ∙ f) named h none;
+      rate-over = λ b cat sizes room e f named over h. rate-over b cat sizes room (input-cat b cat e .0 ∙ f) named h over;
       flow = λ job out₀ out bytes g. flow-figures job out₀ out g bytes;
       duty = duty-figure;
       rate = λ job cat sizes out₀ out bytes g. rate-figures job cat sizes out₀ out bytes g;

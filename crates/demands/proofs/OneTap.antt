@@ -12,11 +12,9 @@ use Rattle.tree.specs.Tree.{servedOf, houseOf}
 use Rattle.demand.specs.Demand.{averageFlowOf, oneTapOf, flowOf, sectionFlow}
 use Rattle.demand.proofs.Equations.{flow-is}
 use Rattle.demand.proofs.Taps.{Largest, one-tap-bound, one-tap-reached}
-use Rattle.catalogue.specs.Layout.{rowsOf, partOf}
-use Rattle.catalogue.specs.Reading.{readRows}
-use Rattle.sizing.specs.Losses.{readingOf}
+use Rattle.sizing.specs.Losses.{readingOf, overAt, lossAt}
 use Rattle.meters.specs.Meters.{meterAt, meterLoss}
-use Rattle.demands.specs.OneTap.{OfOneTap, Larger, OneTap}
+use Rattle.demands.specs.OneTap.{OfOneTap, Larger, flowIn, Judged, OneTap}
 use Rattle.demands.proofs.Demand2.{demand-2}
 
 module _ (job : Job) (n : ℕ → ℕ) where
@@ -46,15 +44,15 @@ module _ (job : Job) (n : ℕ → ℕ) where
             (lt-or-ge (averageFlowOf job n) (oneTapOf job n));
       }
 
-reading : (job : Job) (cat : List ℕ) (s i : ℕ) → readingOf job cat s i ≡ readRows (partOf cat s) (rowsOf cat) (sectionFlow job i)
-unfolding readingOf
-reading job cat s i = refl
+judged : (job : Job) (out cat : List ℕ) (s i : ℕ) → flowIn out i ≡ sectionFlow job i → Judged job out cat s i
+unfolding readingOf overAt lossAt
+judged job out cat s i e = record { velocity = rw e; over = rw e; loss = rw e }
 
 pub one-tap : OneTap
 one-tap =
     record {
       section = λ job out₀ out bytes g i h k. rw (demand-2 .flow job out₀ out bytes g .flow i h k) (larger (decode job) (servedOf (decode job) i));
       house = λ job out₀ out g. rw (demand-2 .duty job out₀ out g) (larger (decode job) (houseOf (decode job)));
-      reading = λ job out₀ out bytes g cat s i h k. rw (demand-2 .flow job out₀ out bytes g .flow i h k) (reading (decode job) cat s i);
+      judged = λ job out₀ out bytes g cat s i h k. judged (decode job) out cat s i (demand-2 .flow job out₀ out bytes g .flow i h k);
       meter = λ job out₀ out g meters t. ap (meterLoss (meterAt meters t)) (sym (demand-2 .duty job out₀ out g));
     }

@@ -51,6 +51,9 @@ pub record Demand2 : Type 0 where
   -- and an accepted catalogue with a list that names its sizes, with no section over, a rating
   pub rate-given : (b cat sizes : List ℕ) (room : ℕ) → jobNo b ≡ 0 → catNo cat ≡ 0 → listOk (decode b) cat sizes ≡ true →
       overAny (decode b) cat sizes ≡ false → rateLength (countOf (decode b)) ≤ room → rateNo b cat sizes room ≡ 0
+  -- with a section over its last row or the limit the number is 13
+  pub rate-over : (b cat sizes : List ℕ) (room : ℕ) → jobNo b ≡ 0 → catNo cat ≡ 0 → listOk (decode b) cat sizes ≡ true →
+      overAny (decode b) cat sizes ≡ true → rateLength (countOf (decode b)) ≤ room → rateNo b cat sizes room ≡ 13
   -- then the figures are these: of the flow call
   pub flow : (job out₀ out : List ℕ) → Bytes job → FlowGiven job out₀ out 0 → FlowFigures (decode job) out
   -- of the duty call, the house's design flow in ml/s

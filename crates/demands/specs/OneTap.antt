@@ -8,13 +8,14 @@ use mathlib.Core.List.{List}
 use Prim.Native.Nat.{ℕ, _+_, _-_, _*_, _≤_, _<_}
 use Rattle.wire.specs.Wire.{beAt}
 use Rattle.fields.specs.declared.Job.{Job}
-use Rattle.fields.specs.Fields.{countOf}
+use Rattle.fields.specs.Fields.{countOf, sectionOf}
 use Rattle.record.specs.Record.{decode}
 use Rattle.tree.specs.Tree.{servedOf, houseOf}
 use Rattle.demand.specs.Demand.{normAt, averageFlowOf}
+use Rattle.catalogue.specs.declared.reading.SizeAtFlow.{SizeAtFlow}
 use Rattle.catalogue.specs.Layout.{rowsOf, partOf}
 use Rattle.catalogue.specs.Reading.{readRows}
-use Rattle.sizing.specs.Losses.{readingOf}
+use Rattle.sizing.specs.Losses.{readingOf, overBy, overAt, lossOf, lossAt}
 use Rattle.meters.specs.Meters.{meterAt, meterLoss}
 use Rattle.order.specs.Promises.{FlowGiven, DutyGiven}
 use Rattle.demands.specs.Demand2.{Bytes}
@@ -55,6 +56,16 @@ flowIn out i = beAt 4 out (12 + 4 * (i - 1))
 abbrev pub dutyIn : List ℕ → ℕ
 dutyIn out = beAt 4 out 0
 
+-- size s read at that flow
+abbrev pub readIn : List ℕ → List ℕ → ℕ → ℕ → SizeAtFlow
+readIn out cat s i = readRows (partOf cat s) (rowsOf cat) (flowIn out i)
+
+-- section i with size s is judged by it: its velocity, whether it is over the last row or the limit, and its loss
+pub record Judged (job : Job) (out cat : List ℕ) (s i : ℕ) : Type 0 where
+  pub velocity : readingOf job cat s i .velocity ≡ readIn out cat s i .velocity
+  pub over : overAt job cat s i ≡ overBy (job .header .limit) (readIn out cat s i)
+  pub loss : lossAt job cat s i ≡ lossOf (readIn out cat s i .slope) (sectionOf job i .decimetres) (job .header .tenths)
+
 -- the flows that these calls give, and what is judged by them
 pub record OneTap : Type 0 where
   -- of each section, with the fixtures at or below its end
@@ -62,9 +73,9 @@ pub record OneTap : Type 0 where
       Larger (decode job) (servedOf (decode job) i) (flowIn out i)
   -- of the house, with all its fixtures
   pub house : (job out₀ out : List ℕ) → DutyGiven job out₀ out 0 → Larger (decode job) (houseOf (decode job)) (dutyIn out)
-  -- a section's velocity and slope are those of its size at that flow: by them go its loss, 13, and whether a list suits
-  pub reading : (job out₀ out : List ℕ) → Bytes job → FlowGiven job out₀ out 0 → (cat : List ℕ) (s i : ℕ) → 0 < i → i ≤ countOf (decode job) →
-      readingOf (decode job) cat s i ≡ readRows (partOf cat s) (rowsOf cat) (flowIn out i)
-  -- and a meter's loss is that of the house's
+  -- a section with a size, in a rating and in a list that suits, is judged by the first
+  pub judged : (job out₀ out : List ℕ) → Bytes job → FlowGiven job out₀ out 0 → (cat : List ℕ) (s i : ℕ) → 0 < i → i ≤ countOf (decode job) →
+      Judged (decode job) out cat s i
+  -- and a meter by the second
   pub meter : (job out₀ out : List ℕ) → DutyGiven job out₀ out 0 → (meters : List ℕ) (t : ℕ) →
       meterLossAt (decode job) meters t ≡ meterLoss (meterAt meters t) (dutyIn out)
