@@ -52,10 +52,6 @@ pub record Larger (job : Job) (n : ℕ → ℕ) (q : ℕ) : Type 0 where
 abbrev pub flowIn : List ℕ → ℕ → ℕ
 flowIn out i = beAt 4 out (12 + 4 * (i - 1))
 
--- the flow of the house in a result of the duty call
-abbrev pub dutyIn : List ℕ → ℕ
-dutyIn out = beAt 4 out 0
-
 -- size s read at that flow
 abbrev pub readIn : List ℕ → List ℕ → ℕ → ℕ → SizeAtFlow
 readIn out cat s i = readRows (partOf cat s) (rowsOf cat) (flowIn out i)
@@ -66,6 +62,10 @@ pub record Judged (job : Job) (out cat : List ℕ) (s i : ℕ) : Type 0 where
   pub over : overAt job cat s i ≡ overBy (job .header .limit) (readIn out cat s i)
   pub loss : lossAt job cat s i ≡ lossOf (readIn out cat s i .slope) (sectionOf job i .decimetres) (job .header .tenths)
 
+-- the flow of the house in a result of the duty call
+abbrev pub dutyIn : List ℕ → ℕ
+dutyIn out = beAt 4 out 0
+
 -- the flows that these calls give, and what is judged by them
 pub record OneTap : Type 0 where
   -- of each section, with the fixtures at or below its end
@@ -73,7 +73,7 @@ pub record OneTap : Type 0 where
       Larger (decode job) (servedOf (decode job) i) (flowIn out i)
   -- of the house, with all its fixtures
   pub house : (job out₀ out : List ℕ) → DutyGiven job out₀ out 0 → Larger (decode job) (houseOf (decode job)) (dutyIn out)
-  -- a section with a size, in a rating and in a list that suits, is judged by the first
+  -- a section with a size, in a rating or in a list that may suit, is judged by the first
   pub judged : (job out₀ out : List ℕ) → Bytes job → FlowGiven job out₀ out 0 → (cat : List ℕ) (s i : ℕ) → 0 < i → i ≤ countOf (decode job) →
       Judged (decode job) out cat s i
   -- and a meter by the second
