@@ -36,7 +36,7 @@ mod tests {
     use super::*;
     use crate::house;
 
-    /// A bath and basins beside each other at the end of section 1, whose flow one tap of the bath sets.
+    /// Section 1 has basins at its end and leads to a bath, whose tap sets its flow.
     const MIXED: &str = "local losses 0.3\nhours 24\nmeter loss 50 cm\nguaranteed head 500 cm\ndelivered head 1200 cm\n\
         velocity limit 1500 mm/s\nresidents hotel-100 1\nresidents offices 1\n\
         section 1 from pump length 5 m elevation 300 cm kind offices fixtures 40 free 200 cm\n\
