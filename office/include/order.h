@@ -66,15 +66,15 @@ extern "C" {
 
 /* Design flows of a job.
  * job: a job record. out: at least 12 + 4 * S bytes.
- * Result: hour in l/h (4 bytes), day in litres (4), mean hour in l/h (4), then each section's flow in ml/s (4 each): the
- * average flow of document 01, or 10 * the largest Z of the kinds with fixtures at or below its end if that is more.
+ * Result: hour in l/h (4 bytes), day in litres (4), mean hour in l/h (4), then each section's flow in ml/s (4 each): what
+ * document 01's formula gives for all fixtures at or below its end, or 10 * the largest Z of their kinds if that is more.
  * Refusals: 1 to 9, 14. */
 uint32_t order_flow(const uint8_t *job, size_t job_length, uint8_t *out, size_t out_length);
 
 /* The design flow of the whole house, which its pump set has to deliver.
  * job: a job record. out: at least 4 bytes.
- * Result: the house's design flow in ml/s (4 bytes): that of the house's m, or 10 * the largest Z of its kinds if that is
- * more. It need not be any section's where several hang on the pump.
+ * Result: the house's design flow in ml/s (4 bytes): what the formula gives for all its fixtures, by the house's m, or 10 *
+ * the largest Z of their kinds if that is more. It need not be any section's where several hang on the pump.
  * Refusals: 1 to 9, 14. */
 uint32_t order_duty(const uint8_t *job, size_t job_length, uint8_t *out, size_t out_length);
 

@@ -12,6 +12,7 @@ use crate::pipes::Pipe;
 use crate::record::Record;
 use crate::taps;
 use layout::{COLUMN, LEFT, LINE, Place, TOP};
+use std::collections::BTreeSet;
 use svg::Svg;
 
 /// Half of the turn that a pipe takes below its parent's end, so that text beside the end has room.
@@ -39,7 +40,7 @@ pub fn draw(record: &Record, pipes: &[Pipe], rating: &Rating, totals: &Totals) -
     let warning = if missing(record, rating) > 0 { ": TOO LITTLE HEAD" } else { "" };
     let texts: Vec<Texts> = pipes.iter().map(|pipe| Texts::of(pipe, Some(rating))).collect();
     let (mut svg, places) = sheet(pipes, &texts, totals.taps, warning);
-    heading(&mut svg, record, rating, totals, legend(pipes, totals.taps));
+    heading(&mut svg, record, rating, totals);
     pump(&mut svg, record, &format!("head {} cm", rating.pump));
     network(&mut svg, pipes, &places, &texts);
     svg.finish()
@@ -55,12 +56,9 @@ pub fn sketch(record: &Record, pipes: &[Pipe], duty: u32, taps: &[u8]) -> String
     let more = if unserved.len() > NAMED { format!(" and {} more", unserved.len() - NAMED) } else { String::new() };
     let named = unserved[..unserved.len().min(NAMED)].join(", ");
     svg.text(20, 28, 15, SHORT, "bold", &format!("NO SIZE SERVES section {named}{more}"));
-    let legend = legend(pipes, taps);
-    let limit =
-        format!("velocity limit {} mm/s; the other pipes have the size of their least loss{legend}", record.limit);
+    let limit = format!("velocity limit {} mm/s; the other pipes have the size of their least loss", record.limit);
     svg.text(20, 48, 12, FAINT, "normal", &limit);
-    let tap = mark(taps).map_or(String::new(), |tap| format!(", {tap}"));
-    let set = format!("pump set: {duty} ml/s{tap}; without a size for each section there are no heads");
+    let set = format!("pump set: {}; without a size for each section there are no heads", of_house(duty, taps));
     svg.text(20, 65, 12, FAINT, "normal", &set);
     pump(&mut svg, record, "head unknown");
     network(&mut svg, pipes, &places, &texts);
@@ -70,35 +68,58 @@ pub fn sketch(record: &Record, pipes: &[Pipe], duty: u32, taps: &[u8]) -> String
 /// So many sections are named above a drawing.
 const NAMED: usize = 9;
 
-/// An empty sheet with room for the pipes and their texts, and the pipes' places on it.
+/// A sheet with room for the pipes and their texts, and the pipes' places on it; what the marks mean stands at its foot.
 fn sheet(pipes: &[Pipe], texts: &[Texts], taps: &[u8], warning: &str) -> (Svg, Vec<Place>) {
     let row = layout::row(1 + texts.iter().map(|own| own.notes.len()).max().unwrap_or(0));
     let places = layout::places(pipes, row);
     let (right, height) = layout::extent(&places, row);
-    // Room for the heading over a small house.
-    let heading = if legend(pipes, taps).is_empty() { 720 } else { 1_020 };
+    let legend = legend(pipes, taps);
+    // Room for the heading over a small house, and for the legend below it.
+    let least = if legend.is_empty() { 720 } else { 1_020 };
     let house = if taps.is_empty() { String::new() } else { format!("; design flow: {}", taps::words(taps)) };
     let title = format!("House network of {} sections{warning}{house}", pipes.len());
-    (Svg::new((right + 40).max(heading), height, &title), places)
-}
-
-/// What a mark means, behind another line above the drawing; nothing where there is no mark.
-fn legend(pipes: &[Pipe], taps: &[u8]) -> &'static str {
-    let marked = !taps.is_empty() || pipes.iter().any(|pipe| !pipe.taps.is_empty());
-    if marked { "; one tap: it draws more than the average, and is the flow" } else { "" }
-}
-
-/// So many letters fit between the ends of a pipe.
-const FITTING: usize = 32;
-
-/// The kinds of which one tap sets a flow, in a column's width: where they do not fit, how many they are.
-fn mark(taps: &[u8]) -> Option<String> {
-    let words = taps::words(taps);
-    match words.chars().count() {
-        0 => None,
-        1..=FITTING => Some(words),
-        _ => Some(format!("one tap ({} kinds)", taps.len())),
+    let mut svg = Svg::new((right + 40).max(least), height + FOOT * legend.len() as i64, &title);
+    for (line, words) in (1..).zip(&legend) {
+        svg.text(20, height + FOOT * line - 8, 12, FAINT, "normal", words);
     }
+    (svg, places)
+}
+
+/// The height of a line at the foot of the sheet.
+const FOOT: i64 = 18;
+
+/// What the marks mean, and the kinds that they have by number; nothing where there is no mark.
+fn legend(pipes: &[Pipe], taps: &[u8]) -> Vec<String> {
+    let marks: Vec<&[u8]> = pipes.iter().map(|pipe| pipe.taps.as_slice()).chain([taps]).collect();
+    let marked = marks.iter().any(|kinds| !kinds.is_empty());
+    let numbered: BTreeSet<u8> = marks.into_iter().filter(|kinds| !fit(kinds)).flatten().copied().collect();
+    let named: Vec<String> = numbered.into_iter().map(|kind| format!("{kind} {}", kinds::name(kind))).collect();
+    let mut lines = Vec::new();
+    lines.extend(marked.then(|| taps::LEGEND.to_string()));
+    lines.extend((!named.is_empty()).then(|| format!("kinds by number: {}", named.join(", "))));
+    lines
+}
+
+/// So many letters fit between the ends of a pipe, at 0.55 of their size each.
+const FITTING: usize = 37;
+
+/// Whether the names of a tap's kinds fit into a column.
+fn fit(taps: &[u8]) -> bool {
+    taps::words(taps).chars().count() <= FITTING
+}
+
+/// The kinds of which one tap sets a flow, in a column's width: where their names do not fit, their numbers.
+fn mark(taps: &[u8]) -> Option<String> {
+    match taps {
+        [] => None,
+        kinds if fit(kinds) => Some(taps::words(kinds)),
+        kinds => Some(taps::numbers(kinds)),
+    }
+}
+
+/// The house's design flow, with its mark.
+fn of_house(duty: u32, taps: &[u8]) -> String {
+    mark(taps).map_or(format!("{duty} ml/s"), |tap| format!("{duty} ml/s ({tap})"))
 }
 
 /// How many cm the delivered head lacks of the required one; none, or fewer than none, where it is enough.
@@ -108,10 +129,10 @@ fn missing(record: &Record, rating: &Rating) -> i64 {
 
 /// Four lines above the drawing, first what the pump set has to deliver, and a fifth where the head is too little: an end
 /// marked SHORT may lie far from here.
-fn heading(svg: &mut Svg, record: &Record, rating: &Rating, totals: &Totals, legend: &str) {
+fn heading(svg: &mut Svg, record: &Record, rating: &Rating, totals: &Totals) {
     let (required, pump, guaranteed) = (rating.required, rating.pump, record.guaranteed);
-    let tap = mark(totals.taps).map_or(String::new(), |tap| format!(", {tap},"));
-    let set = format!("pump set: {} ml/s{tap} at {pump} cm over the guaranteed {guaranteed} cm", totals.duty);
+    let duty = of_house(totals.duty, totals.taps);
+    let set = format!("pump set: {duty} at {pump} cm over the guaranteed {guaranteed} cm");
     svg.text(20, 22, 15, INK, "bold", &set);
     let Flow { hour, day, .. } = totals.flow;
     let house = format!("greatest hour {hour} l, greatest day {day} l; required head {required} cm");
@@ -120,7 +141,7 @@ fn heading(svg: &mut Svg, record: &Record, rating: &Rating, totals: &Totals, leg
     let path = format!("dictating path, red and wide: pump to section {}; {bought}", rating.dictating);
     svg.text(20, 55, 12, FAINT, "normal", &path);
     let delivered = record.delivered;
-    let left = format!("left: head left at an end when {delivered} cm are delivered; needs: its free head{legend}");
+    let left = format!("left: head left at an end when {delivered} cm are delivered; needs: its free head");
     svg.text(20, 70, 12, FAINT, "normal", &left);
     let missing = missing(record, rating);
     if missing > 0 {
@@ -248,9 +269,9 @@ fn title(pipe: &Pipe, rated: bool) -> String {
         kind => format!("{} fixtures of kind {}, free head {} cm", section.fixtures, kinds::name(kind), section.free),
     };
     let left = if rated { format!(", head left {} cm", pipe.left) } else { String::new() };
-    let flow = match pipe.taps.as_slice() {
-        [] => String::new(),
-        kinds => format!(", flow that of {}, which draws more than the average", taps::words(kinds)),
+    let flow = match taps::words(&pipe.taps).as_str() {
+        "" => String::new(),
+        tap => format!(", flow that of {tap}, which draws more than the formula gives for all that is served"),
     };
     format!("Section {} from {from}: {ends}, elevation {} cm{left}{flow}", pipe.number, section.elevation)
 }

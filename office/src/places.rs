@@ -5,6 +5,7 @@
 
 mod choice;
 mod demand;
+mod flows;
 mod list;
 mod meters;
 mod pipe;

@@ -57,18 +57,31 @@ fn difference(demand: &Demand, flow: &Flow, duty: u32) -> Option<String> {
 
 /// What sets a flow, in words: `one tap of hotel-75 or hotel-100`; nothing where the average flow stands.
 pub fn words(kinds: &[u8]) -> String {
-    let names: Vec<String> = kinds.iter().map(|kind| kinds::name(*kind)).collect();
-    match names.split_last() {
-        None => String::new(),
-        Some((only, [])) => format!("one tap of {only}"),
-        Some((last, others)) => format!("one tap of {} or {last}", others.join(", ")),
+    if kinds.is_empty() { String::new() } else { format!("one tap of {}", any_of(kinds, kinds::name)) }
+}
+
+/// The same of several kinds by their numbers, which take less room: `one tap of kinds 7 or 8`.
+pub fn numbers(kinds: &[u8]) -> String {
+    format!("one tap of kinds {}", any_of(kinds, |kind| kind.to_string()))
+}
+
+/// The kinds as `show` has each of them.
+fn any_of(kinds: &[u8], show: impl Fn(u8) -> String) -> String {
+    let all: Vec<String> = kinds.iter().map(|kind| show(*kind)).collect();
+    match all.split_last() {
+        Some((last, others)) if !others.is_empty() => format!("{} or {last}", others.join(", ")),
+        _ => all.concat(),
     }
 }
 
-/// The same behind a flow, parted from it.
+/// The same right behind the unit of a flow, so that what follows is said of the flow and not of the tap.
 pub fn behind(kinds: &[u8]) -> String {
-    if kinds.is_empty() { String::new() } else { format!(", {}", words(kinds)) }
+    if kinds.is_empty() { String::new() } else { format!(" ({})", words(kinds)) }
 }
+
+/// What the words mean, for below a table or a drawing in which they stand.
+pub const LEGEND: &str = "one tap of a kind: one fixture of this kind draws more than the formula gives for all that is served; the \
+    flow is what it draws";
 
 #[cfg(test)]
 mod tests {
@@ -85,7 +98,9 @@ mod tests {
         ] {
             assert_eq!(words(kinds), said);
         }
-        assert_eq!((behind(&[]), behind(&[8])), (String::new(), ", one tap of hotel-100".to_string()));
+        assert_eq!(numbers(&[7, 8]), "one tap of kinds 7 or 8");
+        assert_eq!(numbers(&[1, 4, 6, 7, 8]), "one tap of kinds 1, 4, 6, 7 or 8");
+        assert_eq!((behind(&[]), behind(&[8])), (String::new(), " (one tap of hotel-100)".to_string()));
     }
 
     /// A house of two sections of one kind each, in which the average flow stands whatever sets a flow.

@@ -110,7 +110,7 @@ fn packed(text: &str) -> Vec<u8> {
 fn marked() -> Vec<Vec<u8>> {
     let kinds: [&[&str]; 6] = [
         &["hotel-100"],
-        &["hotel-75", "hotel-100"],
+        &["hostel-showers", "hospital"],
         &["hostel-kitchens"],
         &["hotel-shared", "hotel-100"],
         &THIRTY,
@@ -172,11 +172,34 @@ fn well_formed_and_every_section_is_named() {
     }
 }
 
-/// The box around a text. Letters of the usual sans serif fonts are at most 0.62 of their size wide on average.
+/// How wide a letter of DejaVu Sans is, which a drawing names first and which is wider than Arial, in twentieths of its size,
+/// rounded up.
+fn twentieths(letter: char) -> i64 {
+    let widths = [
+        (6, "Iijl"),
+        (7, " ,./:;"),
+        (8, "()-ft"),
+        (9, "r"),
+        (11, "csz"),
+        (12, "FLkvxy"),
+        (13, "0123456789EPSTYabdeghnopqu"),
+        (14, "ABCKRVXZ"),
+        (15, "NU"),
+        (16, "DGHOQ"),
+        (17, "w"),
+    ];
+    widths.iter().find(|(_, letters)| letters.contains(letter)).map_or(20, |(width, _)| *width)
+}
+
+/// The width of a text. A bold letter is at most a tenth of its size wider.
+fn width(text: &Element) -> i64 {
+    let bold = if text.attributes["font-weight"] == "bold" { 2 } else { 0 };
+    text.text.chars().map(|letter| twentieths(letter) + bold).sum::<i64>() * text.number("font-size") / 20
+}
+
+/// The box around a text.
 fn around(text: &Element) -> (i64, i64, i64, i64) {
-    let size = text.number("font-size");
-    let weight = if text.attributes["font-weight"] == "bold" { 68 } else { 62 };
-    let width = text.text.chars().count() as i64 * size * weight / 100;
+    let (size, width) = (text.number("font-size"), width(text));
     let (x, y) = (text.number("x"), text.number("y"));
     let left = if text.attributes["text-anchor"] == "middle" { x - width / 2 } else { x };
     (left, y - size, left + width, y + size / 4)
@@ -190,8 +213,8 @@ fn meet(a: (i64, i64, i64, i64), b: (i64, i64, i64, i64)) -> bool {
 fn no_text_meets_another_or_a_pipe() {
     let jobs = houses();
     let sketched = jobs.iter().flat_map(|job| [NARROW, NONE].map(|cat| sketch_of(job, cat)));
-    // The kinds of a house's tap, the longest that are written out and the most.
-    let named = [&[7, 8][..], &[1, 4, 6, 7, 8]].map(|taps| drawn_with(&short(&packed(&flat())), taps).0);
+    // The kinds of a house's tap, the longest names that are written out and the most numbers.
+    let named = [&[2, 9][..], &[2, 3, 5, 9, 10]].map(|taps| drawn_with(&short(&packed(&flat())), taps).0);
     for svg in jobs.iter().map(|job| drawn(job).0).chain(sketched).chain(named) {
         let all = elements(&svg);
         let texts: Vec<&Element> = all.iter().filter(|element| element.name == "text").collect();
@@ -225,36 +248,76 @@ fn texts_of(svg: &str, section: usize) -> (Vec<String>, String) {
     (texts, all.into_iter().find(|element| element.name == "title").expect("a title").text)
 }
 
-/// The mark stands below the flow and the velocity, and where its kinds are too long for a column they are counted; the
-/// pointer shows them all. One tap draws 10 × Z: 300 or 200 ml/s.
+const LEGEND: &str = ">one tap of a kind: one fixture of this kind draws more than the formula gives for all that is served; \
+    the flow is what it draws<";
+
+/// The mark stands below the flow and the velocity. Names of up to 37 letters stand in it, else the kinds' numbers, and below
+/// the drawing what these are; the pointer shows the names. One tap draws 10 × Z: 300 or 200 ml/s.
 #[test]
 fn a_flow_that_one_tap_sets_is_marked() {
-    let long = "one tap of dwelling, hotel-shared, hotel-25, hotel-75 or hotel-100";
-    let cases: [(&[&str], u32, &str, &str); 4] = [
-        (&["hotel-100"], 300, "one tap of hotel-100", "one tap of hotel-100"),
-        (&["hotel-75", "hotel-100"], 300, "one tap of hotel-75 or hotel-100", "one tap of hotel-75 or hotel-100"),
+    let cases: [(&[&str], u32, &str, &str, &str); 5] = [
+        (&["hotel-100"], 300, "one tap of hotel-100", "one tap of hotel-100", ""),
+        (&["hotel-75", "hotel-100"], 300, "one tap of hotel-75 or hotel-100", "one tap of hotel-75 or hotel-100", ""),
+        // 37 letters, and 38.
         (
-            &["hotel-showers", "hostel-kitchens"],
+            &["hostel-showers", "hospital"],
             200,
-            "one tap (2 kinds)",
-            "one tap of hostel-kitchens or hotel-showers",
+            "one tap of hostel-showers or hospital",
+            "one tap of hostel-showers or hospital",
+            "",
         ),
-        (&THIRTY, 300, "one tap (5 kinds)", long),
+        (
+            &["hospital", "hostel-kitchens"],
+            200,
+            "one tap of kinds 3 or 9",
+            "one tap of hostel-kitchens or hospital",
+            "3 hostel-kitchens, 9 hospital",
+        ),
+        (
+            &THIRTY,
+            300,
+            "one tap of kinds 1, 4, 6, 7 or 8",
+            "one tap of dwelling, hotel-shared, hotel-25, hotel-75 or hotel-100",
+            "1 dwelling, 4 hotel-shared, 6 hotel-25, 7 hotel-75, 8 hotel-100",
+        ),
     ];
-    for (kinds, flow, mark, whole) in cases {
+    for (kinds, flow, mark, whole, numbered) in cases {
         let job = packed(&branch(kinds));
         let (svg, sections) = drawn(&job);
         let (texts, title) = texts_of(&svg, 1);
         assert!(texts[2].starts_with(&format!("{flow} ml/s  ")) && texts[3] == mark, "{texts:?}");
-        assert!(title.ends_with(&format!(", flow that of {whole}, which draws more than the average")), "{title}");
+        let why = "which draws more than the formula gives for all that is served";
+        assert!(title.ends_with(&format!(", flow that of {whole}, {why}")), "{title}");
         assert!((2..=sections).all(|section| {
             let (texts, title) = texts_of(&svg, section);
             texts.iter().chain([&title]).all(|text| !text.contains("tap"))
         }));
-        assert!(svg.contains("; one tap: it draws more than the average, and is the flow<"), "{svg}");
-        let (texts, title) = texts_of(&sketch_of(&job, NONE), 1);
+        let sketched = sketch_of(&job, NONE);
+        for svg in [&svg, &sketched] {
+            assert_eq!(svg.matches(LEGEND).count(), 1, "{svg}");
+            assert_eq!(svg.contains("kinds by number"), !numbered.is_empty(), "{svg}");
+            assert!(numbered.is_empty() || svg.contains(&format!(">kinds by number: {numbered}<")), "{svg}");
+        }
+        let (texts, title) = texts_of(&sketched, 1);
         assert_eq!(texts[2..], [format!("{flow} ml/s"), mark.to_string()]);
         assert!(title.contains(whole) && !title.contains("head left"), "{title}");
+    }
+}
+
+/// Of every choice of kinds of one Z the mark ends before the end of its pipe, 240 from where it begins and 14 before the text.
+#[test]
+fn every_mark_fits_into_its_column() {
+    for (kinds, chosen) in [THIRTY, TWENTY].iter().flat_map(|kinds| (1..32_u8).map(move |chosen| (kinds, chosen))) {
+        let own = (0..5).filter(|place| chosen & (1 << place) != 0).map(|place| kinds[place]);
+        let own: Vec<&str> = own.collect();
+        let all = elements(&drawn(&packed(&branch(&own))).0);
+        let marks: Vec<&Element> = all
+            .iter()
+            .filter(|element| element.name == "text" && element.number("font-size") == 11)
+            .filter(|text| text.text.starts_with("one tap of "))
+            .collect();
+        assert_eq!(marks.len(), 1, "{own:?}");
+        assert!(width(marks[0]) <= 240 - 14, "{:?}", marks[0]);
     }
 }
 
@@ -263,14 +326,15 @@ fn a_tap_that_sets_the_flow_of_the_house_stands_above_the_drawing() {
     let job = packed(&flat());
     let (svg, _) = drawn(&job);
     assert!(svg.contains("<title>House network of 2 sections; design flow: one tap of dwelling</title>"), "{svg}");
-    assert!(svg.contains(">pump set: 300 ml/s, one tap of dwelling, at "), "{svg}");
-    assert!(svg.contains("; one tap: it draws more than the average, and is the flow<"), "{svg}");
+    assert!(svg.contains(">pump set: 300 ml/s (one tap of dwelling) at "), "{svg}");
+    assert!(svg.contains(LEGEND), "{svg}");
     assert!([1, 2].iter().all(|section| !texts_of(&svg, *section).1.contains("tap")));
-    assert!(sketch_of(&job, NONE).contains(">pump set: 300 ml/s, one tap of dwelling; without a size"));
-    let (counted, _) = drawn_with(&job, &[1, 4, 6, 7, 8]);
-    assert!(counted.contains(">pump set: 300 ml/s, one tap (5 kinds), at "), "{counted}");
+    assert!(sketch_of(&job, NONE).contains(">pump set: 300 ml/s (one tap of dwelling); without a size"));
+    let (numbered, _) = drawn_with(&job, &[1, 4, 6, 7, 8]);
+    assert!(numbered.contains(">pump set: 300 ml/s (one tap of kinds 1, 4, 6, 7 or 8) at "), "{numbered}");
+    assert!(numbered.contains(">kinds by number: 1 dwelling, 4 hotel-shared, 6 hotel-25, "), "{numbered}");
     assert!(
-        counted.contains("design flow: one tap of dwelling, hotel-shared, hotel-25, hotel-75 or hotel-100</title>")
+        numbered.contains("design flow: one tap of dwelling, hotel-shared, hotel-25, hotel-75 or hotel-100</title>")
     );
     let plain = drawn(&houses()[0]).0 + &sketch_of(&houses()[0], NARROW);
     assert!(!plain.contains("tap"), "{plain}");
@@ -284,9 +348,9 @@ fn a_marked_end_that_dictates_has_its_line() {
     assert_eq!(texts.len(), 7);
     assert_eq!((texts[3].as_str(), texts[6].as_str()), ("one tap of hotel-100", "dictating end"));
     let height = |svg: &str| elements(svg)[0].number("height");
-    // Two ends in rows of their own below the heading's 130.
-    assert_eq!(height(&svg), 130 + 2 * 104);
+    // Two ends in rows of their own between the heading's 130 and the legend's 18.
+    assert_eq!(height(&svg), 130 + 2 * 104 + 18);
     let low = drawn(&packed(&basins_on_the_way())).0;
     assert!(texts_of(&low, 1).0.contains(&"one tap of hotel-100".to_string()), "{low}");
-    assert_eq!(height(&low), 130 + 2 * 90);
+    assert_eq!(height(&low), 130 + 2 * 90 + 18);
 }

@@ -6,7 +6,7 @@ mod json;
 mod run;
 
 use json::Value;
-use office::{Refusal, house, kinds, meters, table};
+use office::{Refusal, calls, house, kinds, meters, table};
 use run::{Ran, office, office_with, read, scratch};
 
 fn answered(words: &[&str]) -> String {
@@ -172,6 +172,39 @@ fn the_help_says_what_is_so_of_blanks_units_and_files() {
     assert!(meter.contains("with -o - the words stand on standard error, so that a pipe gets an answer or nothing"));
     let draw = unfolded(&answered(&["help", "draw"]));
     assert!(draw.contains("`draw` with refusal 16, do their work and write the file all the same"), "{draw}");
+}
+
+/// Where the words stand, the help leads to what they mean; nothing says "average flow", which reads as a mean over time.
+#[test]
+fn one_tap_is_explained() {
+    for topic in ["flow", "meter", "rate", "choose", "draw", "13", "16"] {
+        let text = unfolded(&answered(&["help", topic]));
+        assert!(text.contains("one tap") && !text.contains("average"), "{text}");
+        assert!(topic == "flow" || text.contains("`office help flow`"), "{text}");
+    }
+    let flow = unfolded(&answered(&["help", "flow"]));
+    assert!(flow.contains("A design flow is what the standard's formula gives for all the fixtures that "), "{flow}");
+    let draw = unfolded(&answered(&["help", "draw"]));
+    assert!(draw.contains("in brackets behind the flow of the pump set where it is the house's"), "{draw}");
+}
+
+/// 18 comes of the house's design flow or its mean hour, and neither of them of one tap or of how many fixtures there are.
+#[test]
+fn the_causes_of_18_are_causes() {
+    let text = unfolded(&answered(&["help", "18"]));
+    assert!(!text.contains("one tap"), "{text}");
+    assert!(text.contains("The residents of the house are too many or its hours of use too few"), "{text}");
+    assert!(text.contains("how many fixtures it has plays no part"), "{text}");
+    let figures = |from: &str, to: &str| {
+        let house = read("examples/own-case.txt");
+        assert!(house.contains(from), "{house}");
+        let job = house::pack(&house.replace(from, to)).expect("a house");
+        (calls::duty(&job).expect("accepted"), calls::flow(&job).expect("accepted").mean_hour)
+    };
+    // Document 01's figures; 17,750 litres in 12 hours are 1,479.2 an hour.
+    assert_eq!(figures("fixtures 80", "fixtures 8000"), (2_052, 740));
+    assert_eq!(figures("hours           24", "hours 12"), (2_052, 1_480));
+    assert!(figures("residents hotel-75 71", "residents hotel-75 72").0 > 2_052);
 }
 
 #[test]

@@ -1,6 +1,10 @@
 //! The places of refusals: one is found for every refusal that the library gives, it is the right one, and what it says of
 //! the missing head is true.
 
+#[path = "tools/mixed.rs"]
+mod mixed;
+
+use mixed::{branch, flat};
 use office::at::{At, Field};
 use office::case::{Call, Case};
 use office::model::faults::LAST;
@@ -231,6 +235,50 @@ fn the_missing_head() {
     let why = "no size serves its flow of 2052 ml/s; the greatest flow in the table is 2000 ml/s, and the limit is 1500 mm/s; \
         a bore of about 51 mm would do";
     check(found, 16, At::Section(1), why);
+}
+
+/// A table of one size of 20 mm with two rows: 100 ml/s at 1,000 mm/s, and this one.
+fn one_size(last: &str) -> Vec<u8> {
+    let text = format!("size,bore mm,price,flow ml/s,velocity mm/s,slope mm/m\n1,20,9,100,1000,40\n1,20,9,{last},40\n");
+    table::pack(&text).expect("a table")
+}
+
+/// Section 1 serves a bath, an eleventh of the share 25,000 × 300 / (9 × 30), 2,526, and basins, 7,937. With m 10,463 α is 0.2,
+/// and the formula gives 10 × (2,526 × 30 + 7,937 × 14) / 10,463, 178.6: 179 ml/s, which either table serves. One tap of the bath
+/// draws 300. Section 3 has 300 by the formula, as a bath alone. Between 100 and 500 ml/s the velocity at 300 is halfway.
+#[test]
+fn a_flow_that_one_tap_sets() {
+    let job = house::pack(&branch(&["hotel-100"])).expect("a house");
+    for (last, in_list, in_choice) in [
+        (
+            "290,1300",
+            "flow 300 ml/s (one tap of hotel-100) is over the last row of size 1, 290 ml/s",
+            "no size serves its flow of 300 ml/s (one tap of hotel-100); the greatest flow in the table is 290 ml/s, and",
+        ),
+        (
+            "500,3000",
+            "velocity 2000 mm/s at 300 ml/s (one tap of hotel-100) in size 1 passes the limit of 1500 mm/s",
+            "no size serves it: at 300 ml/s (one tap of hotel-100) the least velocity is 2000 mm/s, in size 1 (20 mm), and",
+        ),
+    ] {
+        let cat = one_size(last);
+        let refusal = calls::choose(&job, &cat).expect_err("one size");
+        let chosen = (refusal.number(), places(&refusal, &Asked { job: &job, cat: &cat, ..Asked::default() }));
+        for (found, number, why) in [(rated(&job, &cat, &[1; 4]), 13, in_list), (chosen, 16, in_choice)] {
+            check(found.clone(), number, At::Section(1), why);
+            check(found.clone(), number, At::Section(3), &why.replace(" (one tap of hotel-100)", ""));
+            assert_eq!(found.1.iter().filter(|place| place.why.contains("tap")).count(), 1, "{:?}", found.1);
+        }
+    }
+}
+
+/// The greatest resistance of a list loses 65,535 × 300 × 300 / 100,000,000, 58.98 cm, at the greatest flow that one tap sets:
+/// 18 never comes of one tap.
+#[test]
+fn no_meter_is_refused_for_one_tap() {
+    let job = house::pack(&flat()).expect("a house");
+    let metered = calls::meter(&job, &[2, 0xff, 0xff, 0xff, 0xff]).expect("a turbine meter may lose 250 cm");
+    assert_eq!(Record::read(&metered.job).expect("a record").meter, 59);
 }
 
 fn asked(case: &Case) -> Asked<'_> {

@@ -14,8 +14,8 @@ use run::{office, office_with, read};
 const MIXED: &str = "examples/mixed.txt";
 const TABLE: &str = "examples/table.csv";
 const METERS: &str = "examples/meters.csv";
-const LEGEND: &str = "one tap of a kind: one fixture of this kind draws more than the average flow of all kinds served; the \
-    flow is what it draws\n";
+const LEGEND: &str = "one tap of a kind: one fixture of this kind draws more than the formula gives for all that is served; \
+    the flow is what it draws\n";
 
 /// What a command says of a house, in words.
 fn words(command: &[&str], house: &str) -> String {
@@ -104,18 +104,18 @@ fn a_bath_among_basins() {
 #[test]
 fn the_house_alone() {
     let text = flow(&flat());
-    let duty = "design flow    300 ml/s for the pump set to deliver, one tap of dwelling\n";
+    let duty = "design flow    300 ml/s (one tap of dwelling) for the pump set to deliver\n";
     assert!(text.starts_with(duty) && text.ends_with(LEGEND), "{text}");
     // 5 × 0.211038 × 30 × 10, and 5 × 0.29424 × 14 × 10, up.
     assert!(line(&text, 1).ends_with("  317") && line(&text, 2).ends_with("  206"), "{text}");
     assert_eq!(taps(&words(&["flow", "-", "--json"], &flat())), (vec![1], vec![vec![], vec![]]));
     let chosen = words(&["choose", "-", TABLE], &flat());
-    assert!(chosen.contains("ml/s for the pump set to deliver, one tap of dwelling\n"), "{chosen}");
+    assert!(chosen.contains(" 300 ml/s (one tap of dwelling) for the pump set to deliver\n"), "{chosen}");
     assert!(chosen.ends_with(LEGEND) && chosen.matches("one tap of").count() == 2, "{chosen}");
     assert_eq!(taps(&words(&["choose", "-", TABLE, "--json"], &flat())), (vec![1], vec![vec![], vec![]]));
     let metered = words(&["meter", "-", METERS], &flat());
     assert!(
-        metered.starts_with("design flow  300 ml/s for the pump set to deliver, one tap of dwelling\n"),
+        metered.starts_with("design flow  300 ml/s (one tap of dwelling) for the pump set to deliver\n"),
         "{metered}"
     );
     assert!(metered.ends_with(&format!("that you would not fit.\n{LEGEND}")), "{metered}");

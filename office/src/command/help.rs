@@ -58,10 +58,10 @@ nor 5 for each meter, can't be shown: status 2.
         text: "\
 JOB is a readable house or a job record. The house's design flow is what its pump set has to deliver.
 
-A design flow is the average flow of all kinds that the section, or the house, serves, but never less than what one fixture of
-any of these kinds draws (Z, `office kinds`). Where one fixture sets it, `one tap of` and the kind stand behind it; of several
-kinds with the same Z all are named. A pipe may have a greater flow than the one that it hangs from, since the average of fewer
-kinds may be greater.
+A design flow is what the standard's formula gives for all the fixtures that the section, or the house, serves, but never less
+than what one fixture of any of their kinds draws (Z, `office kinds`). Where one fixture sets it, `one tap of` and the kind stand
+behind it; of several kinds with the same Z all are named. A pipe may have a greater flow than the one that it hangs from: the
+formula goes by the mean of what the kinds' fixtures draw, and a kind that draws little brings it down.
 
 --json: duty_ml_per_s (the house's design flow), duty_one_tap_kinds (the kinds of which one tap sets it, by number; empty where
 none does), hour_l_per_h, day_l, mean_hour_l_per_h, sections (section, flow_ml_per_s, one_tap_kinds).",
@@ -80,7 +80,7 @@ if a vane meter loses at most 500 cm, a turbine meter at most 250 cm, and the ho
 least loss wins, then the first in the list; so list no meter that you would not fit. The meter loss that the house has must be
 in its range, and plays no part beyond that. The answer shows every meter with its loss, its limit, and why it does or doesn't
 qualify; a star marks the winner. Where none qualifies (refusal 18) each meter is named with the limits that it breaks and by how
-much, and what would do.
+much, and what would do. `office help flow` explains the design flow, and `one tap of` behind it.
 
 -o HOUSE writes the house with the winner's loss as its meter loss, beside the answer, in the form that JOB has: of a readable
 house one number is another and all else stays, comments too; a record stays a record. `-o -` sends the house to standard
@@ -125,7 +125,7 @@ parent, size, bore_mm, flow_ml_per_s, one_tap_kinds, velocity_mm_per_s, loss_cm,
         text: "\
 JOB is a readable house or a job record, CAT a readable table or a catalogue. The answer is a cheapest list of sizes that
 suits, rated; which of equally cheap lists comes is left free. Its line `sizes` can be given to `rate` and `draw`.
-`office help rate` explains the heads and the dictating section.
+`office help rate` explains the heads and the dictating section, `office help flow` the design flow and `one tap of` behind it.
 
 --json: as `rate`.",
     },
@@ -139,9 +139,10 @@ suits, rated; which of equally cheap lists comes is left free. Its line `sizes` 
         text: "\
 JOB, CAT and SIZES as for `rate`; without SIZES a cheapest list is drawn. The pump is at the left. Each pipe has its number,
 bore, size and length above it, flow, velocity and loss below it, and the head left at its end against the free head. The
-dictating path is red and wide. Below a flow that one tap sets (`office help flow`) stand the tap's kinds, or how many they are
-where they don't fit; a pointer that rests on the section shows them all. Where no list suits (refusal 16, status 1) the house
-is drawn all the same, and the refusal stands on standard error.",
+dictating path is red and wide. Below a flow that one tap sets (`office help flow`) stand the tap's kinds, in brackets behind
+the flow of the pump set where it is the house's; where their names don't fit, their numbers (`office kinds`) stand there, with
+the names at the foot and under a pointer that rests on the section. Where no list suits (refusal 16, status 1) the house is
+drawn all the same, and the refusal stands on standard error.",
     },
     Command {
         name: "kinds",

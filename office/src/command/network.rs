@@ -69,18 +69,14 @@ pub fn house_fields(demand: &Demand) -> Fields {
 
 /// The house's design flow for people.
 pub fn duty_figure(demand: &Demand) -> Figure {
-    let remark = format!("ml/s for the pump set to deliver{}", taps::behind(&demand.taps.house));
+    let remark = format!("ml/s{} for the pump set to deliver", taps::behind(&demand.taps.house));
     ("design flow", demand.duty.to_string(), remark)
 }
 
 /// What `one tap` means, for below a table in which some flow has this mark.
-pub fn legend(marked: bool) -> &'static str {
-    if marked { ONE_TAP } else { "" }
+pub fn legend(marked: bool) -> String {
+    if marked { format!("{}\n", taps::LEGEND) } else { String::new() }
 }
-
-const ONE_TAP: &str = "\
-one tap of a kind: one fixture of this kind draws more than the average flow of all kinds served; the flow is what it draws
-";
 
 /// What the house asks for as a whole, for people.
 pub fn house_figures(demand: &Demand) -> Vec<Figure> {

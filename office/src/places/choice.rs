@@ -1,5 +1,6 @@
 //! Refusal 16: what is missing. Either some section has no size at all, or even the least losses ask for too much head.
 
+use super::flows::Flows;
 use super::{Asked, Place, pipe};
 use crate::at::{At, Field};
 use crate::calls;
@@ -8,12 +9,13 @@ use crate::record::Record;
 
 pub fn none_suits(asked: &Asked) -> Vec<Place> {
     let (Ok(record), Ok(catalogue)) = (Record::read(asked.job), Catalogue::read(asked.cat)) else { return Vec::new() };
-    // The flows are the library's own.
-    let Ok(flow) = calls::flow(asked.job) else { return Vec::new() };
-    let sizes = gentlest(&record, &catalogue, &flow.flows);
-    let unserved = (1..=255).zip(&sizes).zip(&flow.flows).filter(|((_, size), _)| size.is_none());
+    let Some(flows) = Flows::of(asked.job) else { return Vec::new() };
+    let sizes = gentlest(&record, &catalogue, &flows.flows);
+    let unserved = flows.sections().zip(&sizes).filter(|(_, size)| size.is_none());
     let found: Vec<Place> = unserved
-        .map(|((section, _), flow)| Place::new(At::Section(section), why_unserved(&catalogue, *flow, record.limit)))
+        .map(|((section, flow, words), _)| {
+            Place::new(At::Section(section), why_unserved(&catalogue, (flow, &words), record.limit))
+        })
         .collect();
     match found.is_empty() {
         true => short_of_head(asked, &record, &sizes.into_iter().flatten().collect::<Vec<u8>>()),
@@ -33,20 +35,20 @@ pub fn gentlest(record: &Record, catalogue: &Catalogue, flows: &[u32]) -> Vec<Op
     flows.iter().map(|flow| allowed(*flow).min_by_key(|(_, reading)| reading.slope).map(|(number, _)| number)).collect()
 }
 
-/// Why no size will do for a section, and the bore that would.
-fn why_unserved(catalogue: &Catalogue, flow: u32, limit: u16) -> String {
+/// Why no size will do for a section of this flow, which is given in words too, and the bore that would.
+fn why_unserved(catalogue: &Catalogue, (flow, words): (u32, &str), limit: u16) -> String {
     let sizes = (1_u8..=255).zip(&catalogue.sizes);
     let readings = sizes.filter_map(|(number, size)| Some((number, size.bore, pipe::read(size, flow)?)));
     let needed = bore(flow, limit).max(catalogue.sizes.iter().map(|size| u64::from(size.bore) + 1).max().unwrap_or(1));
     let would = format!("and the limit is {limit} mm/s; a bore of about {needed} mm would do");
     match readings.min_by_key(|(_, _, reading)| reading.velocity) {
         Some((number, bore, reading)) => format!(
-            "no size serves it: at {flow} ml/s the least velocity is {} mm/s, in size {number} ({bore} mm), {would}",
+            "no size serves it: at {words} the least velocity is {} mm/s, in size {number} ({bore} mm), {would}",
             reading.velocity
         ),
         None => {
             let last = catalogue.sizes.iter().map(pipe::last).max().unwrap_or(0);
-            format!("no size serves its flow of {flow} ml/s; the greatest flow in the table is {last} ml/s, {would}")
+            format!("no size serves its flow of {words}; the greatest flow in the table is {last} ml/s, {would}")
         }
     }
 }

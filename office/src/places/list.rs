@@ -1,8 +1,8 @@
 //! Refusals 12 and 13: the list of sizes, and sizes that are too small for their section.
 
+use super::flows::Flows;
 use super::{Asked, Place, pipe};
 use crate::at::At;
-use crate::calls;
 use crate::catalogue::Catalogue;
 use crate::record::Record;
 
@@ -27,17 +27,16 @@ pub fn names(asked: &Asked) -> Vec<Place> {
 /// 13: for each section its flow against its size's last row, or its velocity against the limit.
 pub fn too_small(asked: &Asked) -> Vec<Place> {
     let (Ok(record), Ok(catalogue)) = (Record::read(asked.job), Catalogue::read(asked.cat)) else { return Vec::new() };
-    // The flows are the library's own.
-    let Ok(flow) = calls::flow(asked.job) else { return Vec::new() };
+    let Some(flows) = Flows::of(asked.job) else { return Vec::new() };
     let mut found = Vec::new();
-    for ((section, flow), number) in (1..=255).zip(flow.flows).zip(asked.sizes) {
+    for ((section, flow, words), number) in flows.sections().zip(asked.sizes) {
         let Some(size) = catalogue.size(*number) else { continue };
         let limit = u64::from(record.limit);
         let why = match pipe::read(size, flow) {
-            None => format!("flow {flow} ml/s is over the last row of size {number}, {} ml/s", pipe::last(size)),
+            None => format!("flow {words} is over the last row of size {number}, {} ml/s", pipe::last(size)),
             Some(reading) if reading.velocity > limit => {
                 let velocity = reading.velocity;
-                format!("velocity {velocity} mm/s at {flow} ml/s in size {number} passes the limit of {limit} mm/s")
+                format!("velocity {velocity} mm/s at {words} in size {number} passes the limit of {limit} mm/s")
             }
             Some(_) => continue,
         };

@@ -80,6 +80,7 @@ pub fn none_qualifies(asked: &Asked) -> Vec<Place> {
 fn why(fit: &Fit, duty: u32, mean_hour: u32) -> String {
     let Fit { meter, loss, limit, over_limit, over_service } = fit;
     let mut broken = Vec::new();
+    // One tap never sets this flow: it is at most 300 ml/s, at which no meter of a list loses more than 59 cm.
     if *over_limit > 0 {
         let name = meter::name(meter.design);
         broken

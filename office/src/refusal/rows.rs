@@ -198,6 +198,7 @@ pub const ROWS: &[Row] = &[
         plain: "A pipe is too narrow for the water that has to pass through it.",
         causes: &[
             "The pipe is too narrow for what is behind it; near the pump it carries the flow of the whole house.",
+            "One fixture alone sets the pipe's flow, where the message has `one tap of` (`office help flow`).",
             "The rows of the size end below the section's flow, although the supplier's table goes on.",
         ],
         remedies: &[
@@ -232,6 +233,7 @@ pub const ROWS: &[Row] = &[
         causes: &[
             "The delivered head is too little for the highest or the furthest end.",
             "The widest size of the table is too narrow for the flow near the pump.",
+            "One fixture alone sets a pipe's flow, where the message has `one tap of` (`office help flow`).",
             "An elevation, a length or a head has the wrong unit.",
         ],
         remedies: &[
@@ -266,7 +268,7 @@ pub const ROWS: &[Row] = &[
         causes: &[
             "The list has only meters for smaller houses.",
             "A resistance or a service flow has the wrong unit.",
-            "Residents or fixtures of the house are too many.",
+            "The residents of the house are too many or its hours of use too few; how many fixtures it has plays no part.",
         ],
         remedies: &[
             "Add larger meters to the list: they lose less and have a greater service flow.",
