@@ -9,11 +9,11 @@ use Rattle.basis.proofs.Split.{lt-or-ge}
 use Rattle.fields.specs.declared.Job.{Job}
 use Rattle.record.specs.Record.{decode}
 use Rattle.tree.specs.Tree.{servedOf, houseOf}
-use Rattle.demand.specs.Demand.{averageFlowOf, oneTapOf, flowOf, sectionFlow}
+use Rattle.demand.specs.Demand.{averageFlowOf, oneTapOf, flowOf, sectionFlow, meanOf}
 use Rattle.demand.proofs.Equations.{flow-is}
 use Rattle.demand.proofs.Taps.{Largest, one-tap-bound, one-tap-reached}
 use Rattle.sizing.specs.Losses.{readingOf, overAt, lossAt}
-use Rattle.meters.specs.Meters.{meterAt, meterLoss}
+use Rattle.meters.specs.Meters.{meterAt, meterLoss, qualifies}
 use Rattle.demands.specs.OneTap.{OfOneTap, Larger, flowIn, Judged, OneTap}
 use Rattle.demands.proofs.Demand2.{demand-2}
 
@@ -54,5 +54,7 @@ one-tap =
       section = λ job out₀ out bytes g i h k. rw (demand-2 .flow job out₀ out bytes g .flow i h k) (larger (decode job) (servedOf (decode job) i));
       house = λ job out₀ out g. rw (demand-2 .duty job out₀ out g) (larger (decode job) (houseOf (decode job)));
       judged = λ job out₀ out bytes g cat s i h k. judged (decode job) out cat s i (demand-2 .flow job out₀ out bytes g .flow i h k);
+      qualified = λ job out₀ out g meters t.
+          ap (λ q. qualifies (meterAt meters t) q (meanOf (decode job))) (sym (demand-2 .duty job out₀ out g));
       meter = λ job out₀ out g meters t. ap (meterLoss (meterAt meters t)) (sym (demand-2 .duty job out₀ out g));
     }

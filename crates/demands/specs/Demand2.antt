@@ -54,7 +54,7 @@ pub record Demand2 : Type 0 where
   -- with a section over its last row or the limit the number is 13
   pub rate-over : (b cat sizes : List ℕ) (room : ℕ) → jobNo b ≡ 0 → catNo cat ≡ 0 → listOk (decode b) cat sizes ≡ true →
       overAny (decode b) cat sizes ≡ true → rateLength (countOf (decode b)) ≤ room → rateNo b cat sizes room ≡ 13
-  -- then the figures are these: of the flow call
+  -- where the number is 0 the figures are these: of the flow call
   pub flow : (job out₀ out : List ℕ) → Bytes job → FlowGiven job out₀ out 0 → FlowFigures (decode job) out
   -- of the duty call, the house's design flow in ml/s
   pub duty : (job out₀ out : List ℕ) → DutyGiven job out₀ out 0 → beAt 4 out 0 ≡ houseFlow (decode job)

@@ -11,12 +11,12 @@ use Rattle.fields.specs.declared.Job.{Job}
 use Rattle.fields.specs.Fields.{countOf, sectionOf}
 use Rattle.record.specs.Record.{decode}
 use Rattle.tree.specs.Tree.{servedOf, houseOf}
-use Rattle.demand.specs.Demand.{normAt, averageFlowOf}
+use Rattle.demand.specs.Demand.{normAt, averageFlowOf, houseFlow, meanOf}
 use Rattle.catalogue.specs.declared.reading.SizeAtFlow.{SizeAtFlow}
 use Rattle.catalogue.specs.Layout.{rowsOf, partOf}
 use Rattle.catalogue.specs.Reading.{readRows}
 use Rattle.sizing.specs.Losses.{readingOf, overBy, overAt, lossOf, lossAt}
-use Rattle.meters.specs.Meters.{meterAt, meterLoss}
+use Rattle.meters.specs.Meters.{meterAt, meterLoss, qualifies}
 use Rattle.order.specs.Promises.{FlowGiven, DutyGiven}
 use Rattle.demands.specs.Demand2.{Bytes}
 use Rattle.demands.specs.Metering.{meterLossAt}
@@ -76,6 +76,8 @@ pub record OneTap : Type 0 where
   -- a section with a size, in a rating or in a list that may suit, is judged by the first
   pub judged : (job out₀ out : List ℕ) → Bytes job → FlowGiven job out₀ out 0 → (cat : List ℕ) (s i : ℕ) → 0 < i → i ≤ countOf (decode job) →
       Judged (decode job) out cat s i
-  -- and a meter by the second
+  -- and a meter by the second: its loss, and whether it qualifies
   pub meter : (job out₀ out : List ℕ) → DutyGiven job out₀ out 0 → (meters : List ℕ) (t : ℕ) →
       meterLossAt (decode job) meters t ≡ meterLoss (meterAt meters t) (dutyIn out)
+  pub qualified : (job out₀ out : List ℕ) → DutyGiven job out₀ out 0 → (meters : List ℕ) (t : ℕ) →
+      qualifies (meterAt meters t) (houseFlow (decode job)) (meanOf (decode job)) ≡ qualifies (meterAt meters t) (dutyIn out) (meanOf (decode job))

@@ -195,9 +195,7 @@ mod tests {
     use super::*;
     use office::house;
 
-    const OWN: &str = "local losses 0.3\nhours 24\nmeter loss 50 cm\nguaranteed head 500 cm\ndelivered head 1200 cm\n\
-        velocity limit 1500 mm/s\nresidents hotel-75 71\n\
-        section 1 from pump length 10 m elevation 600 cm kind hotel-75 fixtures 80 free 200 cm\n";
+    const OWN: &str = include_str!("../../../examples/own-case.txt");
 
     /// A flow of the library that the model has otherwise is not shown: there is no answer, and both flows are named.
     #[test]

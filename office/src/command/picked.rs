@@ -158,9 +158,7 @@ mod tests {
     use office::at::Lines;
     use office::{calls, house};
 
-    const OWN: &str = "local losses 0.3\nhours 24\nmeter loss 50 cm\nguaranteed head 500 cm\ndelivered head 1200 cm\n\
-        velocity limit 1500 mm/s\nresidents hotel-75 71\n\
-        section 1 from pump length 10 m elevation 600 cm kind hotel-75 fixtures 80 free 200 cm\n";
+    const OWN: &str = include_str!("../../../examples/own-case.txt");
 
     /// An answer of the library that the table would not show gives no table.
     #[test]
