@@ -17,6 +17,24 @@ mod linked {
             out: *mut u8,
             out_length: usize,
         ) -> u32;
+        pub fn order_losses(
+            job: *const u8,
+            job_length: usize,
+            cat: *const u8,
+            cat_length: usize,
+            sizes: *const u8,
+            sizes_length: usize,
+            out: *mut u8,
+            out_length: usize,
+        ) -> u32;
+        pub fn order_heads(
+            job: *const u8,
+            job_length: usize,
+            losses: *const u8,
+            losses_length: usize,
+            out: *mut u8,
+            out_length: usize,
+        ) -> u32;
         pub fn order_choose(
             job: *const u8,
             job_length: usize,
@@ -61,6 +79,29 @@ pub fn rate(job: &[u8], cat: &[u8], sizes: &[u8], out: &mut [u8]) -> u32 {
             out.len(),
         )
     }
+}
+
+/// Each section's flow, velocity and loss into `out`; 0, or the number of the refusal.
+pub fn losses(job: &[u8], cat: &[u8], sizes: &[u8], out: &mut [u8]) -> u32 {
+    // SAFETY: see the top of the file; the library reads the first three and writes inside `out`.
+    unsafe {
+        linked::order_losses(
+            job.as_ptr(),
+            job.len(),
+            cat.as_ptr(),
+            cat.len(),
+            sizes.as_ptr(),
+            sizes.len(),
+            out.as_mut_ptr(),
+            out.len(),
+        )
+    }
+}
+
+/// Required head, pump head and dictating section with the losses that are given into `out`; 0, or the number of the refusal.
+pub fn heads(job: &[u8], losses: &[u8], out: &mut [u8]) -> u32 {
+    // SAFETY: see the top of the file; the library reads the first two and writes inside `out`.
+    unsafe { linked::order_heads(job.as_ptr(), job.len(), losses.as_ptr(), losses.len(), out.as_mut_ptr(), out.len()) }
 }
 
 /// The cheapest suitable sizes into `out`, with the workspace `work`; 0, or the number of the refusal.

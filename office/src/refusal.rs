@@ -44,6 +44,8 @@ pub enum Refusal {
     MeterList,
     /// 18
     NoMeter,
+    /// 19
+    LossList,
     /// A number that this program's table does not have, kept as it came: a newer library may refuse for a new reason, and
     /// the caller must still see that it refused, and with which number.
     Unknown(u32),

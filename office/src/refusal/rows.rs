@@ -276,4 +276,21 @@ pub const ROWS: &[Row] = &[
             "Where no list can hold a meter for the house, write the loss of the one that is fitted into the house.",
         ],
     },
+    Row {
+        refusal: LossList,
+        text: "The list of losses breaks its rules. It has one loss of 4 bytes for each section, and no loss is over 4259775 cm, \
+               which no table can give.",
+        plain: "The list of losses does not have one loss for each section, or a loss is more than any pipe can lose.",
+        causes: &[
+            "Another file was given: a table of pipes, a list of sizes or a list of meters.",
+            "The losses are those of another house, or of this one with more or fewer sections.",
+            "The list was cut off while it was copied or sent.",
+            "A loss has the wrong unit.",
+        ],
+        remedies: &[
+            "Look whether the files are in their order: the house first, then the losses.",
+            "Write the list as a readable one, a line with the section and its loss for each section of the house.",
+            "Correct the loss that is named.",
+        ],
+    },
 ];
