@@ -22,6 +22,7 @@ use Rattle.answer.specs.declared.Answer.the-variants.{
   NoSuitableList,
   MeterList,
   NoMeter,
+  LossList,
 }
 
 abbrev pub numberOf : Answer → ℕ
@@ -63,3 +64,5 @@ numberOf NoSuitableList = 16
 numberOf MeterList = 17
 -- no meter qualifies
 numberOf NoMeter = 18
+-- the losses aren't S long, or one is over 4,259,775 cm
+numberOf LossList = 19

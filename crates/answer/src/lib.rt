@@ -23,6 +23,7 @@ pub enum Answer {
     NoSuitableList,
     MeterList,
     NoMeter,
+    LossList,
 }
 
 // The number of the table; 0 for a result.
@@ -49,5 +50,6 @@ pub fn number(a: Answer) -> u32
         Answer::NoSuitableList => 16,
         Answer::MeterList => 17,
         Answer::NoMeter => 18,
+        Answer::LossList => 19,
     }
 }

@@ -1,12 +1,12 @@
--- Parts of a list: what stands in one, its first element, two in a row, and those of two lists in a row.
+-- Parts of a list: what stands in one, one up to the end, its first element, two in a row, and those of two lists in a row.
 -- Assumes nothing.
 use mathlib.Core.Path.{_≡_, sym, _∙_}
 use mathlib.Core.List.{List, _∷_, _++_}
-use Prim.Native.Nat.{ℕ, suc, _+_, _≤_, _<_}
+use Prim.Native.Nat.{ℕ, suc, _+_, _-_, _≤_, _<_}
 use native.Mathlib.Omega.{arith}
 use native.Mathlib.Numerals.{add-one}
 use lib.ListN.{length, drop, getD, length-take, length-drop, List·getD-eq-default}
-use lib.Seq.{take-add, drop-drop, drop-cons, take-length, take-at, drop-append-add, getD-take, getD-drop}
+use lib.Seq.{take-all, take-add, drop-drop, drop-cons, take-length, take-at, drop-append-add, getD-take, getD-drop}
 use mathlib.Core.Logic.{⊎-elim}
 use Rattle.basis.specs.Part.{part}
 use Rattle.basis.proofs.Split.{lt-or-ge}
@@ -29,6 +29,10 @@ part-cons l i n h = rw (drop-cons l i 0 h, add-one i)
 
 pub part-all : (l : List ℕ) → part l 0 (length l) ≡ l
 part-all l = take-length l
+
+-- what stands from a place to the end
+pub part-end : (l : List ℕ) (i : ℕ) → part l i (length l - i) ≡ drop i l
+part-end l i = take-all (length l - i) (drop i l) (rw (length-drop i l) (omega arith))
 
 pub part-front : (x y : List ℕ) (n : ℕ) → length x ≡ n → part (x ++ y) 0 n ≡ x
 part-front x y n e = take-at x y n e

@@ -9,7 +9,8 @@ use Rattle.record.specs.Record.{decode}
 use Rattle.job.specs.Calls.{copyNo}
 use Rattle.flow.specs.Calls.{flowNo, flowBytes, dutyNo, dutyBytes}
 use Rattle.metering.specs.Calls.{meterNo, meterBytes}
-use Rattle.rating.specs.Calls.{rateNo, rateBytes}
+use Rattle.rating.specs.Calls.{rateNo, rateBytes, lossesNo, lossesBytes}
+use Rattle.given_losses.specs.Calls.{headsNo, givenBytes}
 
 -- the number, and the result buffer after it: the bytes at its front where the number is 0, else as it was
 pub record Gives (no : ℕ) (bytes out₀ out : List ℕ) (n : ℕ) : Type 0 where
@@ -35,3 +36,11 @@ MeterGiven job meters out₀ out n = Gives (meterNo job meters (length out₀)) 
 -- rating: 1 to 14, or the rating result
 abbrev pub Rated : List ℕ → List ℕ → List ℕ → List ℕ → List ℕ → ℕ → Type 0
 Rated job cat sizes out₀ out n = Gives (rateNo job cat sizes (length out₀)) (rateBytes (decode job) cat sizes) out₀ out n
+
+-- losses: 1 to 14, or flow, velocity and loss of each section
+abbrev pub LossesGiven : List ℕ → List ℕ → List ℕ → List ℕ → List ℕ → ℕ → Type 0
+LossesGiven job cat sizes out₀ out n = Gives (lossesNo job cat sizes (length out₀)) (lossesBytes (decode job) cat sizes) out₀ out n
+
+-- heads: 1 to 9, 19, 14, or the heads with the losses that are given
+abbrev pub HeadsGiven : List ℕ → List ℕ → List ℕ → List ℕ → ℕ → Type 0
+HeadsGiven job losses out₀ out n = Gives (headsNo job losses (length out₀)) (givenBytes (decode job) losses) out₀ out n

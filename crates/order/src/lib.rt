@@ -1,7 +1,7 @@
 // The exported calls, for the order office's Rust program: numbers and byte slices, each slice a pointer and then a length.
 // A result gives back 0, a refusal its number.
 ghost use Rattle.choosing.specs.Calls.{Chosen};
-ghost use Rattle.order.specs.Promises.{Copied, FlowGiven, DutyGiven, MeterGiven, Rated};
+ghost use Rattle.order.specs.Promises.{Copied, FlowGiven, DutyGiven, MeterGiven, Rated, LossesGiven, HeadsGiven};
 
 // Reads a record and writes it again: 1 to 7, 14, or the record's bytes.
 #[no_mangle]
@@ -41,6 +41,22 @@ pub extern "C" fn order_rate(job: &[u8], cat: &[u8], sizes: &[u8], out: &mut [u8
     ensures { λ r. ⌜ Rated (now (job .entry)) (now (cat .entry)) (now (sizes .entry)) (now (out .entry)) (now (out .exit)) r ⌝ }
 {
     answer::number(rating::rate(job, cat, sizes, out))
+}
+
+// Flow, velocity and loss of each section, without the heads: 1 to 14, or the losses result.
+#[no_mangle]
+pub extern "C" fn order_losses(job: &[u8], cat: &[u8], sizes: &[u8], out: &mut [u8]) -> u32
+    ensures { λ r. ⌜ LossesGiven (now (job .entry)) (now (cat .entry)) (now (sizes .entry)) (now (out .entry)) (now (out .exit)) r ⌝ }
+{
+    answer::number(rating::losses(job, cat, sizes, out))
+}
+
+// The heads with losses that are given: 1 to 9, 19, 14, or the heads result.
+#[no_mangle]
+pub extern "C" fn order_heads(job: &[u8], losses: &[u8], out: &mut [u8]) -> u32
+    ensures { λ r. ⌜ HeadsGiven (now (job .entry)) (now (losses .entry)) (now (out .entry)) (now (out .exit)) r ⌝ }
+{
+    answer::number(given_losses::heads(job, losses, out))
 }
 
 // A list of sizes of least cost: 1 to 11, 14, 15, 16, or the choosing result.

@@ -1,16 +1,16 @@
-// The bytes of a rating result.
+// The bytes of a rating result, and of its two halves: the heads, and the figures of the sections.
 use fields::Job;
 use heads::Heads;
 ghost use mathlib.Core.Path.{_≡_};
 ghost use mathlib.Core.List.{[], _∷_, _++_};
-ghost use Prim.Native.Nat.{ℕ, _+_, _≤_, _<_};
-ghost use lib.ListN.{length, getD};
+ghost use Prim.Native.Nat.{ℕ, _+_, _-_, _*_, _≤_, _<_};
+ghost use lib.ListN.{length, drop, getD};
 ghost use Rattle.basis.specs.Range.{concatTo};
 ghost use Rattle.basis.specs.Stored.{stored};
 ghost use Rattle.wire.specs.Wire.{bytesOf, bitsOf};
 ghost use Rattle.fields.specs.Fields.{countOf};
 ghost use Rattle.heads.specs.Contracts.{Given};
-ghost use Rattle.rated_bytes.specs.RatedBytes.{rateLength, resultBytes};
+ghost use Rattle.rated_bytes.specs.RatedBytes.{rateLength, headsLength, headsBytes, resultBytes};
 
 // Required head, pump head and dictating section.
 fn head_bytes(h: Heads) -> [u8; 9]
@@ -32,38 +32,63 @@ fn head_bytes(h: Heads) -> [u8; 9]
     ]
 }
 
-// Velocity and loss of a section.
-fn section_bytes(velocity: u32, loss: u32) -> [u8; 6]
-    requires { ⌜ velocity ≤ 65535 ⌝ }
-    ensures { λ r. ⌜ r ≡ bytesOf 2 velocity ++ bytesOf 4 loss ⌝ }
+// The heads.
+pub fn put_heads(out: &mut [u8], job: Job, losses: [u32; 64])
+    requires { ⌜ Given job losses × (headsLength ≤ length (now out)) ⌝ }
+    ensures { λ _. ⌜ now (out .exit) ≡ stored (now (out .entry)) 0 (headsBytes job (λ i. getD losses i 0)) ⌝ }
 {
-    let v = wire::bytes16(velocity as u16);
-    let l = wire::bytes32(loss);
-    [v[0], v[1], l[0], l[1], l[2], l[3]]
+    let x = head_bytes(heads::heads_of(job, losses));
+    wire::put(out, 0, &x);
 }
 
-// Sections 1 to count, from byte 9 on.
-fn put_sections(out: &mut [u8], velocities: [u32; 64], losses: [u32; 64], count: usize)
-    requires { ⌜ (count ≤ 63) × (rateLength count ≤ length (now out)) × ((i : ℕ) → 0 < i → i ≤ count → getD velocities i 0 ≤ 65535) ⌝ }
-    ensures { λ _. ⌜ now (out .exit) ≡ stored (now (out .entry)) 9
-        (concatTo count (λ i. bytesOf 2 (getD velocities i 0) ++ bytesOf 4 (getD losses i 0))) ⌝ }
+// Flow, velocity and loss of a section.
+fn section_bytes(flow: u32, velocity: u32, loss: u32) -> [u8; 10]
+    requires { ⌜ velocity ≤ 65535 ⌝ }
+    ensures { λ r. ⌜ r ≡ bytesOf 4 flow ++ (bytesOf 2 velocity ++ bytesOf 4 loss) ⌝ }
 {
+    let f = wire::bytes32(flow);
+    let v = wire::bytes16(velocity as u16);
+    let l = wire::bytes32(loss);
+    [f[0], f[1], f[2], f[3], v[0], v[1], l[0], l[1], l[2], l[3]]
+}
+
+// Sections 1 to count, from byte `from` on, each without its first `skip` bytes: a rating leaves out the flows.
+pub fn put_sections(
+    out: &mut [u8],
+    from: usize,
+    skip: usize,
+    count: usize,
+    flows: [u32; 64],
+    velocities: [u32; 64],
+    losses: [u32; 64],
+)
+    requires { ⌜ (count ≤ 63) × (skip ≤ 10) × (from + (10 - skip) * count ≤ length (now out))
+        × ((i : ℕ) → 0 < i → i ≤ count → getD velocities i 0 ≤ 65535) ⌝ }
+    ensures { λ _. ⌜ now (out .exit) ≡ stored (now (out .entry)) from (concatTo count
+        (λ i. drop skip (bytesOf 4 (getD flows i 0) ++ (bytesOf 2 (getD velocities i 0) ++ bytesOf 4 (getD losses i 0))))) ⌝ }
+{
+    let width = 10 - skip;
     let mut i: usize = 1;
     while i <= count {
-        let x = section_bytes(velocities[i], losses[i]);
-        wire::put(out, 9 + 6 * (i - 1), &x);
+        let x = section_bytes(flows[i], velocities[i], losses[i]);
+        wire::put(out, from + width * (i - 1), &x[skip..]);
         i += 1;
     }
 }
 
-// The whole result.
-pub fn put_result(out: &mut [u8], job: Job, velocities: [u32; 64], losses: [u32; 64])
+// The whole result of a rating.
+pub fn put_result(
+    out: &mut [u8],
+    job: Job,
+    flows: [u32; 64],
+    velocities: [u32; 64],
+    losses: [u32; 64],
+)
     requires { ⌜ Given job losses × (rateLength (countOf job) ≤ length (now out))
         × ((i : ℕ) → 0 < i → i ≤ countOf job → getD velocities i 0 ≤ 65535) ⌝ }
     ensures { λ _. ⌜ now (out .exit) ≡ stored (now (out .entry)) 0 (resultBytes job (λ i. getD velocities i 0) (λ i. getD losses i 0)) ⌝ }
 {
+    put_heads(out, job, losses);
     let count = job.header.sections as usize;
-    let x = head_bytes(heads::heads_of(job, losses));
-    wire::put(out, 0, &x);
-    put_sections(out, velocities, losses, count);
+    put_sections(out, 9, 4, count, flows, velocities, losses);
 }

@@ -36,7 +36,7 @@ pub text-refused : (b cat list : List ℕ) → (rateNo b cat list 387 ≡ 0 → 
 unfolding textOf
 text-refused b cat list n = rw (ne-eqb (rateNo b cat list 387) 0 n)
 
-module _ {b cat list : List ℕ} {room : ℕ} {job : Job} {v w : List ℕ} (r : RatedJob b cat list room job v w) where
+module _ {b cat list : List ℕ} {room long : ℕ} {job : Job} {f v w : List ℕ} (r : RatedJob b cat list room long job f v w) where
   lines-are : linesOf job (λ i. getD v i 0) (λ i. getD w i 0) ≡ ratedText job cat list
   unfolding linesOf ratedText
   lines-are =

@@ -59,7 +59,7 @@ pub fn put_text(b: &[u8], cat: &[u8], list: &[u8], out: &mut [u8]) -> usize
     requires { ⌜ 4096 ≤ length (now out) ⌝ }
     ensures { λ r. ⌜ Wrote 4096 (now (out .entry)) (now (out .exit)) 0 r (textOf (now (b .entry)) (now (cat .entry)) (now (list .entry))) ⌝ }
 {
-    let found = rating::outcome(b, cat, list, 387);
+    let found = rating::outcome(b, cat, list, 387, 9, 6);
     let answer = found.answer;
     let number = answer::number(answer);
     if number != 0 {

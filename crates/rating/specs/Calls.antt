@@ -1,4 +1,4 @@
--- The rating call: document 01, "Refused orders" 1 to 14, and the rating result.
+-- The rating call, document 01, "Refused orders" 1 to 14, and the rating result; and document 02, L3: its first half alone.
 -- Assumes nothing.
 use Prim.Native.Nat.{ℕ}
 use mathlib.Core.Bool.{Bool, not}
@@ -8,19 +8,33 @@ use Rattle.answer.specs.Checks.{firstNo, tooShort}
 use Rattle.fields.specs.declared.Job.{Job}
 use Rattle.fields.specs.Fields.{countOf}
 use Rattle.record.specs.Record.{decode}
+use Rattle.demand.specs.Demand.{sectionFlow}
 use Rattle.acceptance.specs.Acceptance.{inputChecks}
 use Rattle.sizing.specs.Losses.{listOk, overAny, readingOf, lossesOf}
-use Rattle.rated_bytes.specs.RatedBytes.{rateLength, resultBytes}
+use Rattle.rated_bytes.specs.RatedBytes.{rateLength, lossesLength, resultBytes, sectionsBytes}
 
--- 1 to 11, 12, 14, then 13
-unfoldable pub rateChecks : List ℕ → List ℕ → List ℕ → ℕ → List (Bool × ℕ)
-rateChecks b cat list room =
+-- what a call that takes a list of sizes checks: 1 to 11, 12, 14 where its result has so many bytes, then 13
+unfoldable pub sizedChecks : List ℕ → List ℕ → List ℕ → ℕ → ℕ → List (Bool × ℕ)
+sizedChecks b cat list room long =
     inputChecks b cat ++
-    ((not (listOk (decode b) cat list), 12) ∷ (tooShort room (rateLength (countOf (decode b))), 14) ∷ (overAny (decode b) cat list, 13) ∷ [])
+    ((not (listOk (decode b) cat list), 12) ∷ (tooShort room long, 14) ∷ (overAny (decode b) cat list, 13) ∷ [])
 
-unfoldable pub rateNo : List ℕ → List ℕ → List ℕ → ℕ → ℕ
-rateNo b cat list room = firstNo (rateChecks b cat list room)
+unfoldable pub sizedNo : List ℕ → List ℕ → List ℕ → ℕ → ℕ → ℕ
+sizedNo b cat list room long = firstNo (sizedChecks b cat list room long)
+
+-- the rating call with a result buffer of so many bytes
+abbrev pub rateNo : List ℕ → List ℕ → List ℕ → ℕ → ℕ
+rateNo b cat list room = sizedNo b cat list room (rateLength (countOf (decode b)))
+
+-- the losses call
+abbrev pub lossesNo : List ℕ → List ℕ → List ℕ → ℕ → ℕ
+lossesNo b cat list room = sizedNo b cat list room (lossesLength (countOf (decode b)))
 
 -- the rating result
 unfoldable pub rateBytes : Job → List ℕ → List ℕ → List ℕ
 rateBytes job cat list = resultBytes job (λ i. readingOf job cat (sizeOf list i) i .velocity) (lossesOf job cat list)
+
+-- the losses result
+unfoldable pub lossesBytes : Job → List ℕ → List ℕ → List ℕ
+lossesBytes job cat list =
+    sectionsBytes job (sectionFlow job) (λ i. readingOf job cat (sizeOf list i) i .velocity) (lossesOf job cat list)

@@ -3,6 +3,7 @@ mod call;
 mod refusal;
 mod sections;
 
+pub use call::losses;
 pub use call::outcome;
 pub use call::rate;
 pub use refusal::Outcome;

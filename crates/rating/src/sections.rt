@@ -1,4 +1,4 @@
-// Velocity and loss of each section.
+// Flow, velocity and loss of each section.
 use fields::Job;
 use numbers::wide8;
 use sizing::try_size;
@@ -9,9 +9,10 @@ ghost use lib.ListN.{length};
 ghost use Rattle.sizing.specs.Losses.{listOk, overAny};
 ghost use Rattle.rating.specs.Contracts.{Rateable, RatedAt};
 
-// The velocities and losses at the sections' places, and whether a section is over its last row or the limit.
+// The flows, velocities and losses at the sections' places, and whether a section is over its last row or the limit.
 pub struct Rated {
     pub over: bool,
+    pub flows: [u32; 64],
     pub velocities: [u32; 64],
     pub losses: [u32; 64],
 }
@@ -43,7 +44,8 @@ pub fn list_ok(job: Job, cat: &[u8], list: &[u8]) -> bool
 pub fn rate_sections(job: Job, cat: &[u8], list: &[u8]) -> Rated
     requires { ⌜ Rateable job (now cat) (now list) ⌝ }
     ensures over { λ r. ⌜ r .over ≡ overAny job (now (cat .entry)) (now (list .entry)) ⌝ }
-    ensures at { λ r. ⌜ (r .over ≡ false → RatedAt job (now (cat .entry)) (now (list .entry)) (r .velocities) (r .losses)) ⌝ }
+    ensures at { λ r. ⌜ (r .over ≡ false → RatedAt job (now (cat .entry)) (now (list .entry)) (r .flows)
+        (r .velocities) (r .losses)) ⌝ }
 {
     let count = job.header.sections as usize;
     let limit = job.header.limit;
@@ -64,6 +66,7 @@ pub fn rate_sections(job: Job, cat: &[u8], list: &[u8]) -> Rated
         if t.over {
             return Rated {
                 over: true,
+                flows,
                 velocities,
                 losses,
             };
@@ -74,6 +77,7 @@ pub fn rate_sections(job: Job, cat: &[u8], list: &[u8]) -> Rated
     }
     Rated {
         over: false,
+        flows,
         velocities,
         losses,
     }

@@ -5,19 +5,16 @@ use mathlib.Core.Logic.{⊎-elim}
 use mathlib.Core.List.{List, []}
 use Prim.Native.Nat.{ℕ, _-_, _≤_, _<_, min}
 use native.Mathlib.Omega.{arith}
-use lib.ListN.{length, take, drop, length-drop, length-append}
+use lib.ListN.{length, take, drop, length-append}
 use lib.Seq.{take-all}
 use borrow.Author.Tests.{lt-ltb, le-ltb}
 use Rattle.basis.specs.Stored.{stored}
 use Rattle.basis.proofs.Split.{lt-or-ge}
+use Rattle.basis.proofs.Part.{part-end}
 use Rattle.basis.proofs.Stored.{stored-front}
 use Rattle.wire.specs.Wire.{beAt}
 use Rattle.sheet_text.specs.Sheet.{readOf, recordEnd, recordOf, afterRecord, sheetText, writtenText}
 use Rattle.rated_text.specs.RatedText.{textOf}
-
--- what stands from a place to the end
-to-end : (l : List ℕ) (k : ℕ) → take (length l - k) (drop k l) ≡ drop k l
-to-end l k = take-all (length l - k) (drop k l) (rw (length-drop k l) (omega arith))
 
 module _ (l : List ℕ) where
   pub end-none : length l < 4 → recordEnd l ≡ length l
@@ -33,7 +30,7 @@ module _ (l : List ℕ) where
       textOf (take a l) (take b rest) (take (length rest - b) (drop b rest)) ≡
       textOf (recordOf l) (recordOf (afterRecord l)) (afterRecord (afterRecord l))
   parts-text a b e f =
-      let g : b ≡ recordEnd (drop a l) = rw (to-end l a) at f in rw (to-end l a, to-end (drop a l) b, g, e)
+      let g : b ≡ recordEnd (drop a l) = rw (part-end l a) at f in rw (part-end l a, part-end (drop a l) b, g, e)
 
   read-is : take (min (length l) 65536) l ≡ readOf l
   read-is =

@@ -1,5 +1,5 @@
 // The calls. A line's bytes are the room of the result buffer (2), the byte that fills what is lent (1), a length (4), the lengths of
-// the next two parts (2 each), and then the parts: in most calls a job, then a catalogue or a list of meters, then a size list.
+// the next two parts (2 each), and then the parts: in most calls a job, then a catalogue, a list of meters or losses, then a size list.
 // Bytes that are not such give an empty line.
 use crate::jobs;
 use crate::print;
@@ -62,6 +62,8 @@ fn call(
         b'd' => duty(job, out),
         b'm' => meter(job, second, out),
         b'p' => rate(job, second, list, out),
+        b'e' => losses(job, second, list, out),
+        b'h' => heads(job, second, out),
         b's' => sheet(job, length, out),
         b'l' | b'k' => choose(letter, fill, length, job, second, out),
         _ => {}
@@ -98,6 +100,16 @@ fn meter(record: &[u8], meters: &[u8], out: &mut [u8]) {
 
 fn rate(record: &[u8], catalogue: &[u8], list: &[u8], out: &mut [u8]) {
     let answer = rating::rate(record, catalogue, list, out);
+    print::given(answer, out);
+}
+
+fn losses(record: &[u8], catalogue: &[u8], list: &[u8], out: &mut [u8]) {
+    let answer = rating::losses(record, catalogue, list, out);
+    print::given(answer, out);
+}
+
+fn heads(record: &[u8], losses: &[u8], out: &mut [u8]) {
+    let answer = given_losses::heads(record, losses, out);
     print::given(answer, out);
 }
 

@@ -7,10 +7,11 @@ use Rattle.rated_bytes.proofs.section_bytes.Tie as tie
 
 returns : tie.Need-returns
 unfolding bytesOf
-returns c = rw (c .before .bytes16 .ensures, c .bytes32 .ensures)
+returns c = rw (c .before .before .bytes32 .ensures, c .before .bytes16 .ensures, c .bytes322 .ensures)
 
 pub section-bytes-spec : {M : Type 1} → statement M
 section-bytes-spec =
     tie.close
-    (tie.spec (λ c. search needs) (λ c κs. search needs) (λ c κs. search needs) (λ c. search needs) (λ c. search needs)
-    (λ c. search needs) (λ c. search needs) (λ c. search needs) (λ c. search needs) returns)
+    (tie.spec (λ c κs. search needs) (λ c. search needs) (λ c κs. search needs) (λ c κs. search needs) (λ c. search needs) (λ c. search needs)
+    (λ c. search needs) (λ c. search needs) (λ c. search needs) (λ c. search needs) (λ c. search needs) (λ c. search needs) (λ c. search needs)
+    (λ c. search needs) returns)

@@ -1,8 +1,11 @@
 -- `rated_text::put_text` meets its contract.
 -- Assumes nothing.
 use mathlib.Core.Path.{_≡_, ap, sym, _∙_}
+use Prim.Native.Nat.{_+_, _*_}
 use native.Mathlib.Omega.{arith}
 use borrow.Author.Needs.{needs}
+use Rattle.fields.specs.Fields.{countOf}
+use Rattle.record.specs.Record.{decode}
 use Rattle.rating.specs.Calls.{rateNo}
 use Rattle.rating.specs.Contracts.{RatedJob}
 use Rattle.rating.proofs.Rated.{rated-given}
@@ -34,7 +37,8 @@ none c = sym (found (c .before)) ∙ c .if1 .left
 done : (c : tie.Else1) →
     let start = c .before .before .before .before .before .before .before in
     let r = c .before .before .outcome .result in
-    RatedJob (start .args .b .now) (start .args .cat .now) (start .args .list .now) 387 (r .job) (r .velocities) (r .losses)
+    RatedJob (start .args .b .now) (start .args .cat .now) (start .args .list .now) 387 (9 + 6 * countOf (decode (start .args .b .now))) (r .job)
+    (r .flows) (r .velocities) (r .losses)
 done c = c .before .before .outcome .ensures .1 .0 (c .before .before .outcome .ensures .0 ∙ none c)
 
 put-rated-requires : tie.Need-put-rated-requires

@@ -102,7 +102,7 @@ loop-again c =
 
 returns-2 : tie.Need-returns-2 Inv-loop μ-loop
 returns-2 c =
-    let end = upto-end _ _ _ (c .before .loop .inv .2) (omega arith) in (sym (end .0), λ z. end .1)
+    let end = upto-end _ _ _ (c .before .before .flows .ensures) (c .before .loop .inv .2) (omega arith) in (sym (end .0), λ z. end .1)
 
 pub rate-sections-spec : {M : Type 1} → statement M
 rate-sections-spec =

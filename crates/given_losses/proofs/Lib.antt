@@ -1,0 +1,3 @@
+pub mod Listed
+pub mod Ordering
+pub mod Placed
