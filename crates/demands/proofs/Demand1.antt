@@ -16,10 +16,11 @@ use Rattle.catalogue.specs.Rules.{catChecks}
 use Rattle.acceptance.specs.Acceptance.{jobChecks, inputChecks}
 use Rattle.flow.specs.Calls.{flowNo, dutyNo}
 use Rattle.metering.specs.Calls.{meterNo}
-use Rattle.rating.specs.Calls.{rateChecks, rateNo}
+use Rattle.rating.specs.Calls.{sizedChecks, sizedNo}
+use Rattle.given_losses.specs.Calls.{headsNo}
 use Rattle.choosing.specs.Calls.{chooseChecks, chooseNo, Chosen}
 use Rattle.order.specs.Promises.{Gives}
-use Rattle.demands.specs.Demand1.{Call, Read, Write, Copy, Flow, Duty, Meter, Rate, Choose, numbersOf, Among, Called, read, written, copied, flow-given, duty-given, meter-given, rated, chosen, Answered, Demand1}
+use Rattle.demands.specs.Demand1.{Call, Read, Write, Copy, Flow, Duty, Meter, Rate, Losses, Heads, Choose, numbersOf, Among, Called, read, written, copied, flow-given, duty-given, meter-given, rated, losses-given, heads-given, chosen, Answered, Demand1}
 
 -- the numbers of a list of checks
 numbers : List (Bool × ℕ) → List ℕ
@@ -78,7 +79,7 @@ chosen-answered {b} {cat} {out₀} {work₀} {out} {work} {n} c =
 
 answered : {call : Call} {out₀ out work₀ work : List ℕ} {n : ℕ} → Called call out₀ out work₀ work n → Answered call out₀ out work₀ work n
 unfolding
-    numbers readNo writeNo writeChecks copyNo copyChecks flowNo dutyNo meterNo rateNo rateChecks
+    numbers readNo writeNo writeChecks copyNo copyChecks flowNo dutyNo meterNo sizedNo sizedChecks headsNo
     inputChecks jobChecks readChecks shapeChecks fieldChecks demandChecks catChecks
 answered (read b e) = checked Read (readChecks b) refl e (λ other. refl)
 answered (written job g) = gives-answered Write _ refl g
@@ -87,6 +88,8 @@ answered (flow-given job g) = gives-answered Flow _ refl g
 answered (duty-given job g) = gives-answered Duty _ refl g
 answered (meter-given job meters g) = gives-answered Meter _ refl g
 answered (rated job cat sizes g) = gives-answered Rate _ refl g
+answered (losses-given job cat sizes g) = gives-answered Losses _ refl g
+answered (heads-given job losses g) = gives-answered Heads _ refl g
 answered (chosen job cat c) = chosen-answered c
 
 pub demand-1 : Demand1

@@ -1,8 +1,11 @@
 pub mod Demand1
 mod Flows
+mod Heads
+mod Lowest
 mod Ratings
 pub mod Demand2
 pub mod Demand3
 pub mod Metering
 pub mod OneTap
+pub mod InTurn
 pub mod Worked

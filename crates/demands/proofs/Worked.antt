@@ -10,14 +10,14 @@ use lib.IntN.{pos}
 use lib.ListN.{length}
 use lib.Signed.{leZ}
 use Rattle.basis.specs.Sections.{pathFrom, pathOf}
-use Rattle.basis.specs.Range.{sumTo, mostTo, allTo, anyTo, lowestTo}
+use Rattle.basis.specs.Range.{sumTo, mostTo, allTo, anyTo, lowestTo, concatTo}
 use Rattle.basis.specs.Round.{up, line}
 use Rattle.basis.specs.Slots.{tabulate, slots}
 use Rattle.basis.specs.Stored.{stored}
 use Rattle.basis.proofs.Bools.{apart}
 use Rattle.basis.proofs.Split.{eq-or-ne}
 use Rattle.answer.specs.Checks.{firstNo}
-use Rattle.wire.specs.Wire.{beAt, bytesOf, signedOf}
+use Rattle.wire.specs.Wire.{beAt, bytesOf, bitsOf, signedOf}
 use Rattle.record.specs.Record.{headerAt, residentsAt, sectionFrom, decode}
 use Rattle.tree.specs.Tree.{parentOf, reaches, below, ownOf, servedOf, houseOf}
 use Rattle.rules.specs.Rules.{headerOk, kindOk, elevationOk, sectionOk, sectionsOk, childless, childlessZero, unmatched, fieldChecks}
@@ -38,7 +38,10 @@ use Rattle.acceptance.specs.Acceptance.{inputChecks}
 use Rattle.flow.specs.Calls.{flowNo, dutyNo}
 use Rattle.meters.specs.Meters.{meterAt, meterOk, metersOk, meterLoss, mostLoss, qualifies, noneQualifies, leastAt, winnerOf}
 use Rattle.metering.specs.Calls.{meteredRecord, meterBytes, meterNo}
-use Rattle.rating.specs.Calls.{rateChecks, rateNo}
+use Rattle.rated_bytes.specs.RatedBytes.{headsBytes, sectionsBytes}
+use Rattle.rating.specs.Calls.{sizedChecks, sizedNo, lossesBytes}
+use Rattle.given_losses.specs.Losses.{lossIn, lossesOk}
+use Rattle.given_losses.specs.Calls.{headsNo}
 use Rattle.sizing.proofs.Named.{list-long, list-names}
 use Rattle.acceptance.proofs.Accepting.{input-cat}
 use Rattle.choosing.specs.Suitable.{Suitable, priceAt, costOf}
@@ -116,7 +119,7 @@ module _ {out₀ work₀ : List ℕ} where
 
 -- the rest is computed too, but for the statements over every list and over the call
 pub own-case : OwnCase
-unfolding computed dayNorms hourlySumOf hourOf dayOf meanOf clamped pumpAt lowestTo dictatingOf copyChecks copyNo flowNo dutyNo meterAt meterOk metersOk meterLoss mostLoss qualifies noneQualifies leastAt winnerOf stored meteredRecord meterBytes meterNo inputChecks rateChecks rateNo chooseChecks chooseNo
+unfolding computed dayNorms hourlySumOf hourOf dayOf meanOf clamped pumpAt lowestTo dictatingOf copyChecks copyNo flowNo dutyNo meterAt meterOk metersOk meterLoss mostLoss qualifies noneQualifies leastAt winnerOf stored meteredRecord meterBytes meterNo inputChecks sizedChecks sizedNo bitsOf concatTo headsBytes sectionsBytes lossesBytes lossIn lossesOk headsNo chooseChecks chooseNo
 own-case =
     record {
       job = computed .own;
@@ -151,6 +154,18 @@ own-case =
       dictating = refl;
       fast = refl;
       refused = refl;
+      losses-given = refl;
+      losses-bytes = refl;
+      losses-room = refl;
+      losses-over = refl;
+      heads-given = refl;
+      heads-bytes = refl;
+      no-loss = refl;
+      no-loss-bytes = refl;
+      most-loss = refl;
+      over-loss = refl;
+      losses-list = refl;
+      heads-room = refl;
       job-921 = computed .accepted-921;
       suits-921 = computed .suits;
       cost-921 = refl;

@@ -12,11 +12,11 @@ use Rattle.fields.specs.declared.Job.{Job}
 use Rattle.record.specs.Record.{encode}
 use Rattle.job.specs.Calls.{readNo, writeNo}
 use Rattle.choosing.specs.Calls.{Chosen}
-use Rattle.order.specs.Promises.{Gives, Copied, FlowGiven, DutyGiven, MeterGiven, Rated}
+use Rattle.order.specs.Promises.{Gives, Copied, FlowGiven, DutyGiven, MeterGiven, Rated, LossesGiven, HeadsGiven}
 
 -- the reader and the writer of a record, and the exported calls
 pub data Call : Type 0 where
-  Read Write Copy Flow Duty Meter Rate Choose : Call
+  Read Write Copy Flow Duty Meter Rate Losses Heads Choose : Call
 
 -- the numbers of the table, 17 and on of document 02, that a call can give, in the order of its checks
 abbrev pub numbersOf : Call → List ℕ
@@ -27,6 +27,8 @@ numbersOf Flow = 1 ∷ 2 ∷ 3 ∷ 4 ∷ 5 ∷ 6 ∷ 7 ∷ 8 ∷ 9 ∷ 14 ∷ []
 numbersOf Duty = 1 ∷ 2 ∷ 3 ∷ 4 ∷ 5 ∷ 6 ∷ 7 ∷ 8 ∷ 9 ∷ 14 ∷ []
 numbersOf Meter = 1 ∷ 2 ∷ 3 ∷ 4 ∷ 5 ∷ 6 ∷ 7 ∷ 8 ∷ 9 ∷ 17 ∷ 14 ∷ 18 ∷ []
 numbersOf Rate = 1 ∷ 2 ∷ 3 ∷ 4 ∷ 5 ∷ 6 ∷ 7 ∷ 8 ∷ 9 ∷ 10 ∷ 11 ∷ 12 ∷ 14 ∷ 13 ∷ []
+numbersOf Losses = 1 ∷ 2 ∷ 3 ∷ 4 ∷ 5 ∷ 6 ∷ 7 ∷ 8 ∷ 9 ∷ 10 ∷ 11 ∷ 12 ∷ 14 ∷ 13 ∷ []
+numbersOf Heads = 1 ∷ 2 ∷ 3 ∷ 4 ∷ 5 ∷ 6 ∷ 7 ∷ 8 ∷ 9 ∷ 19 ∷ 14 ∷ []
 numbersOf Choose = 1 ∷ 2 ∷ 3 ∷ 4 ∷ 5 ∷ 6 ∷ 7 ∷ 8 ∷ 9 ∷ 10 ∷ 11 ∷ 14 ∷ 15 ∷ 16 ∷ []
 
 -- n is one of them
@@ -43,6 +45,8 @@ pub data Called : Call → List ℕ → List ℕ → List ℕ → List ℕ → �
   duty-given : {out₀ out : List ℕ} {n : ℕ} (job : List ℕ) → DutyGiven job out₀ out n → Called Duty out₀ out [] [] n
   meter-given : {out₀ out : List ℕ} {n : ℕ} (job meters : List ℕ) → MeterGiven job meters out₀ out n → Called Meter out₀ out [] [] n
   rated : {out₀ out : List ℕ} {n : ℕ} (job cat sizes : List ℕ) → Rated job cat sizes out₀ out n → Called Rate out₀ out [] [] n
+  losses-given : {out₀ out : List ℕ} {n : ℕ} (job cat sizes : List ℕ) → LossesGiven job cat sizes out₀ out n → Called Losses out₀ out [] [] n
+  heads-given : {out₀ out : List ℕ} {n : ℕ} (job losses : List ℕ) → HeadsGiven job losses out₀ out n → Called Heads out₀ out [] [] n
   chosen : {out₀ out work₀ work : List ℕ} {n : ℕ} (job cat : List ℕ) → Chosen job cat out₀ work₀ out work n → Called Choose out₀ out work₀ work n
 
 -- what it then gave: a result, or a number from the table with the result buffer untouched, and the workspace too but for 16

@@ -3,4 +3,5 @@ pub mod Demand2
 pub mod Demand3
 pub mod Metering
 pub mod OneTap
+pub mod InTurn
 pub mod OwnCase

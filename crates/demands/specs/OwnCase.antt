@@ -17,7 +17,8 @@ use Rattle.job.specs.Calls.{copyNo}
 use Rattle.flow.specs.Calls.{flowNo, dutyNo}
 use Rattle.meters.specs.Meters.{meterAt, meterLoss}
 use Rattle.metering.specs.Calls.{placeFor, meterBytes, meterNo}
-use Rattle.rating.specs.Calls.{rateNo}
+use Rattle.rating.specs.Calls.{rateNo, lossesNo, lossesBytes}
+use Rattle.given_losses.specs.Calls.{headsNo, givenBytes}
 use Rattle.choosing.specs.Suitable.{Suitable, costOf}
 use Rattle.choosing.specs.Calls.{Ample, chooseNo, Chosen}
 
@@ -52,6 +53,10 @@ metersOf low = 2 ∷ 23 ∷ 50 ∷ 2 ∷ low ∷ 1 ∷ 23 ∷ 112 ∷ 2 ∷ low 
 -- two vane meters of resistance 2 and 1, service flow 740
 abbrev pub equalMeters : List ℕ
 equalMeters = 1 ∷ 0 ∷ 2 ∷ 2 ∷ 228 ∷ 1 ∷ 0 ∷ 1 ∷ 2 ∷ 228 ∷ []
+
+-- one loss of less than 65,536 cm
+abbrev pub lossAlone : ℕ → ℕ → List ℕ
+lossAlone high low = 0 ∷ 0 ∷ high ∷ low ∷ []
 
 -- document 01's figures of its own case, and what each call gives there
 pub record OwnCase : Type 0 where
@@ -114,6 +119,21 @@ pub record OwnCase : Type 0 where
   pub fast : readingOf (decode ownJob) ownCat 1 1 .velocity ≡ 1642
   -- so rating gives 13
   pub refused : rateNo ownJob ownCat (1 ∷ []) 15 ≡ 13
+  -- document 02, L3: ten bytes are enough for the losses, and they are the flow, the velocity and the loss; nine and 13 as in rating
+  pub losses-given : lossesNo ownJob ownCat (2 ∷ []) 10 ≡ 0
+  pub losses-bytes : lossesBytes (decode ownJob) ownCat (2 ∷ []) ≡ 0 ∷ 0 ∷ 8 ∷ 4 ∷ 4 ∷ 2 ∷ 0 ∷ 0 ∷ 0 ∷ 71 ∷ []
+  pub losses-room : lossesNo ownJob ownCat (1 ∷ []) 9 ≡ 14
+  pub losses-over : lossesNo ownJob ownCat (1 ∷ []) 10 ≡ 13
+  -- the heads of that loss are the rating's, 921, 421 and section 1; those of no loss are 850, 350 and section 1
+  pub heads-given : headsNo ownJob (lossAlone 0 71) 9 ≡ 0
+  pub heads-bytes : givenBytes (decode ownJob) (lossAlone 0 71) ≡ 0 ∷ 0 ∷ 3 ∷ 153 ∷ 0 ∷ 0 ∷ 1 ∷ 165 ∷ 1 ∷ []
+  pub no-loss : headsNo ownJob (lossAlone 0 0) 9 ≡ 0
+  pub no-loss-bytes : givenBytes (decode ownJob) (lossAlone 0 0) ≡ 0 ∷ 0 ∷ 3 ∷ 82 ∷ 0 ∷ 0 ∷ 1 ∷ 94 ∷ 1 ∷ []
+  -- 4,259,775 cm are taken and one more is not; five bytes are no list, which is found before the room
+  pub most-loss : headsNo ownJob (0 ∷ 64 ∷ 255 ∷ 191 ∷ []) 9 ≡ 0
+  pub over-loss : headsNo ownJob (0 ∷ 64 ∷ 255 ∷ 192 ∷ []) 9 ≡ 19
+  pub losses-list : headsNo ownJob (0 ∷ lossAlone 0 71) 8 ≡ 19
+  pub heads-room : headsNo ownJob (lossAlone 0 71) 8 ≡ 14
   -- the job with H 921 is accepted
   pub job-921 : jobNo job921 ≡ 0
   -- size 2 suits it

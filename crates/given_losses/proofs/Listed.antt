@@ -6,10 +6,10 @@ use mathlib.Core.List.{List}
 use Prim.Native.Nat.{ℕ, _*_, _≤_, _<_}
 use lib.ListN.{length}
 use lib.Dec.{leb, eqb}
-use borrow.Author.Tests.{eq-eqb, ne-eqb, eqb-true, lt-leb, leb-true}
+use borrow.Author.Tests.{eq-eqb, ne-eqb, eqb-true, le-leb, lt-leb, leb-true}
 use Rattle.basis.specs.Range.{allTo}
 use Rattle.basis.proofs.Bools.{left}
-use Rattle.basis.proofs.Each.{all-at, all-false}
+use Rattle.basis.proofs.Each.{all-at, all-each, all-false}
 use Rattle.given_losses.specs.Losses.{lossIn, lossesOk}
 
 module _ (count : ℕ) (losses : List ℕ) where
@@ -21,6 +21,11 @@ module _ (count : ℕ) (losses : List ℕ) where
     pub losses-all : lossesOk count losses ≡ allTo count (λ i. leb (lossIn losses i) 4259775)
     unfolding lossesOk
     losses-all = rw (eq-eqb (length losses) (4 * count) long)
+
+    pub losses-pass : ((i : ℕ) → 0 < i → i ≤ count → lossIn losses i ≤ 4259775) → lossesOk count losses ≡ true
+    losses-pass top =
+        losses-all ∙
+        all-each count (λ i. leb (lossIn losses i) 4259775) (λ i low high. le-leb (lossIn losses i) 4259775 (top i low high))
 
     pub one-over : (i : ℕ) → 0 < i → i ≤ count → 4259775 < lossIn losses i → lossesOk count losses ≡ false
     one-over i low high h =

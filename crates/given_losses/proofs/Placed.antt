@@ -16,8 +16,8 @@ use Rattle.rated_bytes.specs.RatedBytes.{headsBytes}
 use Rattle.rated_bytes.proofs.Same.{heads-same}
 
 module _ (job : Job) (accepted : Accepted job) (loss : ℕ → ℕ) {at : List ℕ} (placed : at ≡ slots 64 1 (countOf job + 1) 0 loss) where
-  loss-at : (i : ℕ) → 0 < i → i ≤ countOf job → getD at i 0 ≡ loss i
-  loss-at i low high =
+  pub placed-at : (i : ℕ) → 0 < i → i ≤ countOf job → getD at i 0 ≡ loss i
+  placed-at i low high =
       let few = valid-count (accepted .valid) .high in
       rw placed (slots-in 64 1 (countOf job + 1) 0 loss i 0 (omega arith) (omega arith) (omega arith))
 
@@ -26,8 +26,8 @@ module _ (job : Job) (accepted : Accepted job) (loss : ℕ → ℕ) {at : List �
       record {
         header = accepted .valid .header;
         sections = valid-sections (accepted .valid);
-        top = λ i low high. rw (loss-at i low high) (top i low high);
+        top = λ i low high. rw (placed-at i low high) (top i low high);
       }
 
   pub given-bytes : headsBytes job (λ i. getD at i 0) ≡ headsBytes job loss
-  given-bytes = heads-same job (valid-rooted (accepted .valid)) (valid-count (accepted .valid) .low) (λ i. getD at i 0) loss loss-at
+  given-bytes = heads-same job (valid-rooted (accepted .valid)) (valid-count (accepted .valid) .low) (λ i. getD at i 0) loss placed-at

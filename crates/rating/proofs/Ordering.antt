@@ -1,9 +1,11 @@
 -- The number of the rating call and of the losses call, each check after those before it, for a result of any length.
 -- Assumes nothing.
-use mathlib.Core.Path.{_≡_, _∙_}
+use mathlib.Core.Path.{_≡_, sym, _∙_}
+use mathlib.Core.Logic.{⊎-elim}
 use mathlib.Core.Bool.{true, false, not}
 use mathlib.Core.List.{List, [], _∷_}
 use Prim.Native.Nat.{ℕ, _≤_, _<_}
+use Rattle.basis.proofs.Split.{either, eq-or-ne}
 use Rattle.answer.specs.Checks.{firstNo, tooShort}
 use Rattle.answer.proofs.First.{first-none, first-found, first-next, short-found, short-next}
 use Rattle.record.specs.Record.{decode}
@@ -39,3 +41,18 @@ module _ (b cat list : List ℕ) (room long : ℕ) where
 
         pub sized-done : overAny (decode b) cat list ≡ false → sizedNo b cat list room long ≡ 0
         sized-done e = over ∙ first-next 13 [] e ∙ first-none
+
+-- results of other lengths, where there is room for both, get the same number
+pub sized-same : (b cat list : List ℕ) (room long room′ long′ : ℕ) → (inputNo b cat ≡ 0 → long ≤ room) → (inputNo b cat ≡ 0 → long′ ≤ room′) →
+    sizedNo b cat list room long ≡ sizedNo b cat list room′ long′
+sized-same b cat list room long room′ long′ fits fits′ =
+    ⊎-elim
+    (λ none. ⊎-elim
+    (λ named. ⊎-elim
+    (λ over. sized-over b cat list room long none named (fits none) over ∙ sym (sized-over b cat list room′ long′ none named (fits′ none) over))
+    (λ under. sized-done b cat list room long none named (fits none) under ∙ sym (sized-done b cat list room′ long′ none named (fits′ none) under))
+    (either (overAny (decode b) cat list)))
+    (λ other. sized-list b cat list room long none other ∙ sym (sized-list b cat list room′ long′ none other))
+    (either (listOk (decode b) cat list)))
+    (λ some. sized-inputs b cat list room long some ∙ sym (sized-inputs b cat list room′ long′ some))
+    (eq-or-ne (inputNo b cat) 0)
