@@ -5,7 +5,8 @@ use mathlib.Core.Bool.{true}
 use mathlib.Core.List.{List, [], append-nil}
 use Prim.Native.Nat.{ℕ, _+_, _-_, _*_, _≤_, _<_}
 use native.Mathlib.Omega.{arith}
-use lib.ListN.{length}
+use lib.ListN.{length, drop}
+use Rattle.basis.specs.Part.{part}
 use Rattle.basis.specs.Range.{concatTo}
 use Rattle.basis.specs.Round.{up}
 use Rattle.basis.proofs.Concat.{concat-ext, concat-length, concat-part}
@@ -36,7 +37,9 @@ use Rattle.demands.proofs.Ratings.{passed-job, table-top, losses-small,
 module _ (b cat sizes out₀ out : List ℕ) (bytes : Bytes cat) (g : LossesGiven b cat sizes out₀ out 0) where
   gathered-is : gathered (countOf (decode b)) out ≡ concatTo (countOf (decode b)) (λ i. bytesOf 4 (lossesOf (decode b) cat sizes i))
   unfolding gathered
-  gathered-is = concat-ext (countOf (decode b)) _ _ (λ i h k. losses-bytes b cat sizes out₀ out bytes g i h k)
+  gathered-is =
+      concat-ext (countOf (decode b)) (λ i. drop 6 (part out (10 * (i - 1)) 10)) (λ i. bytesOf 4 (lossesOf (decode b) cat sizes i))
+      (λ i h k. losses-bytes b cat sizes out₀ out bytes g i h k)
 
   gathered-long : length (gathered (countOf (decode b)) out) ≡ 4 * countOf (decode b)
   gathered-long = rw gathered-is (concat-length 4 (λ i. bytesOf 4 (lossesOf (decode b) cat sizes i)) (λ i. bytes-length 4 _) (countOf (decode b)))

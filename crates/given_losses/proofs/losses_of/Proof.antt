@@ -2,13 +2,14 @@
 -- Assumes nothing.
 use mathlib.Core.Path.{_≡_, refl, sym, ap, _∙_}
 use mathlib.Core.Bool.{true}
-use Prim.Native.Nat.{_+_, _-_, _*_, _≤_, _<_}
+use mathlib.Core.List.{List}
+use Prim.Native.Nat.{ℕ, _+_, _-_, _*_, _≤_, _<_}
 use native.Mathlib.Nat.{add-sub-cancel}
 use native.Mathlib.Omega.{arith}
 use borrow.Author.Needs.{needs}
 use borrow.Author.Tests.{le-leb}
 use lib.Dec.{leb}
-use lib.ListN.{length}
+use lib.ListN.{length, set}
 use Rattle.basis.specs.Range.{allTo}
 use Rattle.basis.specs.Slots.{slots}
 use Rattle.basis.proofs.Bools.{apart}
@@ -42,7 +43,7 @@ returns-2 : tie.Need-returns-2 Inv-loop μ-loop
 returns-2 c =
     let read-at = c .before in
     let at = read-at .before .before in
-    (sym (one-over _ _ (long (at .before)) (at .loop .i) (omega arith) (omega arith) (rw (← read read-at) (c .if2 .taken))), λ z. absurd (apart z refl))
+    (sym (one-over _ _ (long (at .before)) (at .loop .i) (omega arith) (omega arith) (rw (← read read-at) (omega arith))), λ z. absurd (apart z refl))
 
 loop-again : tie.Need-loop-again Inv-loop μ-loop
 loop-again c =
@@ -53,7 +54,9 @@ loop-again c =
       omega arith,
       omega arith,
       rw (add-sub-cancel i 1) (all-more (i - 1) i (λ j. leb (lossIn given j) 4259775) (omega arith) (at .loop .inv .2) (le-leb (lossIn given i) 4259775 small)),
-      rw (read (c .before), at .loop .inv .3) (slots-more 64 1 i 0 (lossIn given) (omega arith) (omega arith)),
+      ap (set (at .loop .at) i) (read (c .before)) ∙
+          ap (λ (l : List ℕ). set l i (lossIn given i)) (at .loop .inv .3) ∙
+          slots-more 64 1 i 0 (lossIn given) (omega arith) (omega arith),
     )
 
 returns-3 : tie.Need-returns-3 Inv-loop μ-loop

@@ -1,6 +1,6 @@
 -- `rated_bytes::put_sections` meets its contract: after the sections below i, their bytes stand in the buffer.
 -- Assumes nothing.
-use mathlib.Core.Path.{_≡_, _∙_}
+use mathlib.Core.Path.{_≡_, refl, _∙_}
 use mathlib.Core.List.{_++_}
 use Prim.Native.Nat.{ℕ, _+_, _-_, _*_, _≤_, _<_}
 use native.Mathlib.Nat.{mul-le-mul}
@@ -62,7 +62,7 @@ loop-again c =
       omega arith,
       omega arith,
       running-more (10 - start .args .skip) (λ i. rest-length _ _ _ _) (at .loop .inv .2) (omega arith) (room (made .before))
-          (put .put .ensures ∙ rw (rest-part _ _ _ _ (made .section-bytes .ensures))),
+          (put .put .ensures ∙ rw (rest-part _ _ _ _ (made .section-bytes .ensures)) refl),
     )
 
 returns : tie.Need-returns Inv-loop μ-loop
