@@ -477,7 +477,7 @@ def rate_lines(parts):
         return answer
     heads, sections = rating.figures(*rest)
     return answer + [words("heads", heads)] + [
-        words("rated", (i,) + each) for i, each in enumerate(sections, start=1)]
+        words("rated", (i,) + each[1:]) for i, each in enumerate(sections, start=1)]
 
 
 def rate_parts(data):

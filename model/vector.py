@@ -1,6 +1,6 @@
 """What the vectors of all calls have in common."""
 
-from typing import Callable, Iterable, NamedTuple, Optional, Union
+from typing import Callable, NamedTuple, Optional, Union
 
 
 class Vector(NamedTuple):
@@ -16,7 +16,7 @@ class Parts(NamedTuple):
     """What stands in a line of the input."""
     room: int            # the length of the result buffer
     first: bytes         # most often the job
-    second: bytes = b""  # the catalogue, or the list of meters
+    second: bytes = b""  # the catalogue, the list of meters or the losses
     third: bytes = b""   # the size list
     fill: int = 0xa5     # the byte that fills the buffer, and the workspace
     length: int = 0      # of the workspace, or the zero bytes behind a sheet's input
