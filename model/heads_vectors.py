@@ -11,7 +11,7 @@ from flow_vectors import end, flow_broken, random_house
 from houses import INNER, TWO_ENDS, chain, greedy, star, under
 from losses_vectors import OWN_BYTES
 from rating_vectors import ends, low, random_measures, random_parts, tree
-from vector import Call, Parts, Vector, buffer_bytes, buffer_line, listed, room_of, words
+from vector import Call, Vector, buffer_line, lent, listed, room_of, stored_by, words
 
 # "one is over 4,259,775 cm"
 MOST = 4_259_775
@@ -22,9 +22,9 @@ def given(*lost):
     return b"".join(each.to_bytes(4, "big") for each in lost)
 
 
-def heading(name, expect, lent, record=OWN, room=9, holds=None, lines=None):
+def heading(name, expect, lost, record=OWN, room=9, holds=None, lines=None):
     """A vector for the heads call; the room is that of the result unless given."""
-    return Vector(name, (room.to_bytes(2, "big"), record, lent), expect, holds, "h", lines)
+    return Vector(name, (room.to_bytes(2, "big"), record, lost), expect, holds, "h", lines)
 
 
 def headed(name, figures, *lost, **parts):
@@ -32,9 +32,9 @@ def headed(name, figures, *lost, **parts):
     return heading(name, 0, given(*lost), holds=set(), lines=[words("heads", figures)], **parts)
 
 
-def refused(name, number, lent, **parts):
+def refused(name, number, lost, **parts):
     """A vector that one condition refuses."""
-    return heading(name, number, lent, holds={number}, **parts)
+    return heading(name, number, lost, holds={number}, **parts)
 
 
 # The own case: meter loss 50, elevation 600 and free head 200 are 850, and G is 500
@@ -76,8 +76,8 @@ def anybodys():
 # Rooms: 9 bytes, however many sections
 
 def rooms():
-    three = {"record": greedy(), "lent": given(1242, 86, 143)}
-    many = {"record": chain(63), "lent": given(*[1] * 63)}
+    three = {"record": greedy(), "lost": given(1242, 86, 143)}
+    many = {"record": chain(63), "lost": given(*[1] * 63)}
     return [
         heading("own case, room 9", 0, given(71), holds=set(), lines=["heads 0 " + OWN_HEADS]),
         heading("own case, room 8", 14, given(71), room=8, holds={14},
@@ -320,7 +320,7 @@ def refusals():
     return [
         refused("length field 51", 1, given(71), record=head(OWN, stated=51)),
         heading("S 64 in its length", 3, given(*[71] * 64), record=star(64)),
-        refused("S 2 where one section stands", 4, given(71, 71), record=head(OWN, S=2)),
+        heading("S 2 where one section stands", 4, given(71, 71), record=head(OWN, S=2)),
         refused("hour sum 400100000", 8, given(71), record=house([end(8, 4001)], {8: 4001})),
         refused("own case, 18 fixtures: m and hour sum over", 9, given(71),
                 record=section(OWN, 1, fixtures=18)),
@@ -373,22 +373,12 @@ GROUPS = [
 # The answers
 
 def heads_lines(parts):
-    room, record, lent = parts
-    number, result = heads.heads(record, lent, room_of(room))
+    room, record, lost = parts
+    number, result = heads.heads(record, lost, room_of(room))
     answer = [buffer_line("heads", (number, result), room_of(room))]
     if number != 0:
         return answer
-    return answer + [words("heads", heads.figures(job.decode(record), heads.decode(lent)))]
+    return answer + [words("heads", heads.figures(job.decode(record), heads.decode(lost)))]
 
 
-def heads_parts(data):
-    room, record, lent = data
-    return Parts(room_of(room), record, lent)
-
-
-def heads_bytes(parts):
-    room, record, lent = parts
-    return buffer_bytes(heads.heads(record, lent, room_of(room)), room_of(room))
-
-
-CALLS = {"h": Call("heads", heads_parts, heads_lines, heads_bytes)}
+CALLS = {"h": Call("heads", lent, heads_lines, stored_by(heads.heads))}

@@ -11,8 +11,8 @@ from flow_vectors import BASINS_OVER_BATHS, BATHS_OVER_BASINS, bath_and, end
 from houses import INNER_AND_END, TWO_ENDS, chain, greedy, halving, star
 from rating_vectors import (ENDS_AT_299, ENDS_AT_300, GREEDY_SIZES, LEVEL, ORDER, SIZE_1, SIZES,
                             TAPPED, TWELVE, catalogue, low, many_rows, order_parts, pair,
-                            random_parts, rate_parts, rating_of, tree)
-from vector import Call, buffer_bytes, buffer_line, listed, room_of, words
+                            random_parts, rating_of, tree)
+from vector import Call, buffer_line, lent, listed, room_of, stored_by, words
 
 
 def exact_room(record):
@@ -290,9 +290,4 @@ def losses_lines(parts):
     return answer + [words("lost", (i,) + each) for i, each in enumerate(found, start=1)]
 
 
-def losses_bytes(parts):
-    room, *rest = parts
-    return buffer_bytes(losses.losses(*rest, room_of(room)), room_of(room))
-
-
-CALLS = {"e": Call("losses", rate_parts, losses_lines, losses_bytes)}
+CALLS = {"e": Call("losses", lent, losses_lines, stored_by(losses.losses))}

@@ -74,6 +74,20 @@ def buffer_bytes(outcome, room, fill=0xa5):
     return f"{number:08x} {buffer_after(result, room, fill).hex()}"
 
 
+def lent(data):
+    """The parts of data whose first is the room, in two bytes."""
+    room, *rest = data
+    return Parts(room_of(room), *rest)
+
+
+def stored_by(call):
+    """The answer in bytes to such data, by the model's call."""
+    def stored(data):
+        room, *rest = data
+        return buffer_bytes(call(*rest, room_of(room)), room_of(room))
+    return stored
+
+
 def words(name, values):
     return " ".join([name] + [str(value) for value in values])
 
