@@ -250,7 +250,9 @@ def order():
     """14 comes before 13; otherwise the least number is the answer, as of rating."""
     def parts(numbers):
         return dict(order_parts(numbers), room=19 if 14 in numbers else 20)
-    return [losing(listed(each), min(each), holds=each, **parts(each)) for each in ORDER] + [
+    of_the_job = [{number, number + 1} for number in range(1, 9)]
+    return [losing(listed(each), min(each), holds=each, **parts(each))
+            for each in ORDER + of_the_job] + [
         losing("13 and 14", 14, holds={13, 14}, **parts({13, 14})),
         losing("13 and 14, room 0", 14, holds={13, 14}, **dict(parts({13}), room=0)),
         losing("nothing lent at all", 1, record=b"", sizes=b"", numbers=[], room=0),

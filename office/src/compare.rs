@@ -178,7 +178,7 @@ fn chosen_well(judged: &Judged, least: i128, result: &[u8]) -> Result<(), String
 /// What is tried beside the case itself.
 fn try_more(case: &Case, judged: &Judged, counters: &mut Counters) -> Result<(), String> {
     match case.call {
-        Call::Rate => counters.note_in_turn(in_turn(case)?),
+        Call::Losses | Call::Rate => counters.note_in_turn(in_turn(case)?),
         Call::Choose => try_all(judged, counters)?,
         _ => {}
     }

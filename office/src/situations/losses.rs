@@ -18,7 +18,7 @@ impl Counters {
         }
     }
 
-    /// Counts a rating beside the two calls, which gave the same number or figures.
+    /// Counts parts for which rating and the two calls in turn gave this number, or the same figures.
     pub fn note_in_turn(&mut self, number: u32) {
         use Situation::*;
         self.saw(InTurn, number == 0);
@@ -123,6 +123,7 @@ mod tests {
         assert_eq!(given("00000000 000000", row(), lengths), [1, 0, 0, 0, 0, 0]);
         assert_eq!(given("00000000 00000000 00", row(), lengths), [0, 1, 0, 0, 0, 0]);
         assert_eq!(given("00000000", row(), lengths), [0, 0, 1, 0, 0, 0]);
+        assert_eq!(given("0040ffc0", row(), lengths), [0; 6]);
         assert_eq!(given("00000000 00000000 0040ffbf", row(), lengths), [0, 0, 0, 1, 0, 0]);
         assert_eq!(given("00000000 00000000 0040ffc0", row(), lengths), [0, 0, 0, 0, 0, 0]);
         assert_eq!(given(&"00000000".repeat(5), row(), lengths), [0, 0, 0, 0, 1, 0]);
