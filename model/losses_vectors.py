@@ -231,8 +231,6 @@ def own_losses():
              numbers=[2, 2]),
         losing("tree of 63, all kinds", 0, holds=set(), record=halving_house(), sizes=LEVEL,
                numbers=[1 + i % 3 for i in range(63)]),
-        losing("star of 63, the most fixtures", 8, holds={8}, record=star(63), sizes=LEVEL,
-               numbers=[1] * 63),
     ]
 
 
@@ -258,6 +256,8 @@ def order():
         losing("nothing lent at all", 1, record=b"", sizes=b"", numbers=[], room=0),
         losing("no job", 1, record=b"", room=10),
         losing("S 64 in its length", 3, record=star(64), numbers=[1] * 64, room=640),
+        refused("star of 63, the most residents", 8, record=star(63), sizes=LEVEL,
+                numbers=[1] * 63),
     ]
 
 
