@@ -6,10 +6,10 @@ use mathlib.Core.List.{List}
 use Prim.Native.Nat.{ℕ, _+_}
 use native.Mathlib.Omega.{arith}
 use borrow.Author.Needs.{needs}
-use borrow.Author.Tests.{eq-eqb, ne-eqb, not-true, not-false}
+use borrow.Author.Tests.{not-true, not-false}
 use Rattle.basis.specs.Slots.{slots}
 use Rattle.basis.specs.Stored.{stored}
-use Rattle.answer.specs.Answer.{numberOf}
+use Rattle.answer.proofs.Buffers.{refused, given}
 use Rattle.fields.specs.declared.Job.{Job}
 use Rattle.fields.specs.Fields.{countOf}
 use Rattle.record.specs.Record.{decode}
@@ -37,10 +37,9 @@ found : (c : tie.After-number) → c .number .result ≡ jobNo (record-of (c .be
 found c = c .number .ensures ∙ c .before .accept .ensures .0
 
 returns : tie.Need-returns
-returns c = (
-  c .before .before .accept .ensures .0 ∙ sym (heads-refused _ _ _ (λ e. c .if1 .taken (found (c .before) ∙ e))),
-  rw (ne-eqb (numberOf (c .before .before .accept .result .answer)) 0 (λ e. c .if1 .taken (c .before .number .ensures ∙ e))),
-)
+returns c =
+    let one = c .before .before in
+    refused _ _ (one .accept .ensures .0 ∙ sym (heads-refused _ _ _ (λ e. c .if1 .taken (found (c .before) ∙ e)))) (λ e. c .if1 .taken (c .before .number .ensures ∙ e))
 
 -- where the code goes on, the job is accepted
 passed : (c : tie.Else1) → jobNo (record-of (c .before .before)) ≡ 0
@@ -95,12 +94,9 @@ returns-4 c =
     let one = accepted-of (two .before .before) in
     let at = one .before .before in
     let bytes = given-bytes _ (accepted one) _ (placed two) ∙ ap (λ (job : Job). headsBytes job (lossIn (list-of at))) (fields one) in
-    let none = at .accept .ensures .0 ∙ passed one in (
-      none ∙ sym (heads-done _ _ _ (passed one) (listed two) (omega arith)),
-      put .put-heads .ensures ∙
-          ap (stored (at .before .before .before .before .args .out .now) 0) bytes ∙
-          rw (eq-eqb (numberOf (at .accept .result .answer)) 0 none),
-    )
+    let none = at .accept .ensures .0 ∙ passed one in
+    given _ _ (none ∙ sym (heads-done _ _ _ (passed one) (listed two) (omega arith))) none
+    (put .put-heads .ensures ∙ ap (stored (at .before .before .before .before .args .out .now) 0) bytes)
 
 pub heads-spec : {M : Type 1} → statement M
 heads-spec =

@@ -6,8 +6,8 @@ use mathlib.Core.List.{List}
 use Prim.Native.Nat.{ℕ, _≤_}
 use native.Mathlib.Omega.{arith}
 use borrow.Author.Needs.{needs}
-use borrow.Author.Tests.{eq-eqb, ne-eqb, not-true, not-false}
-use Rattle.answer.specs.Answer.{numberOf}
+use borrow.Author.Tests.{not-true, not-false}
+use Rattle.answer.proofs.Buffers.{refused, given}
 use Rattle.record.specs.Record.{decode}
 use Rattle.demand.specs.Demand.{houseFlow, meanOf}
 use Rattle.demand.proofs.DesignFlows.{house-flow-top}
@@ -34,10 +34,9 @@ found : (c : tie.After-number) → c .number .result ≡ jobNo (record-of (c .be
 found c = c .number .ensures ∙ c .before .accept .ensures .0
 
 returns : tie.Need-returns
-returns c = (
-  c .before .before .accept .ensures .0 ∙ sym (meter-refused _ _ _ (λ e. c .if1 .taken (found (c .before) ∙ e))),
-  rw (ne-eqb (numberOf (c .before .before .accept .result .answer)) 0 (λ e. c .if1 .taken (c .before .number .ensures ∙ e))),
-)
+returns c =
+    let one = c .before .before in
+    refused _ _ (one .accept .ensures .0 ∙ sym (meter-refused _ _ _ (λ e. c .if1 .taken (found (c .before) ∙ e)))) (λ e. c .if1 .taken (c .before .number .ensures ∙ e))
 
 -- where the code goes on, the job is accepted
 passed : (c : tie.Else1) → jobNo (record-of (c .before .before)) ≡ 0
@@ -120,11 +119,9 @@ returns-5 c =
     let won = lost .before .before in
     let at = won .before .before .before in
     let ok = accepted-of at in
-    let none = ok .before .before .accept .ensures .0 ∙ passed ok in (
-      none ∙ sym (meter-done _ _ _ (passed ok) (listed (at .before .before)) (omega arith) (some won)),
-      put .put-result .ensures ∙
-          rw (eq-eqb (numberOf (ok .before .before .accept .result .answer)) 0 none, place (won .before), loss lost),
-    )
+    let none = ok .before .before .accept .ensures .0 ∙ passed ok in
+    given _ _ (none ∙ sym (meter-done _ _ _ (passed ok) (listed (at .before .before)) (omega arith) (some won))) none
+    (put .put-result .ensures ∙ rw (place (won .before), loss lost))
 
 pub meter-spec : {M : Type 1} → statement M
 meter-spec =

@@ -6,14 +6,12 @@ use Prim.Native.Nat.{ℕ, _+_, _*_}
 use native.Mathlib.Nat.{zero-add}
 use native.Mathlib.Omega.{arith}
 use borrow.Author.Needs.{needs}
-use borrow.Author.Tests.{eq-eqb, ne-eqb}
-use lib.ListN.{length}
 use Rattle.answer.specs.Answer.{numberOf}
+use Rattle.answer.proofs.Buffers.{refused, given}
 use Rattle.fields.specs.Fields.{countOf}
 use Rattle.record.specs.Record.{decode}
 use Rattle.rated_bytes.specs.RatedBytes.{sectionsBytes}
 use Rattle.rating.specs.Calls.{sizedNo, lossesNo}
-use Rattle.rating.specs.Contracts.{RatedJob}
 use Rattle.rating.proofs.Rated.{velocity-thin, rated-count, rated-sections, rated-room}
 use Rattle.rating.proofs.call.losses.Statement.{statement}
 use Rattle.rating.proofs.call.losses.Tie as tie
@@ -23,26 +21,16 @@ counted : (b cat list : List ℕ) (room : ℕ) → sizedNo b cat list room (0 + 
 counted b cat list room = ap (sizedNo b cat list room) (zero-add (10 * countOf (decode b)))
 
 returns : tie.Need-returns
-returns c =
-    let found = c .before .before in (
-      found .outcome .ensures .0 ∙ counted _ _ _ _,
-      rw (ne-eqb (numberOf (found .outcome .result .answer)) 0 (λ e. c .if1 .taken (c .before .number .ensures ∙ e))),
-    )
+returns c = refused _ _ (c .before .before .outcome .ensures .0 ∙ counted _ _ _ _) (λ e. c .if1 .taken (c .before .number .ensures ∙ e))
 
--- where the code goes on, the number is 0 and the job is rated
+-- where the code goes on, the number is 0, so the job is rated
 none : (c : tie.Else1) → numberOf (c .before .before .outcome .result .answer) ≡ 0
 none c = sym (c .before .number .ensures) ∙ c .if1 .left
 
-done : (c : tie.Else1) →
-    let start = c .before .before .before .before .before .before .before in
-    let found = c .before .before .outcome .result in
-    RatedJob (start .args .b .now) (start .args .cat .now) (start .args .list .now) (length (start .args .out .now))
-    (0 + 10 * countOf (decode (start .args .b .now))) (found .job) (found .flows) (found .velocities) (found .losses)
-done c = c .before .before .outcome .ensures .1 .0 (none c)
-
 put-sections-requires : tie.Need-put-sections-requires
 put-sections-requires c κs =
-    let r = done (c .before .before .before .before .before) in
+    let one = c .before .before .before .before .before in
+    let r = one .before .before .outcome .ensures .1 .0 (none one) in
     (rated-count r .high, omega arith, rated-room r 0 10 refl, velocity-thin _ _ _ (r .at) (rated-count r .high))
 
 returns-2 : tie.Need-returns-2
@@ -50,10 +38,9 @@ unfolding sectionsBytes
 returns-2 c =
     let put = c .before .before in
     let one = put .before .before .before .before .before .before in
-    let r = done one in (
-      one .before .before .outcome .ensures .0 ∙ counted _ _ _ _,
-      put .put-sections .ensures ∙ rw (rated-sections r, r .fields, eq-eqb (numberOf (one .before .before .outcome .result .answer)) 0 (none one)),
-    )
+    let found = one .before .before .outcome in
+    let r = found .ensures .1 .0 (none one) in
+    given _ _ (found .ensures .0 ∙ counted _ _ _ _) (none one) (put .put-sections .ensures ∙ rw (rated-sections r, r .fields))
 
 pub losses-spec : {M : Type 1} → statement M
 losses-spec =
