@@ -5,7 +5,7 @@ use mathlib.Core.Bool.{true}
 use mathlib.Core.List.{List, [], append-nil}
 use Prim.Native.Nat.{ℕ, _+_, _-_, _*_, _≤_, _<_}
 use native.Mathlib.Omega.{arith}
-use lib.ListN.{length, drop}
+use lib.ListN.{length}
 use Rattle.basis.specs.Part.{part}
 use Rattle.basis.specs.Range.{concatTo}
 use Rattle.basis.specs.Round.{up}
@@ -28,7 +28,7 @@ use Rattle.given_losses.proofs.Listed.{losses-pass}
 use Rattle.given_losses.proofs.Ordering.{heads-done}
 use Rattle.order.specs.Promises.{Rated, LossesGiven, HeadsGiven}
 use Rattle.demands.specs.Demand2.{Bytes, HeadFigures, RateFigures, LossFigures}
-use Rattle.demands.specs.InTurn.{gathered, Enough, Called, SameFigures, Alike, InTurn}
+use Rattle.demands.specs.InTurn.{gathered, Enough, ThreeCalls, SameFigures, Alike, InTurn}
 use Rattle.demands.proofs.Heads.{heads-figures}
 use Rattle.demands.proofs.Lowest.{lowest}
 use Rattle.demands.proofs.Ratings.{passed-job, table-top, losses-small, losses-rateable, losses-bytes, rate-figures, losses-figures}
@@ -38,7 +38,7 @@ module _ (b cat sizes out₀ out : List ℕ) (bytes : Bytes cat) (g : LossesGive
   gathered-is : gathered (countOf (decode b)) out ≡ concatTo (countOf (decode b)) (λ i. bytesOf 4 (lossesOf (decode b) cat sizes i))
   unfolding gathered
   gathered-is =
-      concat-ext (countOf (decode b)) (λ i. drop 6 (part out (10 * (i - 1)) 10)) (λ i. bytesOf 4 (lossesOf (decode b) cat sizes i))
+      concat-ext (countOf (decode b)) (λ i. part out (10 * (i - 1) + 6) 4) (λ i. bytesOf 4 (lossesOf (decode b) cat sizes i))
       (λ i h k. losses-bytes b cat sizes out₀ out bytes g i h k)
 
   gathered-long : length (gathered (countOf (decode b)) out) ≡ 4 * countOf (decode b)
@@ -76,8 +76,8 @@ module _ (b cat sizes out₀ out : List ℕ) (bytes : Bytes cat) (g : LossesGive
       }
 
 -- with space for both results the first call's number is the rating's
-module _ {b cat sizes rated₀ rated losses₀ losses heads₀ heads : List ℕ} {n m k : ℕ} (enough : Enough b rated₀ losses₀ heads₀)
-    (c : Called b cat sizes rated₀ rated losses₀ losses heads₀ heads n m k) where
+module _ {b cat sizes rated₀ rated losses₀ losses heads₀ heads : List ℕ} {n m k : ℕ} (bytes : Bytes cat)
+    (enough : Enough b rated₀ losses₀ heads₀) (c : ThreeCalls b cat sizes rated₀ rated losses₀ losses heads₀ heads n m k) where
   first-same : m ≡ n
   first-same =
       c .first .number ∙
@@ -93,10 +93,10 @@ module _ {b cat sizes rated₀ rated losses₀ losses heads₀ heads : List ℕ}
     first-given = rw (first-same ∙ none) at (c .first)
 
     accepted : Accepted (decode b)
-    accepted = losses-rateable b cat sizes losses₀ losses (c .bytes) first-given .job
+    accepted = losses-rateable b cat sizes losses₀ losses bytes first-given .job
 
     pass : lossesOk (countOf (decode b)) (gathered (countOf (decode b)) losses) ≡ true
-    pass = gathered-pass b cat sizes losses₀ losses (c .bytes) first-given
+    pass = gathered-pass b cat sizes losses₀ losses bytes first-given
 
     second-none : k ≡ 0
     second-none =
@@ -105,14 +105,13 @@ module _ {b cat sizes rated₀ rated losses₀ losses heads₀ heads : List ℕ}
 
     figures : SameFigures (countOf (decode b)) rated losses heads
     figures =
-        heads-of b cat sizes losses₀ losses (c .bytes) first-given accepted (rate-figures b cat sizes rated₀ rated (c .bytes) one-given)
+        heads-of b cat sizes losses₀ losses bytes first-given accepted (rate-figures b cat sizes rated₀ rated bytes one-given)
         (heads-figures b (gathered (countOf (decode b)) losses) heads₀ heads (rw second-none at (c .second (first-same ∙ none))))
 
   alike : Alike (countOf (decode b)) rated losses heads n m k
   alike =
       record {
-        refused = λ some. first-same;
-        given = λ none. first-same ∙ none;
+        number = first-same;
         pass = pass;
         taken = second-none;
         figures = figures;
@@ -135,7 +134,7 @@ reached = refl
 pub in-turn : InTurn
 in-turn =
     record {
-      alike = λ job cat sizes rated₀ rated losses₀ losses heads₀ heads n m k enough c. alike enough c;
+      alike = λ job cat sizes rated₀ rated losses₀ losses heads₀ heads n m k bytes enough c. alike bytes enough c;
       longest = longest;
       most = loss-top;
       reached = reached;

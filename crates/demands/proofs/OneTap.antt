@@ -52,6 +52,7 @@ pub one-tap : OneTap
 one-tap =
     record {
       section = λ job out₀ out bytes g i h k. rw (demand-2 .flow job out₀ out bytes g .flow i h k) (larger (decode job) (servedOf (decode job) i));
+      losses = λ job cat sizes out₀ out bytes g i h k. rw (demand-2 .losses job cat sizes out₀ out bytes g .flow i h k) (larger (decode job) (servedOf (decode job) i));
       house = λ job out₀ out g. rw (demand-2 .duty job out₀ out g) (larger (decode job) (houseOf (decode job)));
       judged = λ job out₀ out bytes g cat s i h k. judged (decode job) out cat s i (demand-2 .flow job out₀ out bytes g .flow i h k);
       qualified = λ job out₀ out g meters t.

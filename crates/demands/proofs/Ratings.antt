@@ -5,12 +5,14 @@ use mathlib.Core.Bool.{not}
 use mathlib.Core.List.{List, [], _∷_, _++_, append-assoc}
 use Prim.Native.Nat.{ℕ, _+_, _-_, _*_, _^_, _≤_, _<_}
 use native.Mathlib.Omega.{arith}
-use lib.ListN.{length, drop}
+use lib.ListN.{length, drop, length-append}
+use lib.Seq.{drop-at}
 use borrow.Author.Tests.{not-false}
 use Rattle.basis.specs.Part.{part}
 use Rattle.basis.specs.Range.{concatTo}
 use Rattle.basis.specs.Sections.{sizeOf}
-use Rattle.basis.proofs.Concat.{concat-part, concat-within}
+use Rattle.basis.proofs.Concat.{concat-length, concat-part, concat-within}
+use Rattle.basis.proofs.Part.{part-length, part-next}
 use Rattle.basis.proofs.Stored.{stored-front}
 use Rattle.answer.specs.Checks.{firstNo, tooShort}
 use Rattle.answer.proofs.First.{first-split, first-clear}
@@ -34,7 +36,7 @@ use Rattle.sizing.specs.Losses.{listOk, overAny, readingOf, lossAt, lossesOf}
 use Rattle.sizing.proofs.LossBounds.{loss-top}
 use Rattle.sizing.proofs.Named.{list-names}
 use Rattle.sizing.proofs.Trying.{read-top}
-use Rattle.rated_bytes.specs.RatedBytes.{headsBytes, resultBytes, sectionsBytes}
+use Rattle.rated_bytes.specs.RatedBytes.{headsBytes, resultBytes, figuresBytes}
 use Rattle.rating.specs.Calls.{sizedChecks, sizedNo, rateBytes, lossesBytes}
 use Rattle.rating.specs.Contracts.{Rateable}
 use Rattle.rated_bytes.proofs.Written.{heads-length, section-length}
@@ -134,17 +136,33 @@ module _ (b cat sizes out₀ out : List ℕ) (bytes : Bytes cat) (g : LossesGive
   ten : ℕ → List ℕ
   ten i = bytesOf 4 (sectionFlow (decode b) i) ++ (bytesOf 2 (readingOf (decode b) cat (sizeOf sizes i) i .velocity) ++ bytesOf 4 (lossesOf (decode b) cat sizes i))
 
+  result-ten : out ≡ concatTo (countOf (decode b)) ten ++ drop (length (lossesBytes (decode b) cat sizes)) out₀
+  unfolding ten lossesBytes figuresBytes
+  result-ten = g .buffer ∙ stored-front out₀ (lossesBytes (decode b) cat sizes)
+
+  ten-length : (i : ℕ) → length (ten i) ≡ 10
+  unfolding ten
+  ten-length i = section-length _ _ _
+
   -- the ten bytes of section i
   ten-at : (i : ℕ) → 0 < i → i ≤ countOf (decode b) → part out (10 * (i - 1)) 10 ≡ ten i
-  unfolding ten lossesBytes sectionsBytes
   ten-at i h k =
-      rw (g .buffer ∙ stored-front out₀ (lossesBytes (decode b) cat sizes))
-      (concat-part 10 ten (λ j. section-length _ _ _) (countOf (decode b)) i (drop (length (lossesBytes (decode b) cat sizes)) out₀) h k)
+      ap (λ (l : List ℕ). part l (10 * (i - 1)) 10) result-ten ∙
+      concat-part 10 ten ten-length (countOf (decode b)) i (drop (length (lossesBytes (decode b) cat sizes)) out₀) h k
+
+  long : 10 * countOf (decode b) ≤ length out
+  long =
+      let rest : List ℕ = drop (length (lossesBytes (decode b) cat sizes)) out₀ in
+      rw (result-ten, length-append (concatTo (countOf (decode b)) ten) rest, concat-length 10 ten ten-length (countOf (decode b))) (omega arith)
 
   -- its loss in the last four of them
-  pub losses-bytes : (i : ℕ) → 0 < i → i ≤ countOf (decode b) → drop 6 (part out (10 * (i - 1)) 10) ≡ bytesOf 4 (lossesOf (decode b) cat sizes i)
+  pub losses-bytes : (i : ℕ) → 0 < i → i ≤ countOf (decode b) → part out (10 * (i - 1) + 6) 4 ≡ bytesOf 4 (lossesOf (decode b) cat sizes i)
   unfolding ten bytesOf
-  losses-bytes i h k = ap (drop 6) (ten-at i h k)
+  losses-bytes i h k =
+      let at : ℕ = 10 * (i - 1) in
+      let fits : at + 6 ≤ length out = omega (arith, long) in
+      sym (drop-at (part out at 6) (part out (at + 6) 4) 6 (part-length out at 6 fits)) ∙
+      ap (drop 6) (part-next out at 6 4 ∙ ten-at i h k)
 
   pub losses-figures : LossFigures (decode b) cat sizes out
   unfolding ten bytesOf

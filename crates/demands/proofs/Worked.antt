@@ -38,7 +38,7 @@ use Rattle.acceptance.specs.Acceptance.{inputChecks}
 use Rattle.flow.specs.Calls.{flowNo, dutyNo}
 use Rattle.meters.specs.Meters.{meterAt, meterOk, metersOk, meterLoss, mostLoss, qualifies, noneQualifies, leastAt, winnerOf}
 use Rattle.metering.specs.Calls.{meteredRecord, meterBytes, meterNo}
-use Rattle.rated_bytes.specs.RatedBytes.{headsBytes, sectionsBytes}
+use Rattle.rated_bytes.specs.RatedBytes.{headsBytes, figuresBytes}
 use Rattle.rating.specs.Calls.{sizedChecks, sizedNo, lossesBytes}
 use Rattle.given_losses.specs.Losses.{lossIn, lossesOk}
 use Rattle.given_losses.specs.Calls.{headsNo}
@@ -119,7 +119,7 @@ module _ {out₀ work₀ : List ℕ} where
 
 -- the rest is computed too, but for the statements over every list and over the call
 pub own-case : OwnCase
-unfolding computed dayNorms hourlySumOf hourOf dayOf meanOf clamped pumpAt lowestTo dictatingOf copyChecks copyNo flowNo dutyNo meterAt meterOk metersOk meterLoss mostLoss qualifies noneQualifies leastAt winnerOf stored meteredRecord meterBytes meterNo inputChecks sizedChecks sizedNo bitsOf concatTo headsBytes sectionsBytes lossesBytes lossIn lossesOk headsNo chooseChecks chooseNo
+unfolding computed dayNorms hourlySumOf hourOf dayOf meanOf clamped pumpAt lowestTo dictatingOf copyChecks copyNo flowNo dutyNo meterAt meterOk metersOk meterLoss mostLoss qualifies noneQualifies leastAt winnerOf stored meteredRecord meterBytes meterNo inputChecks sizedChecks sizedNo bitsOf concatTo headsBytes figuresBytes lossesBytes lossIn lossesOk headsNo chooseChecks chooseNo
 own-case =
     record {
       job = computed .own;

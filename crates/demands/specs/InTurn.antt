@@ -7,7 +7,7 @@ use mathlib.Core.Bool.{true}
 use mathlib.Core.List.{List}
 use Prim.Native.Nat.{ℕ, _+_, _-_, _*_, _≤_, _<_}
 use lib.IntN.{negsuc}
-use lib.ListN.{length, drop}
+use lib.ListN.{length}
 use lib.Signed.{leZ}
 use Rattle.basis.specs.Part.{part}
 use Rattle.basis.specs.Range.{concatTo}
@@ -26,7 +26,7 @@ use Rattle.demands.specs.Demand2.{Bytes}
 
 -- the losses of the first call's result, gathered for the second: of each section's ten bytes the last four
 unfoldable pub gathered : ℕ → List ℕ → List ℕ
-gathered count out = concatTo count (λ i. drop 6 (part out (10 * (i - 1)) 10))
+gathered count out = concatTo count (λ i. part out (10 * (i - 1) + 6) 4)
 
 -- the buffers of a rating, of the first call and of the second have space for their results, where the job is accepted
 pub record Enough (job rated₀ losses₀ heads₀ : List ℕ) : Type 0 where
@@ -35,9 +35,7 @@ pub record Enough (job rated₀ losses₀ heads₀ : List ℕ) : Type 0 where
   pub heads : jobNo job ≡ 0 → headsLength ≤ length heads₀
 
 -- the one call gave n; of the two the first gave m and, where that is 0, the second k with the losses gathered from it
-pub record Called (job cat sizes rated₀ rated losses₀ losses heads₀ heads : List ℕ) (n m k : ℕ) : Type 0 where
-  -- what is lent is bytes, as it always is
-  pub bytes : Bytes cat
+pub record ThreeCalls (job cat sizes rated₀ rated losses₀ losses heads₀ heads : List ℕ) (n m k : ℕ) : Type 0 where
   pub one : Rated job cat sizes rated₀ rated n
   pub first : LossesGiven job cat sizes losses₀ losses m
   pub second : m ≡ 0 → HeadsGiven job (gathered (countOf (decode job)) losses) heads₀ heads k
@@ -52,11 +50,9 @@ pub record SameFigures (count : ℕ) (rated losses heads : List ℕ) : Type 0 wh
 
 -- what the two give in turn
 pub record Alike (count : ℕ) (rated losses heads : List ℕ) (n m k : ℕ) : Type 0 where
-  -- where the one gives a number, the first gives that number
-  pub refused : (n ≡ 0 → ⊥) → m ≡ n
-  -- where it gives a result, so does the first,
-  pub given : n ≡ 0 → m ≡ 0
-  -- the losses gathered from it pass 19,
+  -- the first gives the number that the one gives: its refusal, or 0 where it gives a result
+  pub number : m ≡ n
+  -- with a result, the losses gathered from it pass 19,
   pub pass : n ≡ 0 → lossesOk count (gathered count losses) ≡ true
   -- the second gives a result too,
   pub taken : n ≡ 0 → k ≡ 0
@@ -64,18 +60,18 @@ pub record Alike (count : ℕ) (rated losses heads : List ℕ) (n m k : ℕ) : T
   pub figures : n ≡ 0 → SameFigures count rated losses heads
 
 pub record InTurn : Type 0 where
-  -- for every job, catalogue and list, given enough result space
-  pub alike : (job cat sizes rated₀ rated losses₀ losses heads₀ heads : List ℕ) (n m k : ℕ) → Enough job rated₀ losses₀ heads₀ →
-      Called job cat sizes rated₀ rated losses₀ losses heads₀ heads n m k → Alike (countOf (decode job)) rated losses heads n m k
+  -- for every job, catalogue and list, given enough result space; what is lent is bytes, as it always is
+  pub alike : (job cat sizes rated₀ rated losses₀ losses heads₀ heads : List ℕ) (n m k : ℕ) → Bytes cat → Enough job rated₀ losses₀ heads₀ →
+      ThreeCalls job cat sizes rated₀ rated losses₀ losses heads₀ heads n m k → Alike (countOf (decode job)) rated losses heads n m k
   -- 387, 630 and 9 bytes are enough for every job
   pub longest : (job rated₀ losses₀ heads₀ : List ℕ) → 387 ≤ length rated₀ → 630 ≤ length losses₀ → 9 ≤ length heads₀ →
       Enough job rated₀ losses₀ heads₀
   -- no table gives a loss over 4,259,775 cm: a slope has two bytes, a length is at most 5,000 decimetres and k at most 3
   pub most : (slope decimetres tenths : ℕ) → slope ≤ 65535 → decimetres ≤ 5000 → tenths ≤ 3 → lossOf slope decimetres tenths ≤ 4259775
-  -- and so much one gives
+  -- and the bound is exact: the formula gives just this at the greatest slope, length and k
   pub reached : lossOf 65535 5000 3 ≡ 4259775
   -- so of an accepted job and an accepted catalogue no section with any size loses more
   pub table : (job cat : List ℕ) (s i : ℕ) → jobNo job ≡ 0 → catNo cat ≡ 0 → Bytes cat → 0 < s → s ≤ sizesOf cat → 0 < i →
       i ≤ countOf (decode job) → lossAt (decode job) cat s i ≤ 4259775
-  -- whatever the losses are, the required head of an accepted job is at least -1,000 cm
+  -- a loss of 0 is taken, which no table gives; the required head of an accepted job is at least -1,000 cm whatever the losses are
   pub lowest : (job : List ℕ) (loss : ℕ → ℕ) → jobNo job ≡ 0 → leZ (negsuc 999) (requiredOf (decode job) loss) ≡ true

@@ -17,7 +17,7 @@ use Rattle.catalogue.specs.Layout.{rowsOf, partOf}
 use Rattle.catalogue.specs.Reading.{readRows}
 use Rattle.sizing.specs.Losses.{readingOf, overBy, overAt, lossOf, lossAt}
 use Rattle.meters.specs.Meters.{meterAt, meterLoss, qualifies}
-use Rattle.order.specs.Promises.{FlowGiven, DutyGiven}
+use Rattle.order.specs.Promises.{FlowGiven, DutyGiven, LossesGiven}
 use Rattle.demands.specs.Demand2.{Bytes}
 use Rattle.demands.specs.Metering.{meterLossAt}
 
@@ -68,9 +68,11 @@ dutyIn out = beAt 4 out 0
 
 -- the flows that these calls give, and what is judged by them
 pub record OneTap : Type 0 where
-  -- of each section, with the fixtures at or below its end
+  -- of each section, with the fixtures at or below its end, in the flow call and in the losses call
   pub section : (job out₀ out : List ℕ) → Bytes job → FlowGiven job out₀ out 0 → (i : ℕ) → 0 < i → i ≤ countOf (decode job) →
       Larger (decode job) (servedOf (decode job) i) (flowIn out i)
+  pub losses : (job cat sizes out₀ out : List ℕ) → Bytes cat → LossesGiven job cat sizes out₀ out 0 → (i : ℕ) → 0 < i → i ≤ countOf (decode job) →
+      Larger (decode job) (servedOf (decode job) i) (beAt 4 out (10 * (i - 1)))
   -- of the house, with all its fixtures
   pub house : (job out₀ out : List ℕ) → DutyGiven job out₀ out 0 → Larger (decode job) (houseOf (decode job)) (dutyIn out)
   -- a section with a size, in a rating or in a list that may suit, is judged by the first

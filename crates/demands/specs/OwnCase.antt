@@ -119,7 +119,8 @@ pub record OwnCase : Type 0 where
   pub fast : readingOf (decode ownJob) ownCat 1 1 .velocity ≡ 1642
   -- so rating gives 13
   pub refused : rateNo ownJob ownCat (1 ∷ []) 15 ≡ 13
-  -- document 02, L3: ten bytes are enough for the losses, and they are the flow, the velocity and the loss; nine and 13 as in rating
+  -- document 02, L3: ten bytes are enough for the losses, and they are the flow, the velocity and the loss; size 1 is over the limit, 13 with ten bytes and
+  -- 14 with nine, which is found first
   pub losses-given : lossesNo ownJob ownCat (2 ∷ []) 10 ≡ 0
   pub losses-bytes : lossesBytes (decode ownJob) ownCat (2 ∷ []) ≡ 0 ∷ 0 ∷ 8 ∷ 4 ∷ 4 ∷ 2 ∷ 0 ∷ 0 ∷ 0 ∷ 71 ∷ []
   pub losses-room : lossesNo ownJob ownCat (1 ∷ []) 9 ≡ 14

@@ -20,7 +20,7 @@ struct Losses {
 }
 
 // Where 19 finds something, nothing is promised of the losses, which are then not used.
-fn losses_of(given: &[u8], count: usize) -> Losses
+fn read_losses(given: &[u8], count: usize) -> Losses
     requires { ⌜ count ≤ 63 ⌝ }
     ensures ok { λ r. ⌜ r .ok ≡ lossesOk count (now (given .entry)) ⌝ }
     ensures at { λ r. ⌜ (r .ok ≡ true → r .at ≡ slots 64 1 (count + 1) 0 (lossIn (now (given .entry)))) ⌝ }
@@ -53,7 +53,7 @@ pub fn heads(b: &[u8], given: &[u8], out: &mut [u8]) -> Answer
         return answer;
     }
     let job = accepted.job;
-    let losses = losses_of(given, job.header.sections as usize);
+    let losses = read_losses(given, job.header.sections as usize);
     if !losses.ok {
         return Answer::LossList;
     }

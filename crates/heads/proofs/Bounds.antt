@@ -1,4 +1,4 @@
--- What a job that keeps 3 and 5 and losses of a table say of the sizes: path losses, reaches, the greatest of them, required head and dictating section.
+-- What a job that keeps 3 and 5 and losses within the bound say of the sizes: path losses, reaches, the greatest of them, required head and dictating section.
 -- Assumes nothing.
 use mathlib.Core.Path.{_≡_}
 use mathlib.Core.List.{List}

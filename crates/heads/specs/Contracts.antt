@@ -1,5 +1,5 @@
--- What the contracts of the heads ask: a job that keeps 3 and 5, and losses that a catalogue can give.
--- 65,535 mm per metre over 5,000 decimetres with k 3 is 4,259,775 cm.
+-- What the contracts of the heads ask: a job that keeps 3 and 5, and losses of at most 4,259,775 cm, the most that a table can give:
+-- 65,535 mm per metre over 5,000 decimetres with k 3.
 -- Assumes nothing.
 use mathlib.Core.Path.{_≡_}
 use mathlib.Core.Bool.{true}

@@ -1,4 +1,4 @@
--- Document 01, "Rating and choosing", and document 02, L3: the bytes of a rating result and of its two halves, from each section's figures.
+-- Document 01, "Rating and choosing", and document 02, L3: the bytes of a rating result and of the two calls that it is split into, from each section's figures.
 -- Assumes nothing.
 use Prim.Native.Nat.{ℕ, _+_, _*_}
 use mathlib.Core.List.{List, [], _∷_, _++_}
@@ -8,17 +8,17 @@ use Rattle.fields.specs.declared.Job.{Job}
 use Rattle.fields.specs.Fields.{countOf}
 use Rattle.heads.specs.Heads.{requiredOf, pumpOf, dictatingOf}
 
--- the length of a rating result for S sections
+-- the length of a heads result
+abbrev pub headsLength : ℕ
+headsLength = 9
+
+-- of a rating result for S sections
 abbrev pub rateLength : ℕ → ℕ
-rateLength count = 9 + 6 * count
+rateLength count = headsLength + 6 * count
 
 -- and of a losses result
 abbrev pub lossesLength : ℕ → ℕ
 lossesLength count = 10 * count
-
--- and of a heads result
-abbrev pub headsLength : ℕ
-headsLength = 9
 
 -- required head (4, signed), pump head (4), dictating section (1)
 unfoldable pub headsBytes : Job → (ℕ → ℕ) → List ℕ
@@ -28,6 +28,6 @@ headsBytes job loss = bytesOf 4 (bitsOf 32 (requiredOf job loss)) ++ (bytesOf 4 
 unfoldable pub resultBytes : Job → (ℕ → ℕ) → (ℕ → ℕ) → List ℕ
 resultBytes job velocity loss = headsBytes job loss ++ concatTo (countOf job) (λ i. bytesOf 2 (velocity i) ++ bytesOf 4 (loss i))
 
--- without the heads: flow (4), velocity (2) and loss (4) of each section
-unfoldable pub sectionsBytes : Job → (ℕ → ℕ) → (ℕ → ℕ) → (ℕ → ℕ) → List ℕ
-sectionsBytes job flow velocity loss = concatTo (countOf job) (λ i. bytesOf 4 (flow i) ++ (bytesOf 2 (velocity i) ++ bytesOf 4 (loss i)))
+-- losses: flow (4), velocity (2) and loss (4) of each section
+unfoldable pub figuresBytes : Job → (ℕ → ℕ) → (ℕ → ℕ) → (ℕ → ℕ) → List ℕ
+figuresBytes job flow velocity loss = concatTo (countOf job) (λ i. bytesOf 4 (flow i) ++ (bytesOf 2 (velocity i) ++ bytesOf 4 (loss i)))

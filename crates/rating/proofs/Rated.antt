@@ -1,4 +1,4 @@
--- The results of rating and of its first half from the flows, velocities and losses at the sections' places.
+-- The results of the rating call and of the losses call from the flows, velocities and losses at the sections' places.
 -- Assumes nothing.
 use mathlib.Core.Path.{_≡_}
 use mathlib.Core.List.{List, _++_}
@@ -17,7 +17,7 @@ use Rattle.demand.specs.Demand.{sectionFlow}
 use Rattle.demand.proofs.Validity.{valid-count, valid-sections, valid-rooted}
 use Rattle.heads.specs.Contracts.{Given}
 use Rattle.sizing.specs.Losses.{readingOf, lossesOf}
-use Rattle.rated_bytes.specs.RatedBytes.{resultBytes, sectionsBytes}
+use Rattle.rated_bytes.specs.RatedBytes.{resultBytes, figuresBytes}
 use Rattle.rated_bytes.proofs.Same.{heads-same}
 use Rattle.rating.specs.Calls.{rateBytes, lossesBytes}
 use Rattle.rating.specs.Contracts.{RatedAt, RatedJob}
@@ -69,8 +69,8 @@ module _ {b cat list : List ℕ} {room long : ℕ} {job : Job} {f v w : List ℕ
             (λ i a h. rw (velocity-at job cat list (r .at) (rated-count .high) i a h, loss i a h)),
       )
 
-  pub rated-sections : sectionsBytes job (λ i. getD f i 0) (λ i. getD v i 0) (λ i. getD w i 0) ≡ lossesBytes job cat list
-  unfolding lossesBytes sectionsBytes
+  pub rated-sections : figuresBytes job (λ i. getD f i 0) (λ i. getD v i 0) (λ i. getD w i 0) ≡ lossesBytes job cat list
+  unfolding lossesBytes figuresBytes
   rated-sections =
       let few = rated-count .high in
       concat-ext (countOf job) (λ i. bytesOf 4 (getD f i 0) ++ (bytesOf 2 (getD v i 0) ++ bytesOf 4 (getD w i 0)))

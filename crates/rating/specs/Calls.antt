@@ -1,4 +1,4 @@
--- The rating call, document 01, "Refused orders" 1 to 14, and the rating result; and document 02, L3: its first half alone.
+-- The rating call, document 01, "Refused orders" 1 to 14, and its result; and the losses call, document 02, L3, which gives no heads.
 -- Assumes nothing.
 use Prim.Native.Nat.{ℕ}
 use mathlib.Core.Bool.{Bool, not}
@@ -11,9 +11,9 @@ use Rattle.record.specs.Record.{decode}
 use Rattle.demand.specs.Demand.{sectionFlow}
 use Rattle.acceptance.specs.Acceptance.{inputChecks}
 use Rattle.sizing.specs.Losses.{listOk, overAny, readingOf, lossesOf}
-use Rattle.rated_bytes.specs.RatedBytes.{rateLength, lossesLength, resultBytes, sectionsBytes}
+use Rattle.rated_bytes.specs.RatedBytes.{rateLength, lossesLength, resultBytes, figuresBytes}
 
--- what a call that takes a list of sizes checks: 1 to 11, 12, 14 where its result has so many bytes, then 13
+-- what a call that takes a list of sizes checks: 1 to 11, 12, 14 where the buffer is shorter than its result, which is `long` bytes, then 13
 unfoldable pub sizedChecks : List ℕ → List ℕ → List ℕ → ℕ → ℕ → List (Bool × ℕ)
 sizedChecks b cat list room long =
     inputChecks b cat ++
@@ -37,4 +37,4 @@ rateBytes job cat list = resultBytes job (λ i. readingOf job cat (sizeOf list i
 -- the losses result
 unfoldable pub lossesBytes : Job → List ℕ → List ℕ → List ℕ
 lossesBytes job cat list =
-    sectionsBytes job (sectionFlow job) (λ i. readingOf job cat (sizeOf list i) i .velocity) (lossesOf job cat list)
+    figuresBytes job (sectionFlow job) (λ i. readingOf job cat (sizeOf list i) i .velocity) (lossesOf job cat list)

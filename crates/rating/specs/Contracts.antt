@@ -20,7 +20,7 @@ pub record Rateable (j : Job) (c l : List ℕ) : Type 0 where
   pub cat : AcceptedCat c
   pub list : listOk j c l ≡ true
 
--- a velocity and a loss that fit their bytes
+-- a velocity that fits its two bytes, and a loss that 19 lets pass
 pub record Fitting (job : Job) (cat list : List ℕ) (i : ℕ) : Type 0 where
   pub velocity : readingOf job cat (sizeOf list i) i .velocity ≤ 65535
   pub loss : lossesOf job cat list i ≤ 4259775

@@ -1,4 +1,4 @@
-// The rating call, and the losses call, which is its first half.
+// The rating call, and the losses call, which gives no heads.
 use crate::refusal::Outcome;
 use crate::refusal::refused;
 use crate::sections::list_ok;

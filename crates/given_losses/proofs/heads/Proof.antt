@@ -51,15 +51,15 @@ fields c = c .before .before .accept .ensures .1 ∙ accept-fields _ (passed c)
 accepted : (c : tie.Else1) → Accepted (c .before .before .accept .result .job)
 accepted c = rw (fields c) (accept-accepted _ (passed c))
 
-losses-of-requires : tie.Need-losses-of-requires
-losses-of-requires c κs = valid-count (accepted (c .before .before) .valid) .high
+read-losses-requires : tie.Need-read-losses-requires
+read-losses-requires c κs = valid-count (accepted (c .before .before) .valid) .high
 
 -- 19
-abbrev accepted-of : tie.After-losses-of → tie.Else1
+abbrev accepted-of : tie.After-read-losses → tie.Else1
 accepted-of c = c .before .before .before
 
-tested : (c : tie.After-losses-of) → let at = accepted-of c .before .before in c .losses-of .result .ok ≡ lossesOk (countOf (decode (record-of at))) (list-of at)
-tested c = c .losses-of .ensures .0 ∙ ap (λ (job : Job). lossesOk (countOf job) (list-of (accepted-of c .before .before))) (fields (accepted-of c))
+tested : (c : tie.After-read-losses) → let at = accepted-of c .before .before in c .read-losses .result .ok ≡ lossesOk (countOf (decode (record-of at))) (list-of at)
+tested c = c .read-losses .ensures .0 ∙ ap (λ (job : Job). lossesOk (countOf job) (list-of (accepted-of c .before .before))) (fields (accepted-of c))
 
 returns-2 : tie.Need-returns-2
 returns-2 c =
@@ -73,9 +73,9 @@ listed c = sym (tested (c .before .before)) ∙ not-false _ (c .if2 .left)
 -- and stand at their places
 placed : (c : tie.Else2) →
     let read = c .before .before in
-    read .losses-of .result .at ≡
+    read .read-losses .result .at ≡
     slots 64 1 (countOf (accepted-of read .before .before .accept .result .job) + 1) 0 (lossIn (list-of (accepted-of read .before .before)))
-placed c = c .before .before .losses-of .ensures .1 (not-false _ (c .if2 .left))
+placed c = c .before .before .read-losses .ensures .1 (not-false _ (c .if2 .left))
 
 returns-3 : tie.Need-returns-3
 returns-3 c = (sym (heads-short _ _ _ (passed (accepted-of (c .before .before .before))) (listed (c .before)) (omega arith)), refl)
@@ -84,7 +84,7 @@ put-heads-requires : tie.Need-put-heads-requires
 put-heads-requires c κs =
     let two = c .before .before .before in
     let read = two .before .before in
-    let ok = sym (read .losses-of .ensures .0) ∙ not-false _ (two .if2 .left) in
+    let ok = sym (read .read-losses .ensures .0) ∙ not-false _ (two .if2 .left) in
     (given-of _ (accepted (accepted-of read)) _ (placed two) (losses-top _ _ ok), omega arith)
 
 returns-4 : tie.Need-returns-4
@@ -101,4 +101,4 @@ returns-4 c =
 pub heads-spec : {M : Type 1} → statement M
 heads-spec =
     tie.close
-    (tie.spec (λ c κs. search needs) (λ c κs. search needs) returns (λ c. search needs) losses-of-requires returns-2 returns-3 put-heads-requires (λ c. search needs) returns-4)
+    (tie.spec (λ c κs. search needs) (λ c κs. search needs) returns (λ c. search needs) read-losses-requires returns-2 returns-3 put-heads-requires (λ c. search needs) returns-4)

@@ -10,7 +10,7 @@ use Rattle.answer.specs.Answer.{numberOf}
 use Rattle.answer.proofs.Buffers.{refused, given}
 use Rattle.fields.specs.Fields.{countOf}
 use Rattle.record.specs.Record.{decode}
-use Rattle.rated_bytes.specs.RatedBytes.{sectionsBytes}
+use Rattle.rated_bytes.specs.RatedBytes.{figuresBytes}
 use Rattle.rating.specs.Calls.{sizedNo, lossesNo}
 use Rattle.rating.proofs.Rated.{velocity-thin, rated-count, rated-sections, rated-room}
 use Rattle.rating.proofs.call.losses.Statement.{statement}
@@ -34,7 +34,7 @@ put-sections-requires c κs =
     (rated-count r .high, omega arith, rated-room r 0 10 refl, velocity-thin _ _ _ (r .at) (rated-count r .high))
 
 returns-2 : tie.Need-returns-2
-unfolding sectionsBytes
+unfolding figuresBytes
 returns-2 c =
     let put = c .before .before in
     let one = put .before .before .before .before .before .before in

@@ -1,4 +1,4 @@
--- `given_losses::losses_of` meets its contract: before section i the losses below it pass 19 and stand at their places.
+-- `given_losses::read_losses` meets its contract: before section i the losses below it pass 19 and stand at their places.
 -- Assumes nothing.
 use mathlib.Core.Path.{_≡_, refl, sym, ap, _∙_}
 use mathlib.Core.Bool.{true}
@@ -17,8 +17,8 @@ use Rattle.basis.proofs.Each.{all-none, all-more}
 use Rattle.basis.proofs.Slots.{slots-none, slots-more}
 use Rattle.given_losses.specs.Losses.{lossIn}
 use Rattle.given_losses.proofs.Listed.{other-length, losses-all, one-over}
-use Rattle.given_losses.proofs.losses_of.Statement.{statement}
-use Rattle.given_losses.proofs.losses_of.Tie as tie
+use Rattle.given_losses.proofs.read_losses.Statement.{statement}
+use Rattle.given_losses.proofs.read_losses.Tie as tie
 
 abbrev Inv-loop : tie.InvT-loop
 Inv-loop given count at₀ i₀ at i =
@@ -67,8 +67,8 @@ returns-3 c =
     let e : at .loop .i - 1 ≡ count = omega arith in
     (sym (losses-all _ _ (long (at .before)) ∙ (rw e at (at .loop .inv .2))), λ z. rw n at (at .loop .inv .3))
 
-pub losses-of-spec : {M : Type 1} → statement M
-losses-of-spec =
+pub read-losses-spec : {M : Type 1} → statement M
+read-losses-spec =
     tie.close
     (tie.spec Inv-loop μ-loop (λ c. search needs) returns (λ c. (omega arith, omega arith, all-none _, slots-none 64 1 0 _)) (λ c. search needs)
     (λ c. search needs) (λ c κs. search needs) returns-2 (λ c. search needs) (λ c. search needs) (λ c. search needs) (λ c. search needs) loop-again returns-3)
