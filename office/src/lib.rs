@@ -1,6 +1,7 @@
 //! The order office's side of the pipe sizing library.
 //!
-//! - [`flow`], [`duty`], [`meter`], [`rate`], [`choose`] and [`copy`] call the proved library and give typed results or a [`Refusal`].
+//! - [`flow`], [`duty`], [`meter`], [`rate`], [`losses()`], [`heads`], [`choose`] and [`copy`] call the proved library and give typed
+//!   results or a [`Refusal`].
 //! - `ffi` has the same calls on lent buffers, and the only unsafe code.
 //! - `model` is document 01 once more, written independently; [`soak`] and [`replay`] compare the two.
 //! - [`bench()`] times the library against the model and against `rivals`, searches in safe Rust.
@@ -21,7 +22,9 @@ pub mod rivals;
 pub mod situations;
 
 pub use bench::bench;
-pub use calls::{Choice, Flow, Metered, Rated, Rating, choose, copy, duty, flow, meter, rate};
+pub use calls::{
+    Choice, Flow, Heads, Metered, Rated, Rating, SectionLoss, choose, copy, duty, flow, heads, losses, meter, rate,
+};
 pub use compare::{Mismatch, replay, soak};
 pub use refusal::Refusal;
 pub use situations::Counters;
