@@ -5,8 +5,9 @@
 //! - `ffi` has the same calls on lent buffers, and the only unsafe code.
 //! - `model` is document 01 once more, written independently; [`soak`] and [`replay`] compare the two.
 //! - [`bench()`] times the library against the model and against `rivals`, searches in safe Rust.
-//! - [`house`], [`table`] and [`meters`] are the readable files, [`places`] says where a refusal lies, [`taps`] what sets a flow,
-//!   [`draw`] draws a house; the command `office` puts them before people.
+//! - [`house`], [`table`], [`meters`] and [`losses`](mod@losses) are the readable files, [`answer`] takes losses that the command has
+//!   printed, [`places`] says where a refusal lies, [`taps`] what sets a flow, [`draw`] draws a house; the command `office` puts
+//!   them before people.
 
 #![deny(unsafe_code)]
 
@@ -30,6 +31,7 @@ pub use refusal::Refusal;
 pub use situations::Counters;
 
 // What people touch: readable files, the places of refusals, drawings.
+pub mod answer;
 pub mod at;
 pub mod catalogue;
 mod cells;
@@ -40,10 +42,13 @@ mod header;
 pub mod house;
 pub mod kinds;
 mod line;
+pub mod loss;
+pub mod losses;
 pub mod measure;
 pub mod meter;
 pub mod meters;
 pub mod mistake;
+mod numbered;
 pub mod pipes;
 pub mod places;
 pub mod readable;
