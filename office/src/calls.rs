@@ -72,6 +72,13 @@ pub struct Heads {
     pub dictating: u8,
 }
 
+impl Rating {
+    /// The heads of the rating alone.
+    pub fn heads(&self) -> Heads {
+        Heads { required: self.required, pump: self.pump, dictating: self.dictating }
+    }
+}
+
 /// A cheapest suitable list of sizes.
 #[derive(Clone, Debug, PartialEq, Eq)]
 pub struct Choice {

@@ -282,7 +282,8 @@ fn no_meter_is_refused_for_one_tap() {
 }
 
 fn asked(case: &Case) -> Asked<'_> {
-    Asked { job: &case.job, cat: &case.cat, sizes: &case.sizes, meters: &case.meters }
+    let Case { job, cat, sizes, meters, .. } = case;
+    Asked { job, cat, sizes, meters, losses: meters }
 }
 
 /// Every refusal of the made-up orders has a place, and its place is of its own kind.
@@ -336,9 +337,10 @@ fn any_bytes_are_taken() {
             let found = places(&refusal, &asked(&case));
             assert!(found.iter().all(|place| !place.why.is_empty()));
             let Case { job, meters, cat, .. } = &case;
-            let crossed = places(&refusal, &Asked { job: cat, cat: job, sizes: job, meters: job });
+            let crossed = places(&refusal, &Asked { job: cat, cat: job, sizes: job, meters: job, losses: job });
             assert!(crossed.iter().all(|place| !place.why.is_empty()));
-            let crossed = places(&refusal, &Asked { job: meters, cat: meters, sizes: meters, meters: cat });
+            let crossed =
+                places(&refusal, &Asked { job: meters, cat: meters, sizes: meters, meters: cat, losses: cat });
             assert!(crossed.iter().all(|place| !place.why.is_empty()));
         }
     }
