@@ -52,17 +52,21 @@ pub fn read(bytes: &[u8]) -> Result<Answer, Mistakes> {
     json::parse(&text).and_then(|node| answer(&node)).map_err(|fault| located(&text, fault).into())
 }
 
+/// Characters before and behind a fault that a message repeats.
+const AROUND: usize = 60;
+
 /// A fault with its line and the text around it.
 fn located(text: &str, fault: Fault) -> Mistake {
     let front = &text[..fault.at];
     let line = front.rsplit('\n').next().unwrap_or("");
     let behind = text[fault.at..].lines().next().unwrap_or("");
-    let before: Vec<char> = line.chars().rev().take(60).collect();
-    let cut = if before.len() < line.chars().count() { "..." } else { "" };
-    let around = before.into_iter().rev().chain(behind.chars().take(60)).collect::<String>();
+    let before: Vec<char> = line.chars().rev().take(AROUND).collect();
+    let cut = |rest: usize| if rest > AROUND { "..." } else { "" };
+    let (start, end) = (cut(line.chars().count()), cut(behind.chars().count()));
+    let around: String = before.into_iter().rev().chain(behind.chars().take(AROUND)).collect();
     let number = 1 + front.matches('\n').count();
     let wrong = format!("at character {}: {}", line.chars().count() + 1, fault.wrong);
-    Mistake::on(number, &format!("{cut}{around}"), wrong, fault.expected)
+    Mistake::on(number, &format!("{start}{around}{end}"), wrong, fault.expected)
 }
 
 /// The answer of the text's value.

@@ -69,7 +69,7 @@ impl Reader<'_> {
     /// What stands here where something else should.
     fn other(&self, expected: &str) -> Fault {
         match self.peek() {
-            None => self.fault("the text ends too early", expected),
+            None => Fault { at: self.text.trim_end().len(), ..self.fault("the text ends too early", expected) },
             Some(c) => self.fault(format!("`{c}` stands here"), expected),
         }
     }

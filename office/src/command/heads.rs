@@ -103,24 +103,21 @@ impl Headed {
     /// How the required head comes about at the dictating end.
     fn sum(&self) -> String {
         let Some(end) = self.way().next() else { return String::new() };
-        let (meter, lost) = (self.record.meter, self.lost());
         let (elevation, free) = (end.section.elevation, end.section.free);
-        let sum = format!("meter loss {meter}, elevation {elevation}, free head {free}, losses {lost}");
-        format!(
-            "required head, in cm: {sum}\nlosses from section {} to the pump, in cm: {}\n",
-            end.number,
-            self.losses()
-        )
+        let house = format!("meter loss {} + elevation {elevation} + free head {free}", self.record.meter);
+        let (lost, required) = (self.lost(), self.heads.required);
+        format!("required head: {house} + losses {lost} = {required} cm\n{}", self.losses(end.number))
     }
 
-    /// The losses on the way with their sections, as far as a line holds them.
-    fn losses(&self) -> String {
+    /// The losses on the way from the dictating end, as far as a line holds them.
+    fn losses(&self, end: u8) -> String {
         let (all, lost) = (self.way().count(), self.lost());
-        if all > MOST_ON_A_LINE {
-            return format!("{lost} in {all} sections, marked * below");
-        }
         let parts: Vec<String> = self.way().map(|pipe| format!("{} (section {})", pipe.loss, pipe.number)).collect();
-        format!("{} = {lost}", parts.join(" + "))
+        let words = match all > MOST_ON_A_LINE {
+            true => format!("{lost} cm in {all} sections, which have a * below"),
+            false => format!("{} = {lost} cm", parts.join(" + ")),
+        };
+        format!("losses from section {end} to the pump: {words}\n")
     }
 }
 
