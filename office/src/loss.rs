@@ -61,7 +61,7 @@ mod tests {
 
     #[test]
     fn bytes_of_a_list() {
-        let list = [0, 0, 0, 71, 0, 0x40, 0xff, 0xff];
+        let list = [0, 0, 0, 71, 0, 0x40, 0xff, 0xbf];
         assert_eq!(read(&list), Ok(vec![71, MOST]));
         assert_eq!(bytes(&[71, MOST]), list);
         assert!(is_list(&list) && is_list(&[0; 252]) && !is_list(&[0; 256]) && !is_list(&list[..7]) && !is_list(&[]));

@@ -10,6 +10,7 @@ use json::Value;
 use office::at::{At, Field};
 use office::mistake::Mistake;
 use office::places::{Asked, Place, places};
+use office::record::Record;
 use office::{Refusal, calls, house, loss, losses, table};
 use run::{office, office_with, read, scratch};
 
@@ -460,6 +461,63 @@ fn an_answer_is_read_strictly() {
     assert!(refused.status == 1 && ran.status == 2 && ran.error.contains("it is a refusal, and has no losses"));
     let mistakes = json::parse(&office_with(&["heads", OWN, "-", "--json"], b"{\"schema\":7}").text());
     assert_eq!(mistakes.list("mistakes")[0].number("line"), 1);
+}
+
+/// The losses of an answer by the tests' own reader of JSON, which takes nothing that JSON does not.
+fn by_another_reader(text: &str) -> Option<Vec<i64>> {
+    let read = || {
+        let value = json::parse(text);
+        let sections = value.list("sections").to_vec();
+        assert!(value.number("schema") == 1 && value.get("refusal") == &Value::Null);
+        assert!((1..).zip(&sections).all(|(place, section)| section.number("section") == place));
+        sections.iter().map(|section| section.number("loss_cm")).collect()
+    };
+    std::panic::catch_unwind(read).ok()
+}
+
+/// Changed answers are refused, or the other reader finds the same losses in them.
+#[test]
+fn a_changed_answer_is_not_misread() {
+    let answer = office(&["losses", HOUSE, TABLE, SIZES, "--json"]).text();
+    let pieces = ["", "0", "7", "-", ".", ",", ":", "\"", "{", "}", "[", "]", " ", "\n", "e", "null", "\"loss_cm\":1,"];
+    let (mut taken, mut refused) = (0, 0);
+    for turn in 0..20_000_usize {
+        let at = turn * 7_919 % answer.len();
+        let end = (at + turn % 3).min(answer.len());
+        let text = format!("{}{}{}", &answer[..at], pieces[turn % pieces.len()], &answer[end..]);
+        let Ok(found) = office::answer::read(text.as_bytes()) else {
+            refused += 1;
+            continue;
+        };
+        taken += 1;
+        let losses: Vec<i64> = found.losses().into_iter().map(i64::from).collect();
+        assert_eq!(by_another_reader(&text), Some(losses), "{text}");
+    }
+    assert!(taken > 1_000 && refused > 10_000, "{taken} {refused}");
+}
+
+/// Each number that a loss comes of is held against the house: with another digit in it the answer is not of this house.
+#[test]
+fn every_number_that_a_loss_comes_of_is_held_against_the_house() {
+    let answer = office(&["losses", HOUSE, TABLE, SIZES, "--json"]).text();
+    let job = house::pack(&read(HOUSE)).expect("a house");
+    let (record, flow) = (Record::read(&job).expect("a record"), calls::flow(&job).expect("accepted"));
+    let difference = |text: &str| {
+        let found = office::answer::read(text.as_bytes()).expect("an answer");
+        found.difference(&record, &flow.flows)
+    };
+    assert_eq!(difference(&answer), None);
+    let mut seen = 0;
+    for key in ["\"local_losses_tenths\":", "\"parent\":", "\"length_dm\":", "\"flow_ml_per_s\":"] {
+        for (at, _) in answer.match_indices(key) {
+            let at = at + key.len();
+            let digit = if &answer[at..=at] == "2" { "4" } else { "2" };
+            let changed = format!("{}{digit}{}", &answer[..at], &answer[at + 1..]);
+            assert!(difference(&changed).is_some(), "{key} {at}");
+            seen += 1;
+        }
+    }
+    assert_eq!(seen, 1 + 3 * 12);
 }
 
 #[test]

@@ -116,7 +116,7 @@ impl Reader<'_> {
         let digits = text.strip_prefix('-').unwrap_or(text);
         let plain = !digits.is_empty() && digits.bytes().all(|b| b.is_ascii_digit());
         // Twelve digits are more than any answer has and can't overflow.
-        if !plain || digits.len() > 12 || (digits.len() > 1 && digits.starts_with('0')) {
+        if !plain || digits.len() > 12 || (digits.starts_with('0') && text != "0") {
             let text: String = text.chars().take(40).collect();
             return Err(self.fault(format!("`{text}` is no whole number of an answer"), "a whole number, as 71"));
         }
@@ -238,6 +238,7 @@ mod tests {
             ("[071]", 1, "`071` is no whole number"),
             ("[+7]", 1, "`+` stands here"),
             ("[-]", 1, "`-` is no whole number"),
+            ("[-0]", 1, "`-0` is no whole number"),
             ("[1234567890123]", 1, "is no whole number"),
             ("[\"a\nb\"]", 3, "stands here"),
             ("[\"a", 3, "ends too early"),
