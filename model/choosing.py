@@ -17,8 +17,9 @@ from typing import NamedTuple, Optional
 
 import catalogue
 import demand
+import heads
 import job
-import rating
+import losses
 
 
 class Choice(NamedTuple):
@@ -41,9 +42,9 @@ def option(number, size, section, flow, house):
     """A section's option by this size, or None. "Every section's size serves
     its flow, no velocity passes the limit"; the cost is "price x length"."""
     reading = catalogue.read_at(size, flow)
-    if not rating.serves(reading, house):
+    if not losses.serves(reading, house):
         return None
-    lost = rating.loss(reading.slope, section.length, house.k)
+    lost = losses.loss(reading.slope, section.length, house.k)
     return Option(number, lost, size.price * section.length)
 
 
@@ -58,7 +59,7 @@ def offered_to(house, sizes):
 
 def suits(house, chosen):
     """Of sizes that serve: "the required head is at most H"."""
-    required, _, _ = rating.heads(house, [each.loss for each in chosen])
+    required, _, _ = heads.figures(house, [each.loss for each in chosen])
     return required <= house.H
 
 

@@ -11,8 +11,8 @@ import random
 
 import catalogue as catalogues
 import choosing
+import heads
 import job
-import rating
 import rating_vectors
 from edit import OWN, head, house, people, put, section
 from flow_vectors import (BATHS_OVER_BASINS, CHILD_ABOVE, TAP_OVER_256, chain_of_kinds,
@@ -724,7 +724,7 @@ def span(record, sizes):
     offered = choosing.offered_to(decoded, catalogues.decode(sizes))
     if not all(offered):
         return 0, 6000
-    return [rating.heads(decoded, [pick(each.loss for each in some) for some in offered])[0]
+    return [heads.figures(decoded, [pick(each.loss for each in some) for some in offered])[0]
             for pick in (min, max)]
 
 

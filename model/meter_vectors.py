@@ -9,7 +9,7 @@ from edit import OWN, head, house, people, section
 from flow_vectors import (BATHS_BESIDE_BASINS, BATHS_OVER_BASINS, bath_and, end, flow_broken, inner,
                           random_house)
 from houses import TWO_ENDS, chain, star
-from vector import Call, Parts, Vector, buffer_bytes, buffer_line, listed, room_of, words
+from vector import Call, Vector, buffer_line, lent, listed, room_of, stored_by, words
 
 # Types of meters.
 VANE, TURBINE = 1, 2
@@ -549,14 +549,4 @@ def meter_lines(parts):
     return answer + [f"place {place} loss {loss}"]
 
 
-def meter_parts(data):
-    room, record, offered = data
-    return Parts(room_of(room), record, offered)
-
-
-def meter_bytes(parts):
-    room, record, offered = parts
-    return buffer_bytes(meter.meter(record, offered, room_of(room)), room_of(room))
-
-
-CALLS = {"m": Call("meter", meter_parts, meter_lines, meter_bytes)}
+CALLS = {"m": Call("meter", lent, meter_lines, stored_by(meter.meter))}

@@ -9,7 +9,7 @@ from edit import OWN, head, house, put, section
 from flow_vectors import (BASINS_OVER_BATHS, BATHS_OVER_BASINS, bath_and, end, flow_broken, inner,
                           random_house)
 from houses import TWO_ENDS, greedy
-from vector import Call, Parts, Vector, buffer_bytes, buffer_line, listed, room_of, words
+from vector import Call, Vector, buffer_line, lent, listed, room_of, stored_by, words
 
 
 def catalogue(*sizes):
@@ -477,17 +477,7 @@ def rate_lines(parts):
         return answer
     heads, sections = rating.figures(*rest)
     return answer + [words("heads", heads)] + [
-        words("rated", (i,) + each) for i, each in enumerate(sections, start=1)]
+        words("rated", (i,) + each[1:]) for i, each in enumerate(sections, start=1)]
 
 
-def rate_parts(data):
-    room, *rest = data
-    return Parts(room_of(room), *rest)
-
-
-def rate_bytes(parts):
-    room, *rest = parts
-    return buffer_bytes(rating.rate(*rest, room_of(room)), room_of(room))
-
-
-CALLS = {"p": Call("rate", rate_parts, rate_lines, rate_bytes)}
+CALLS = {"p": Call("rate", lent, rate_lines, stored_by(rating.rate))}

@@ -12,9 +12,6 @@ import rating
 # "Only the first 65,536 bytes of input are read."
 READ = 65_536
 
-# The sheet writes no result, so that 14 never applies: room for 63 sections.
-AMPLE = 9 + 6 * 63
-
 
 def record(data):
     """The record at the front, and what follows it: "Each record ends at its
@@ -40,14 +37,13 @@ def lines_of(data, catalogue_data, numbers):
     loss; required head, pump head, dictating section"."""
     house = job.decode(data)
     heads, sections = rating.figures(data, catalogue_data, numbers)
-    flows = demand.section_flows(house)
     return [line("house", *demand.house_figures(house))] + [
-        line("section", i, flow, *each)
-        for i, (flow, each) in enumerate(zip(flows, sections), start=1)] + [line("head", *heads)]
+        line("section", i, *each) for i, each in enumerate(sections, start=1)] + [
+        line("head", *heads)]
 
 
 def sheet(data):
-    """"A refusal prints one line only"."""
+    """"A refusal prints one line only". No result is written, so that 14 never applies."""
     parts = cut(data)
-    number = rating.rate_number(*parts, AMPLE)
+    number = rating.rate_number(*parts, rating.AMPLE)
     return [line("refused", number)] if number != 0 else lines_of(*parts)

@@ -1,6 +1,6 @@
 """What the vectors of all calls have in common."""
 
-from typing import Callable, Iterable, NamedTuple, Optional, Union
+from typing import Callable, NamedTuple, Optional, Union
 
 
 class Vector(NamedTuple):
@@ -16,7 +16,7 @@ class Parts(NamedTuple):
     """What stands in a line of the input."""
     room: int            # the length of the result buffer
     first: bytes         # most often the job
-    second: bytes = b""  # the catalogue, or the list of meters
+    second: bytes = b""  # the catalogue, the list of meters or the losses
     third: bytes = b""   # the size list
     fill: int = 0xa5     # the byte that fills the buffer, and the workspace
     length: int = 0      # of the workspace, or the zero bytes behind a sheet's input
@@ -72,6 +72,20 @@ def buffer_bytes(outcome, room, fill=0xa5):
     """The same in bytes: the number in four, and the buffer."""
     number, result = outcome
     return f"{number:08x} {buffer_after(result, room, fill).hex()}"
+
+
+def lent(data):
+    """The parts of data whose first is the room, in two bytes."""
+    room, *rest = data
+    return Parts(room_of(room), *rest)
+
+
+def stored_by(call):
+    """The answer in bytes to such data, by the model's call."""
+    def stored(data):
+        room, *rest = data
+        return buffer_bytes(call(*rest, room_of(room)), room_of(room))
+    return stored
 
 
 def words(name, values):

@@ -1,4 +1,5 @@
-"""Test vectors for job records, design flows, duties, meters, ratings, sheets and choices.
+"""Test vectors for job records, design flows, duties, meters, ratings, losses, heads, sheets and
+choices.
 
     python3 model/vectors.py STDIN STDOUT
 
@@ -23,6 +24,8 @@ second part (2 each), and the first, second and third part. The room is at most
     d   a job whose duty is wanted, the house's design flow
     m   a job and a list of meters to pick from
     p   a job, a catalogue and a size list to rate
+    e   the same, where flow, velocity and loss of each section are wanted
+    h   a job and its sections' losses, whose heads are wanted
     s   an input whose sheet is wanted: its bytes, and the length is the number
         of zero bytes that follow them, in all at most 131,072
     l   a job and a catalogue to choose sizes for; the length is that of the
@@ -32,7 +35,7 @@ Output, a line for each line. A comment stands as it is. A number is four bytes,
 and a buffer is shown whole, as it is after the call.
     r   the number; when it is 0, the fields laid out as a record's from byte 5
         on, and the number and the buffer of writing
-    w, c, f, d, m, p   the number and the buffer
+    w, c, f, d, m, p, e, h   the number and the buffer
     a   the coefficient in millionths, four bytes
     s   the text
     l   the number and the buffer; where the number is 1 to 15, 01 if the whole
@@ -42,11 +45,12 @@ and a buffer is shown whole, as it is after the call.
 
 Every vector has its number written by hand, those of `a` and `f` in
 flow_vectors.py, those of `d` in duty_vectors.py, those of `m` in
-meter_vectors.py, those of `p` in rating_vectors.py, those of `s` in
+meter_vectors.py, those of `p` in rating_vectors.py, those of `e` in
+losses_vectors.py, those of `h` in heads_vectors.py, those of `s` in
 sheet_vectors.py and those of `l` and `k` in choosing_vectors.py. It is compared
-with the model (job.py, demand.py, meter.py, catalogue.py, rating.py, sheet.py,
-choosing.py). Where `lines` is given, they stand in the model's answer in words
-one after another. Where `holds` is given, these are all the refusals whose
+with the model (job.py, demand.py, meter.py, catalogue.py, losses.py, heads.py,
+rating.py, sheet.py, choosing.py). Where `lines` is given, they stand in the model's
+answer in words one after another. Where `holds` is given, these are all the refusals whose
 condition holds; they stand in the comment, and office/tests/stored.rs compares
 them, and every answer, with the model of office/.
 """
@@ -62,8 +66,11 @@ import choosing_vectors
 import demand
 import duty_vectors
 import flow_vectors
+import heads_vectors
 import job
+import losses_vectors
 import meter_vectors
+import rating
 import rating_vectors
 import sheet_vectors
 from edit import OWN, fields, head, house, people, section, stating
@@ -504,7 +511,8 @@ GROUPS = [
     ("writer, places", writer_places), ("writer, values", writer_values),
     ("writer, residents", writer_residents), ("copying", copies),
 ] + (flow_vectors.GROUPS + duty_vectors.GROUPS + meter_vectors.GROUPS + rating_vectors.GROUPS
-     + sheet_vectors.GROUPS + choosing_vectors.GROUPS)
+     + losses_vectors.GROUPS + heads_vectors.GROUPS + sheet_vectors.GROUPS
+     + choosing_vectors.GROUPS)
 
 # The answers to the own case and to three of its copies, by hand.
 OWN_ANSWER = [
@@ -594,6 +602,8 @@ CALLS = {
     **duty_vectors.CALLS,
     **meter_vectors.CALLS,
     **rating_vectors.CALLS,
+    **losses_vectors.CALLS,
+    **heads_vectors.CALLS,
     **sheet_vectors.CALLS,
     **choosing_vectors.CALLS,
 }
@@ -615,7 +625,7 @@ def model_number(vector):
 
 
 # The refusals in the order in which a call that has them gives them back.
-IN_ORDER = [1, 2, 3, 4, 5, 6, 7, 8, 9, 17, 10, 11, 12, 14, 15, 13, 16, 18]
+IN_ORDER = [1, 2, 3, 4, 5, 6, 7, 8, 9, 17, 19, 10, 11, 12, 14, 15, 13, 16, 18]
 
 
 def check_number(vector):
@@ -649,6 +659,14 @@ def check_parts(vector):
     assert 11 + sum(len(each) for each in parts[1:4]) <= 8191, vector.name
 
 
+def check_in_turn(vector):
+    """Of the parts that are rated "the two in turn give the figures or the number that the one
+    gave", in the model."""
+    if vector.letter == "p":
+        _, *parts = vector.data
+        assert rating.in_turn(*parts) == rating.rate(*parts, rating.AMPLE), vector.name
+
+
 def check_answers():
     """The answers by hand are the model's."""
     assert answer(own_case()[0]) == OWN_ANSWER
@@ -672,6 +690,7 @@ def check_all(vectors):
         check_lines(vector)
         check_slots(vector)
         check_parts(vector)
+        check_in_turn(vector)
     check_answers()
 
 

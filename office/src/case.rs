@@ -12,9 +12,9 @@
 //! out 5 ff
 //! ```
 //!
-//! `call` is `flow`, `duty`, `meter`, `rate`, `choose` or `copy`. `job`, `meters`, `cat` and `sizes` are bytes in hex, where spaces
-//! do not count and several lines of one name are joined; a name without a line is empty. `work` and `out` are the buffers as
-//! they are before the call: a length, and bytes in hex that are repeated to fill it (none: zeros).
+//! `call` is `flow`, `duty`, `meter`, `losses`, `heads`, `rate`, `choose` or `copy`. `job`, `meters`, `losses`, `cat` and `sizes` are
+//! bytes in hex, where spaces do not count and several lines of one name are joined; a name without a line is empty. `work` and
+//! `out` are the buffers as they are before the call: a length, and bytes in hex that are repeated to fill it (none: zeros).
 
 use std::fmt::Write;
 
@@ -24,12 +24,15 @@ pub enum Call {
     Flow,
     Duty,
     Meter,
+    Losses,
+    Heads,
     Rate,
     Choose,
 }
 
 impl Call {
-    pub const ALL: [Call; 6] = [Call::Copy, Call::Flow, Call::Duty, Call::Meter, Call::Rate, Call::Choose];
+    pub const ALL: [Call; 8] =
+        [Call::Copy, Call::Flow, Call::Duty, Call::Meter, Call::Losses, Call::Heads, Call::Rate, Call::Choose];
 
     pub fn name(self) -> &'static str {
         match self {
@@ -37,9 +40,21 @@ impl Call {
             Call::Flow => "flow",
             Call::Duty => "duty",
             Call::Meter => "meter",
+            Call::Losses => "losses",
+            Call::Heads => "heads",
             Call::Rate => "rate",
             Call::Choose => "choose",
         }
+    }
+
+    /// Whether it takes a catalogue and a list of sizes.
+    pub fn takes_sizes(self) -> bool {
+        matches!(self, Call::Losses | Call::Rate)
+    }
+
+    /// Whether it takes a catalogue.
+    pub fn takes_catalogue(self) -> bool {
+        self.takes_sizes() || self == Call::Choose
     }
 }
 
@@ -56,6 +71,7 @@ pub struct Case {
     pub call: Call,
     pub job: Vec<u8>,
     pub meters: Vec<u8>,
+    pub losses: Vec<u8>,
     pub cat: Vec<u8>,
     pub sizes: Vec<u8>,
     pub work: Buffer,
@@ -84,8 +100,8 @@ impl Buffer {
 impl Case {
     pub fn text(&self) -> String {
         let mut text = format!("call {}\n", self.call.name());
-        let lent = [("job", &self.job), ("meters", &self.meters), ("cat", &self.cat), ("sizes", &self.sizes)];
-        for (name, bytes) in lent {
+        let lent = [&self.job, &self.meters, &self.losses, &self.cat, &self.sizes];
+        for (name, bytes) in LENT.iter().zip(lent) {
             for line in bytes.chunks(48) {
                 let _ = writeln!(text, "{name} {}", hex(line));
             }
@@ -98,7 +114,7 @@ impl Case {
 
     pub fn parse(text: &str) -> Result<Case, String> {
         let mut call = None;
-        let (mut job, mut meters, mut cat, mut sizes) = (Vec::new(), Vec::new(), Vec::new(), Vec::new());
+        let mut parts: [Vec<u8>; LENT.len()] = Default::default();
         let (mut work, mut out) = (Buffer::default(), Buffer::default());
         for (line, at) in text.lines().zip(1..) {
             let line = line.trim();
@@ -107,23 +123,26 @@ impl Case {
             }
             let (name, rest) = line.split_once(char::is_whitespace).unwrap_or((line, ""));
             let wrong = |what: &str| format!("line {at}: {what}");
-            match name {
-                "call" => {
-                    let named = Call::ALL.into_iter().find(|call| call.name() == rest.trim());
-                    call = Some(named.ok_or_else(|| wrong("the calls are flow, duty, meter, rate, choose and copy"))?);
-                }
-                "job" => job.extend(unhex(rest).map_err(|what| wrong(&what))?),
-                "meters" => meters.extend(unhex(rest).map_err(|what| wrong(&what))?),
-                "cat" => cat.extend(unhex(rest).map_err(|what| wrong(&what))?),
-                "sizes" => sizes.extend(unhex(rest).map_err(|what| wrong(&what))?),
-                "work" => work = buffer(rest).map_err(|what| wrong(&what))?,
-                "out" => out = buffer(rest).map_err(|what| wrong(&what))?,
-                _ => return Err(wrong("a line starts with call, job, meters, cat, sizes, work or out")),
+            match (name, LENT.iter().position(|lent| *lent == name)) {
+                (_, Some(place)) => parts[place].extend(unhex(rest).map_err(|what| wrong(&what))?),
+                ("call", _) => call = Some(named(rest.trim()).map_err(wrong)?),
+                ("work", _) => work = buffer(rest).map_err(|what| wrong(&what))?,
+                ("out", _) => out = buffer(rest).map_err(|what| wrong(&what))?,
+                _ => return Err(wrong("a line starts with call, job, meters, losses, cat, sizes, work or out")),
             }
         }
         let call = call.ok_or("the file names no call")?;
-        Ok(Case { call, job, meters, cat, sizes, work, out })
+        let [job, meters, losses, cat, sizes] = parts;
+        Ok(Case { call, job, meters, losses, cat, sizes, work, out })
     }
+}
+
+/// What is lent to be read, by the names of its lines.
+const LENT: [&str; 5] = ["job", "meters", "losses", "cat", "sizes"];
+
+fn named(name: &str) -> Result<Call, &'static str> {
+    let call = Call::ALL.into_iter().find(|call| call.name() == name);
+    call.ok_or("the calls are flow, duty, meter, losses, heads, rate, choose and copy")
 }
 
 fn buffer(rest: &str) -> Result<Buffer, String> {
@@ -160,6 +179,7 @@ mod tests {
             call: Call::Choose,
             job: (0..=255).collect(),
             meters: (1..=45).collect(),
+            losses: (1..=252).rev().collect(),
             cat: vec![7],
             sizes: Vec::new(),
             work: Buffer { length: 17, pattern: vec![1, 2, 3] },
@@ -169,6 +189,11 @@ mod tests {
         assert_eq!(Case::parse("# nothing\n"), Err("the file names no call".to_string()));
         assert_eq!(Case::parse("call flow\njob 0g"), Err("line 2: hex has the digits 0 to 9 and a to f".to_string()));
         assert_eq!(Case::parse("call flow\njob 012"), Err("line 2: hex has two digits for each byte".to_string()));
+        for call in Call::ALL {
+            assert_eq!(Case::parse(&format!("call {}", call.name())).map(|case| case.call), Ok(call));
+        }
+        let joined = Case::parse("call heads\nlosses 00000047 0000\nlosses 0001").expect("a case");
+        assert_eq!((joined.losses, joined.job), (vec![0, 0, 0, 71, 0, 0, 0, 1], Vec::new()));
         assert!(Case::parse("call flaw").is_err());
         assert!(Case::parse("call flow\nout 99999999999").is_err());
     }

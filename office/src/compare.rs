@@ -38,7 +38,7 @@ pub fn soak(cases: u64, seed: u64, progress: &mut dyn FnMut(u64)) -> Result<Coun
     for index in 0..cases {
         let case = generate::case(seed, index);
         let judged = judge(&case);
-        let checked = agree(&case, &judged).and_then(|_| try_all(&case, &judged, &mut counters));
+        let checked = agree(&case, &judged).and_then(|_| try_more(&case, &judged, &mut counters));
         if let Err(what) = checked {
             return Err(Mismatch { case: Box::new(case), what: format!("seed {seed}, index {index}: {what}") });
         }
@@ -55,7 +55,7 @@ pub fn replay(text: &str) -> Result<String, String> {
     let case = Case::parse(text)?;
     let judged = judge(&case);
     let given = agree(&case, &judged).and_then(|given| {
-        try_all(&case, &judged, &mut Counters::default())?;
+        try_more(&case, &judged, &mut Counters::default())?;
         Ok(given)
     });
     match given {
@@ -134,6 +134,8 @@ fn call(case: &Case, out: &mut [u8], work: &mut [u8]) -> u32 {
         Call::Flow => ffi::flow(&case.job, out),
         Call::Duty => ffi::duty(&case.job, out),
         Call::Meter => ffi::meter(&case.job, &case.meters, out),
+        Call::Losses => ffi::losses(&case.job, &case.cat, &case.sizes, out),
+        Call::Heads => ffi::heads(&case.job, &case.losses, out),
         Call::Rate => ffi::rate(&case.job, &case.cat, &case.sizes, out),
         Call::Choose => ffi::choose(&case.job, &case.cat, work, out),
     }
@@ -146,6 +148,7 @@ fn expected_result(case: &Case, judged: &Judged, given: &[u8]) -> Result<Vec<u8>
     match &judged.result {
         Expected::Nothing => {}
         Expected::Bytes(bytes) => expected[..bytes.len()].copy_from_slice(bytes),
+        Expected::Headed(heads) => expected[..9].copy_from_slice(&heads.bytes()),
         Expected::Rated(rating) => expected[..9 + 6 * judged.flows.len()].copy_from_slice(&rating.bytes()),
         Expected::Chosen { cost, .. } => {
             let result = &given[..4 + judged.flows.len()];
@@ -172,9 +175,49 @@ fn chosen_well(judged: &Judged, least: i128, result: &[u8]) -> Result<(), String
     Ok(())
 }
 
+/// What is tried beside the case itself.
+fn try_more(case: &Case, judged: &Judged, counters: &mut Counters) -> Result<(), String> {
+    match case.call {
+        Call::Losses | Call::Rate => counters.note_in_turn(in_turn(case)?),
+        Call::Choose => try_all(judged, counters)?,
+        _ => {}
+    }
+    Ok(())
+}
+
+/// No result is longer, nor would be that of a record which states 255 sections.
+const AMPLE: usize = 2_600;
+
+/// Document 02's L3, through the library: with enough space for each the losses call and then the heads call, which takes the
+/// losses that the first gave, give the figures or the number of rating. Gives that number.
+fn in_turn(case: &Case) -> Result<u32, String> {
+    let Case { job, cat, sizes, .. } = case;
+    let (mut rating, mut first, mut second) = ([0; AMPLE], [0; AMPLE], [0; AMPLE]);
+    let number = ffi::rate(job, cat, sizes, &mut rating);
+    let of_first = ffi::losses(job, cat, sizes, &mut first);
+    if number != of_first {
+        return Err(format!("with enough space rating gives {number}, the losses call {of_first}"));
+    }
+    if number != 0 {
+        return Ok(number);
+    }
+    let sections = usize::from(job[6]);
+    let losses: Vec<u8> = first[..10 * sections].chunks(10).flat_map(|ten| &ten[6..]).copied().collect();
+    let of_second = ffi::heads(job, &losses, &mut second);
+    if of_second != 0 {
+        return Err(format!("rating and the losses call give 0, the heads call with those losses {of_second}"));
+    }
+    let parts = first[..10 * sections].chunks(10).flat_map(|ten| &ten[4..]);
+    let figures: Vec<u8> = second[..9].iter().chain(parts).copied().collect();
+    if figures != rating[..9 + 6 * sections] {
+        return Err(format!("the two calls in turn give {figures:?}, rating {:?}", &rating[..9 + 6 * sections]));
+    }
+    Ok(0)
+}
+
 /// The model's own search held against brute force, where there are few lists.
-fn try_all(case: &Case, judged: &Judged, counters: &mut Counters) -> Result<(), String> {
-    if case.call != Call::Choose || ![0, 16].contains(&judged.number) {
+fn try_all(judged: &Judged, counters: &mut Counters) -> Result<(), String> {
+    if ![0, 16].contains(&judged.number) {
         return Ok(());
     }
     let order = judged.order();

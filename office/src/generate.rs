@@ -10,6 +10,7 @@ mod draft;
 mod extremes;
 mod fitting;
 mod houses;
+mod losses;
 mod meters;
 mod mixed;
 mod rng;
@@ -17,17 +18,20 @@ mod rng;
 use crate::case::{Buffer, Call, Case};
 use crate::model::{self, house::House};
 use catalogues::catalogue;
-use draft::catalogue_bytes;
+use draft::{Draft, catalogue_bytes};
 use rng::Rng;
 
 /// The calls, each as often as it is worth: one that does more is asked more often.
-const CALLS: [Call; 10] = [
+const CALLS: [Call; 13] = [
     Call::Copy,
     Call::Flow,
     Call::Flow,
     Call::Duty,
     Call::Meter,
     Call::Meter,
+    Call::Losses,
+    Call::Heads,
+    Call::Heads,
     Call::Rate,
     Call::Rate,
     Call::Choose,
@@ -63,7 +67,11 @@ pub fn case(seed: u64, index: u64) -> Case {
 fn sound(rng: &Rng, call: Call) -> Case {
     // Choosing for many sections takes the model a millisecond, and its workspace is long, so it is rarer.
     let large_once_in = if call == Call::Choose { 40 } else { 12 };
-    let extreme = rng.once_in(if call == Call::Choose { 100 } else { 30 });
+    let extreme = rng.once_in(match call {
+        Call::Choose => 100,
+        Call::Losses => 10,
+        _ => 30,
+    });
     let mut draft = match rng.below(8) {
         _ if extreme => extremes::longest(rng),
         0 => demands::marked(rng),
@@ -74,6 +82,7 @@ fn sound(rng: &Rng, call: Call) -> Case {
         call,
         job: draft.bytes(),
         meters: Vec::new(),
+        losses: Vec::new(),
         cat: Vec::new(),
         sizes: Vec::new(),
         work: Buffer::default(),
@@ -82,14 +91,23 @@ fn sound(rng: &Rng, call: Call) -> Case {
     if call == Call::Meter {
         case.meters = meters::offered(rng, &House::of(&case.job));
     }
-    if matches!(call, Call::Rate | Call::Choose) {
-        let house = House::of(&case.job);
-        let flows = fitting::flows(rng, &house);
-        let measure = fitting::measure(rng, &draft, &house, &flows);
-        let sizes = if extreme { extremes::greatest(rng) } else { catalogue(rng, &measure) };
-        case.cat = catalogue_bytes(&sizes);
-        fitting::fit(rng, &mut draft, &mut case, &house, &flows);
-        case.job = draft.bytes();
+    if call.takes_catalogue() || call == Call::Heads {
+        with_pipes(rng, &mut draft, &mut case, extreme);
     }
     case
+}
+
+/// A catalogue and sizes that fit the house, or losses, which may be those of such sizes.
+fn with_pipes(rng: &Rng, draft: &mut Draft, case: &mut Case, extreme: bool) {
+    let house = House::of(&case.job);
+    let flows = fitting::flows(rng, &house);
+    let measure = fitting::measure(rng, draft, &house, &flows);
+    let sizes = if extreme { extremes::greatest(rng) } else { catalogue(rng, &measure) };
+    case.cat = catalogue_bytes(&sizes);
+    fitting::fit(rng, draft, case, &house, &flows);
+    if case.call == Call::Heads {
+        case.losses = losses::given(rng, draft, case, &flows);
+        (case.cat, case.sizes) = (Vec::new(), Vec::new());
+    }
+    case.job = draft.bytes();
 }

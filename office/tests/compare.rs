@@ -38,11 +38,13 @@ fn replaying_says_what_came_out() {
         call: Call::Flow,
         job: vec![1, 2, 3],
         meters: Vec::new(),
+        losses: Vec::new(),
         cat: Vec::new(),
         sizes: Vec::new(),
         work: Buffer::default(),
         out: Buffer { length: 4, pattern: vec![9] },
     };
     assert_eq!(replay(&short.text()).as_deref(), Ok("flow: library and model agree: number 1, result []"));
-    assert_eq!(replay("call walk"), Err("line 1: the calls are flow, duty, meter, rate, choose and copy".to_string()));
+    let calls = "line 1: the calls are flow, duty, meter, losses, heads, rate, choose and copy";
+    assert_eq!(replay("call walk"), Err(calls.to_string()));
 }

@@ -29,6 +29,8 @@ fn call_of(letter: char) -> Option<Call> {
         'd' => Some(Call::Duty),
         'm' => Some(Call::Meter),
         'p' => Some(Call::Rate),
+        'e' => Some(Call::Losses),
+        'h' => Some(Call::Heads),
         'l' | 'k' => Some(Call::Choose),
         _ => None,
     }
@@ -36,13 +38,13 @@ fn call_of(letter: char) -> Option<Call> {
 
 fn case(call: Call, vector: &Vector) -> Case {
     let lent = |length| Buffer { length, pattern: vec![vector.fill] };
-    let second = vector.second.clone();
-    let (meters, cat) = if call == Call::Meter { (second, Vec::new()) } else { (Vec::new(), second) };
+    let second = |taken: bool| if taken { vector.second.clone() } else { Vec::new() };
     Case {
         call,
         job: vector.first.clone(),
-        meters,
-        cat,
+        meters: second(call == Call::Meter),
+        losses: second(call == Call::Heads),
+        cat: second(call.takes_catalogue()),
         sizes: vector.third.clone(),
         work: lent(vector.length),
         out: lent(vector.room),
@@ -77,6 +79,7 @@ fn by_the_model(call: Call, vector: &Vector) -> String {
     let result = match &judged.result {
         Expected::Nothing => Vec::new(),
         Expected::Bytes(bytes) => bytes.clone(),
+        Expected::Headed(heads) => heads.bytes(),
         Expected::Rated(rating) => rating.bytes(),
         Expected::Chosen { cost, list } => {
             let mut bytes = Vec::new();
@@ -95,6 +98,8 @@ fn by_the_library(call: Call, vector: &Vector) -> String {
         Call::Flow => ffi::flow(&vector.first, &mut out),
         Call::Duty => ffi::duty(&vector.first, &mut out),
         Call::Meter => ffi::meter(&vector.first, &vector.second, &mut out),
+        Call::Losses => ffi::losses(&vector.first, &vector.second, &vector.third, &mut out),
+        Call::Heads => ffi::heads(&vector.first, &vector.second, &mut out),
         Call::Rate => ffi::rate(&vector.first, &vector.second, &vector.third, &mut out),
         Call::Choose => ffi::choose(&vector.first, &vector.second, &mut work, &mut out),
     };
@@ -103,7 +108,7 @@ fn by_the_library(call: Call, vector: &Vector) -> String {
 
 #[test]
 fn exported_calls() {
-    for vector in with("cfdmplk") {
+    for vector in with("cfdmpehlk") {
         let call = call_of(vector.letter).expect("an exported call");
         assert_eq!(by_the_model(call, &vector), vector.answer, "the model: {}", vector.name);
         assert_eq!(by_the_library(call, &vector), vector.answer, "the library: {}", vector.name);
@@ -225,7 +230,7 @@ fn refusals_that_hold() {
             alone.push((vector.letter, number));
         }
     }
-    let numbers: [(char, &[u32]); 9] = [
+    let numbers: [(char, &[u32]); 11] = [
         ('r', &[1, 2, 3, 4, 5, 6, 7]),
         ('w', &[3, 5, 6, 7, 14]),
         ('c', &[1, 2, 3, 4, 5, 6, 7, 14]),
@@ -233,6 +238,8 @@ fn refusals_that_hold() {
         ('d', &[1, 2, 3, 4, 5, 6, 7, 8, 9, 14]),
         ('m', &[1, 2, 3, 4, 5, 6, 7, 8, 9, 14, 17, 18]),
         ('p', &[1, 2, 3, 4, 5, 6, 7, 8, 9, 10, 11, 12, 13, 14]),
+        ('e', &[1, 2, 3, 4, 5, 6, 7, 8, 9, 10, 11, 12, 13, 14]),
+        ('h', &[1, 2, 3, 4, 5, 6, 7, 8, 9, 14, 19]),
         ('s', &[2, 3, 4, 5, 6, 7, 8, 9, 10, 11, 12, 13]),
         ('l', &[1, 2, 3, 4, 5, 6, 7, 8, 9, 10, 11, 14, 15, 16]),
     ];

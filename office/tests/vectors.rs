@@ -12,7 +12,8 @@ const CATALOGUE: &str = "0000002f010202 00280384 000003e803200028 00000bb8096001
 const METERS: &str = "01 0002 02e4  01 0001 02e4";
 
 fn own(call: Call) -> Case {
-    let file = format!("call {}\njob {JOB}\nmeters {METERS}\ncat {CATALOGUE}\nsizes 02\n", call.name());
+    let lent = format!("meters {METERS}\nlosses 00000047\ncat {CATALOGUE}\nsizes 02\n");
+    let file = format!("call {}\njob {JOB}\n{lent}", call.name());
     let mut case = Case::parse(&file).expect("the own case");
     case.out = Buffer { length: 100, pattern: vec![0xa5] };
     case.work = Buffer { length: 17_608 + 8_000, pattern: vec![0x5a, 1, 2] };
@@ -67,9 +68,9 @@ fn edits_of_the_job() {
         (0, &[(42, &[0, 71])]),
     ];
     for (expected, edit) in edits {
-        assert_eq!(number(&edited(Call::Flow, edit)), *expected, "{edit:?}");
-        assert_eq!(number(&edited(Call::Duty, edit)), *expected, "duty: {edit:?}");
-        assert_eq!(number(&edited(Call::Meter, edit)), *expected, "meter: {edit:?}");
+        for call in [Call::Flow, Call::Duty, Call::Meter, Call::Losses, Call::Heads] {
+            assert_eq!(number(&edited(call, edit)), *expected, "{}: {edit:?}", call.name());
+        }
         let read = if [8, 9].contains(expected) { 0 } else { *expected };
         assert_eq!(number(&edited(Call::Copy, edit)), read, "copied: {edit:?}");
     }
@@ -92,7 +93,7 @@ fn edits_of_the_catalogue() {
         (0, 25, &[0, 40]),
     ];
     for (expected, at, bytes) in edits {
-        for call in [Call::Rate, Call::Choose] {
+        for call in [Call::Losses, Call::Rate, Call::Choose] {
             let mut case = own(call);
             case.cat[*at..at + bytes.len()].copy_from_slice(bytes);
             assert_eq!(number(&case), *expected, "{at} {bytes:?}");
@@ -136,11 +137,16 @@ fn edits_of_the_meters() {
     }
 }
 
-/// What library and model give where a meter wins: its place, the two bytes of its loss, and whether the rest is the job.
-fn won(case: &Case) -> (u8, u16, bool) {
+/// The bytes of the result that library and model give.
+fn result(case: &Case) -> Vec<u8> {
     let printed = replay(&case.text()).unwrap_or_else(|what| panic!("{what}\n{}", case.text()));
     let bytes = printed.split_once("number 0, result [").and_then(|(_, rest)| rest.strip_suffix(']'));
-    let bytes: Vec<u8> = bytes.expect("a meter wins").split(", ").map(|byte| byte.parse().expect("a byte")).collect();
+    bytes.expect("a result").split(", ").map(|byte| byte.parse().expect("a byte")).collect()
+}
+
+/// What library and model give where a meter wins: its place, the two bytes of its loss, and whether the rest is the job.
+fn won(case: &Case) -> (u8, u16, bool) {
+    let bytes = result(case);
     let kept = bytes.len() == 1 + case.job.len() && bytes[1..9] == case.job[..8] && bytes[11..] == case.job[10..];
     (bytes[0], u16::from_be_bytes([bytes[9], bytes[10]]), kept)
 }
@@ -165,6 +171,52 @@ fn the_meter_that_wins() {
     }
 }
 
+/// 2,052 ml/s, 1,026 mm/s and 71 cm; then 921 and 421 cm, section 1.
+#[test]
+fn losses_and_heads_of_the_own_case() {
+    assert_eq!(result(&own(Call::Losses)), [0, 0, 8, 4, 4, 2, 0, 0, 0, 71]);
+    assert_eq!(result(&own(Call::Heads)), [0, 0, 3, 0x99, 0, 0, 1, 0xa5, 1]);
+    assert_eq!(result(&own(Call::Rate)), [0, 0, 3, 0x99, 0, 0, 1, 0xa5, 1, 4, 2, 0, 0, 0, 71]);
+    // Elevation -1,000, free head 0 and meter loss 0 with a loss of 0.
+    let mut least = edited(Call::Heads, &[(8, &[0, 0]), (46, &[0xfc, 0x18, 0, 0])]);
+    least.losses = vec![0; 4];
+    assert_eq!(result(&least), [0xff, 0xff, 0xfc, 0x18, 0, 0, 0, 0, 1]);
+}
+
+#[test]
+fn edits_of_the_losses() {
+    let edits: &[(u32, &[u8])] = &[
+        (0, &[0, 0, 0, 0]),
+        (0, &[0, 0x40, 0xff, 0xbf]),
+        (19, &[0, 0x40, 0xff, 0xc0]),
+        (19, &[0xff, 0xff, 0xff, 0xff]),
+        (19, &[]),
+        (19, &[0, 0, 71]),
+        (19, &[0, 0, 0, 71, 0]),
+        (19, &[0, 0, 0, 71, 0, 0, 0, 71]),
+        (19, &[0, 0, 8, 4, 4, 2, 0, 0, 0, 71]),
+    ];
+    for (expected, losses) in edits {
+        let case = Case { losses: losses.to_vec(), ..own(Call::Heads) };
+        assert_eq!(number(&case), *expected, "{losses:?}");
+    }
+}
+
+/// 12 before 14 before 13, and 19 before 14.
+#[test]
+fn buffers_of_losses_and_heads() {
+    for (sizes, out, expected) in [(vec![1], 10, 13), (vec![1], 9, 14), (vec![3], 9, 12)] {
+        let mut case = Case { sizes, ..own(Call::Losses) };
+        case.out.length = out;
+        assert_eq!(number(&case), expected, "losses into {out} bytes");
+    }
+    for (losses, out, expected) in [(vec![], 8, 19), (vec![0; 4], 8, 14)] {
+        let mut case = Case { losses, ..own(Call::Heads) };
+        case.out.length = out;
+        assert_eq!(number(&case), expected, "heads into {out} bytes");
+    }
+}
+
 #[test]
 fn lists_and_buffers() {
     for (list, length, expected) in [
@@ -181,10 +233,12 @@ fn lists_and_buffers() {
         case.out.length = length;
         assert_eq!(number(&case), expected, "{list:?} {length}");
     }
-    for (out, expected) in [(0, 14), (3, 14), (4, 0)] {
-        let mut case = own(Call::Duty);
-        case.out.length = out;
-        assert_eq!(number(&case), expected, "duty into {out} bytes");
+    for (call, needed) in [(Call::Duty, 4), (Call::Losses, 10), (Call::Heads, 9)] {
+        for (out, expected) in [(0, 14), (needed - 1, 14), (needed, 0)] {
+            let mut case = own(call);
+            case.out.length = out;
+            assert_eq!(number(&case), expected, "{} into {out} bytes", call.name());
+        }
     }
     for (list, out, expected) in [("", 50, 17), ("01 0001 02e3", 50, 14), ("01 0001 02e3", 51, 18), (METERS, 51, 0)] {
         let file = format!("call meter\njob {JOB}\nmeters {list}\nout {out} a5\n");

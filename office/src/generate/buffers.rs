@@ -16,11 +16,12 @@ pub fn lend(rng: &Rng, case: &mut Case, spoilt: [u32; 2]) {
     }
 }
 
+/// A record that states no section needs nothing for some calls.
 fn buffer(rng: &Rng, needed: usize, short: bool) -> Buffer {
     let length = match rng.below(if short { 4 } else { 40 }) {
         0 => 0,
-        1 => rng.below(needed as u64) as usize,
-        2 | 3 => needed - 1,
+        1 => rng.below(needed.max(1) as u64) as usize,
+        2 | 3 => needed.saturating_sub(1),
         4..20 => needed,
         _ => needed + rng.pick(&[1, 2, 3, 4, 40, 1_000]),
     };

@@ -3,6 +3,7 @@
 use super::draft::restate;
 use super::rng::Rng;
 use crate::case::{Call, Case};
+use crate::model::heads::MOST_LOSS;
 
 /// Puts the fault of this number into the case, as far as its bytes allow. 14 and 15 are made with the buffers.
 pub fn spoil(rng: &Rng, case: &mut Case, number: u32) {
@@ -29,6 +30,7 @@ pub fn spoil(rng: &Rng, case: &mut Case, number: u32) {
         }
         17 => meters(rng, &mut case.meters),
         18 => small_meters(rng, &mut case.meters),
+        19 => losses(rng, &mut case.losses),
         _ => {}
     }
 }
@@ -38,6 +40,7 @@ pub fn scratch(rng: &Rng, case: &mut Case) {
     let (target, stated) = match rng.below(8) {
         0 if !case.sizes.is_empty() => (&mut case.sizes, true),
         0..4 if !case.meters.is_empty() => (&mut case.meters, false),
+        0..4 if !case.losses.is_empty() => (&mut case.losses, false),
         1..4 if !case.cat.is_empty() => (&mut case.cat, true),
         _ => (&mut case.job, true),
     };
@@ -61,9 +64,11 @@ pub fn scratch(rng: &Rng, case: &mut Case) {
 pub fn junk(rng: &Rng, case: &mut Case) {
     let length = rng.pick(&[0, 3, 6, 7, 39, 40, 50, 60, 670, 700]);
     let bytes = rng.bytes(length);
-    if matches!(case.call, Call::Rate | Call::Choose) && rng.once_in(2) {
+    if case.call.takes_catalogue() && rng.once_in(2) {
         case.cat = bytes;
         restate(&mut case.cat);
+    } else if case.call == Call::Heads && rng.once_in(2) {
+        case.losses = rng.bytes(rng.pick(&[0, 1, 4, 8, 10, 12, 252, 253]));
     } else if case.call == Call::Meter && rng.once_in(2) {
         case.meters = rng.bytes(rng.pick(&[0, 1, 4, 5, 6, 10, 40, 41, 45, 80]));
     } else {
@@ -309,6 +314,27 @@ fn small_meters(rng: &Rng, list: &mut [u8]) {
         if which > 0 {
             set16(list, at + 1, 65_535);
         }
+    }
+}
+
+/// 19: losses that are too many, too few or cut, ten bytes for each as the losses call gives them, or one over the most.
+fn losses(rng: &Rng, list: &mut Vec<u8>) {
+    let over = MOST_LOSS as u32 + 1;
+    let last = list.len().saturating_sub(4);
+    let at = rng.pick(&[0, last, last / 8 * 4]);
+    match rng.below(14) {
+        0 => list.clear(),
+        1 => drop(list.pop()),
+        2 => list.push(rng.byte()),
+        3 | 4 => list.truncate(last),
+        5 | 6 => list.extend([0, 0, 0, rng.byte()]),
+        7 => *list = list.chunks(4).flat_map(|loss| [&[0, 0, 3, 232, 2, 88], loss].concat()).collect(),
+        8 => {
+            set32(list, at, over);
+            list.extend(over.to_be_bytes());
+        }
+        9..12 => set32(list, at, over),
+        _ => set32(list, at, rng.pick(&[over, over + 64, 1 << 24, 1 << 31, u32::MAX])),
     }
 }
 

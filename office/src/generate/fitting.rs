@@ -34,7 +34,7 @@ pub fn measure(rng: &Rng, draft: &Draft, house: &House, flows: &[i128]) -> Measu
     }
 }
 
-/// Sizes for rating, and a velocity limit and a delivered head at or beside the ones where the answer turns.
+/// Sizes for all but choosing, and a velocity limit and a delivered head at or beside the ones where the answer turns.
 pub fn fit(rng: &Rng, draft: &mut Draft, case: &mut Case, house: &House, flows: &[i128]) {
     let cat = Catalogue::of(&case.cat);
     let order = Order { house, cat: &cat, flows };
@@ -66,10 +66,10 @@ pub fn fit(rng: &Rng, draft: &mut Draft, case: &mut Case, house: &House, flows: 
         };
         let beside = rng.pick(&[-1, 0, 0, 1, 20, 200]);
         if let Some(rating) = order.rate(&named) {
-            draft.delivered = (rating.required as i64 + beside).clamp(0, 6_000) as u16;
+            draft.delivered = (rating.heads.required as i64 + beside).clamp(0, 6_000) as u16;
         }
     }
-    if case.call == Call::Rate {
+    if case.call != Call::Choose {
         case.sizes = list;
     }
 }

@@ -1,6 +1,7 @@
 //! An independent model of document 01 and of the requests of document 02 that have landed, written from the papers alone and
 //! by other means than the proved library: whole numbers of 128 bits, sets of sections, every rule asked of every input, brute
-//! force and fronts in place of rows of heads, meters put in order. The tests compare the two.
+//! force and fronts in place of rows of heads, meters put in order, each loss counted at the ends below it. The tests compare the
+//! two.
 
 pub mod alpha;
 pub mod brute;
@@ -9,6 +10,7 @@ pub mod catalogue;
 pub mod demand;
 pub mod faults;
 pub mod fronts;
+pub mod heads;
 pub mod house;
 pub mod meters;
 pub mod norms;
@@ -20,15 +22,17 @@ use bytes::put;
 use catalogue::Catalogue;
 use demand::Demand;
 use faults::Faults;
+use heads::{Heads, Losses};
 use house::House;
 use meters::Meters;
-use rating::{Order, Rating};
+use rating::{Order, Rating, losses_bytes};
 
 /// What the papers say of one call.
 pub struct Judged {
     pub house: House,
     pub demand: Demand,
     pub meters: Meters,
+    pub losses: Losses,
     pub cat: Catalogue,
     /// Each section's flow; empty where the job is refused.
     pub flows: Vec<i128>,
@@ -44,8 +48,9 @@ pub struct Judged {
 pub enum Expected {
     /// The call is refused and writes nothing.
     Nothing,
-    /// A copy, a flow result, a duty, a place with a job.
+    /// A copy, a flow result, a duty, a place with a job, flow, velocity and loss of each section.
     Bytes(Vec<u8>),
+    Headed(Heads),
     Rated(Rating),
     /// A suitable list of this cost, the least; the list here is one of them.
     Chosen {
@@ -60,7 +65,8 @@ pub fn order_of(call: Call) -> &'static [u32] {
         Call::Copy => &[1, 2, 3, 4, 5, 6, 7, 14],
         Call::Flow | Call::Duty => &[1, 2, 3, 4, 5, 6, 7, 8, 9, 14],
         Call::Meter => &[1, 2, 3, 4, 5, 6, 7, 8, 9, 17, 14, 18],
-        Call::Rate => &[1, 2, 3, 4, 5, 6, 7, 8, 9, 10, 11, 12, 14, 13],
+        Call::Losses | Call::Rate => &[1, 2, 3, 4, 5, 6, 7, 8, 9, 10, 11, 12, 14, 13],
+        Call::Heads => &[1, 2, 3, 4, 5, 6, 7, 8, 9, 19, 14],
         Call::Choose => &[1, 2, 3, 4, 5, 6, 7, 8, 9, 10, 11, 14, 15, 16],
     }
 }
@@ -72,6 +78,8 @@ pub fn result_bytes(call: Call, sections: usize) -> usize {
         Call::Flow => 12 + 4 * sections,
         Call::Duty => 4,
         Call::Meter => 41 + 10 * sections,
+        Call::Losses => 10 * sections,
+        Call::Heads => 9,
         Call::Rate => 9 + 6 * sections,
         Call::Choose => 4 + sections,
     }
@@ -86,75 +94,69 @@ pub fn work_bytes(sections: usize, delivered: usize) -> usize {
 pub fn judge(case: &Case) -> Judged {
     let house = House::of(&case.job);
     let demand = Demand::of(&house);
-    let meters = Meters::of(&case.meters);
-    let cat = Catalogue::of(&case.cat);
+    let (meters, losses, cat) = (Meters::of(&case.meters), Losses::of(&case.losses), Catalogue::of(&case.cat));
     let mut faults = house.faults();
     if case.call != Call::Copy {
         faults.join(demand.faults());
     }
     let flows = if faults.any() || case.call == Call::Copy { Vec::new() } else { demand.flows() };
-    if case.call == Call::Meter {
-        faults.join(meters.faults());
-    }
-    if matches!(case.call, Call::Rate | Call::Choose) {
-        faults.join(cat.faults());
-    }
-    let order = Order { house: &house, cat: &cat, flows: &flows };
-    if case.call == Call::Rate {
-        faults.note(12, order.list_wrong(&case.sizes));
-    }
-    let mut result =
-        if faults.any() { Expected::Nothing } else { result_of(case, &order, &demand, &meters, &mut faults) };
-    let sections = house.sections.len();
-    faults.note(14, case.out.length < result_bytes(case.call, sections));
-    if case.call == Call::Choose {
-        faults.note(15, case.work.length < work_bytes(sections, house.delivered as usize));
-    }
-    let number = faults.first(order_of(case.call));
-    if number != 0 {
-        result = Expected::Nothing;
-    }
-    Judged { house, demand, meters, cat, flows, faults, number, result }
-}
-
-/// The result of inputs in which nothing was found so far, or 13, 16 or 18.
-fn result_of(case: &Case, order: &Order, demand: &Demand, meters: &Meters, faults: &mut Faults) -> Expected {
     match case.call {
-        Call::Copy => Expected::Bytes(case.job.clone()),
-        Call::Flow => Expected::Bytes(flow_bytes(demand, order.flows)),
-        Call::Duty => {
-            let mut bytes = Vec::new();
-            put(&mut bytes, demand.house_flow(), 4);
-            Expected::Bytes(bytes)
-        }
-        Call::Meter => match meters.ranked(demand.house_flow(), demand.mean_hour()).first() {
-            Some((loss, place)) => Expected::Bytes(metered(&case.job, *loss, *place)),
-            None => {
-                faults.note(18, true);
-                Expected::Nothing
-            }
-        },
-        Call::Rate => match order.rate(&case.sizes) {
-            Some(rating) => Expected::Rated(rating),
-            None => {
-                faults.note(13, true);
-                Expected::Nothing
-            }
-        },
-        Call::Choose => match fronts::least(order) {
-            Some((cost, list)) => Expected::Chosen { cost, list },
-            None => {
-                faults.note(16, true);
-                Expected::Nothing
-            }
-        },
+        Call::Copy | Call::Flow | Call::Duty => {}
+        Call::Meter => faults.join(meters.faults()),
+        Call::Heads => faults.join(losses.faults(&house)),
+        Call::Losses | Call::Rate | Call::Choose => faults.join(cat.faults()),
     }
+    let nothing = Expected::Nothing;
+    let mut judged = Judged { house, demand, meters, losses, cat, flows, faults, number: 0, result: nothing };
+    faults.note(12, case.call.takes_sizes() && judged.order().list_wrong(&case.sizes));
+    if !faults.any() {
+        match judged.result_of(case) {
+            Ok(result) => judged.result = result,
+            Err(number) => faults.note(number, true),
+        }
+    }
+    let sections = judged.house.sections.len();
+    faults.note(14, case.out.length < result_bytes(case.call, sections));
+    let work = work_bytes(sections, judged.house.delivered as usize);
+    faults.note(15, case.call == Call::Choose && case.work.length < work);
+    judged.faults = faults;
+    judged.number = faults.first(order_of(case.call));
+    if judged.number != 0 {
+        judged.result = Expected::Nothing;
+    }
+    judged
 }
 
 impl Judged {
     /// The accepted job and catalogue.
     pub fn order(&self) -> Order<'_> {
         Order { house: &self.house, cat: &self.cat, flows: &self.flows }
+    }
+
+    /// The result of inputs in which nothing was found so far, or 13, 16 or 18.
+    fn result_of(&self, case: &Case) -> Result<Expected, u32> {
+        let (order, demand) = (self.order(), &self.demand);
+        Ok(match case.call {
+            Call::Copy => Expected::Bytes(case.job.clone()),
+            Call::Flow => Expected::Bytes(flow_bytes(demand, &self.flows)),
+            Call::Duty => {
+                let mut bytes = Vec::new();
+                put(&mut bytes, demand.house_flow(), 4);
+                Expected::Bytes(bytes)
+            }
+            Call::Meter => {
+                let ranked = self.meters.ranked(demand.house_flow(), demand.mean_hour());
+                let (loss, place) = ranked.first().ok_or(18u32)?;
+                Expected::Bytes(metered(&case.job, *loss, *place))
+            }
+            Call::Losses => Expected::Bytes(losses_bytes(&self.flows, &order.fit(&case.sizes).ok_or(13u32)?)),
+            Call::Heads => Expected::Headed(Heads::of(&self.house, &self.losses.all)),
+            Call::Rate => Expected::Rated(order.rate(&case.sizes).ok_or(13u32)?),
+            Call::Choose => {
+                let (cost, list) = fronts::least(&order).ok_or(16u32)?;
+                Expected::Chosen { cost, list }
+            }
+        })
     }
 }
 

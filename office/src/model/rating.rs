@@ -2,6 +2,7 @@
 
 use super::bytes::{put, up};
 use super::catalogue::Catalogue;
+use super::heads::Heads;
 use super::house::House;
 
 /// An accepted job and an accepted catalogue.
@@ -22,11 +23,7 @@ pub struct Fitted {
 pub struct Rating {
     /// Section i at place i - 1.
     pub sections: Vec<Fitted>,
-    /// What each end asks for above the pump's axis: elevation, free head and path loss; section i at place i - 1.
-    pub reaches: Vec<i128>,
-    pub required: i128,
-    pub pump: i128,
-    pub dictating: usize,
+    pub heads: Heads,
 }
 
 impl Order<'_> {
@@ -49,27 +46,21 @@ impl Order<'_> {
         self.cat.sizes[t - 1].price * self.house.sections[section - 1].length
     }
 
-    /// A list that 12 lets through; `None` where 13 applies.
+    /// Each section of a list that 12 lets through; `None` where 13 applies.
+    pub fn fit(&self, list: &[u8]) -> Option<Vec<Fitted>> {
+        list.iter().zip(1..).map(|(t, section)| self.fitted(section, usize::from(*t))).collect()
+    }
+
+    /// The same with its heads.
     pub fn rate(&self, list: &[u8]) -> Option<Rating> {
-        let fitted = list.iter().zip(1..).map(|(t, section)| self.fitted(section, usize::from(*t)));
-        let sections: Vec<Fitted> = fitted.collect::<Option<_>>()?;
-        let path_loss = |path: &Vec<usize>| path.iter().map(|at| sections[at - 1].loss).sum::<i128>();
-        let ends = self.house.sections.iter().zip(&self.house.paths);
-        let reaches: Vec<i128> = ends.map(|(s, path)| s.elevation + s.free + path_loss(path)).collect();
-        let greatest = *reaches.iter().max().expect("an accepted job has a section");
-        let required = self.house.meter + greatest;
-        Some(Rating {
-            required,
-            pump: (required - self.house.guaranteed).max(0),
-            dictating: 1 + reaches.iter().position(|reach| *reach == greatest).expect("the greatest is one of them"),
-            reaches,
-            sections,
-        })
+        let sections = self.fit(list)?;
+        let losses: Vec<i128> = sections.iter().map(|fitted| fitted.loss).collect();
+        Some(Rating { heads: Heads::of(self.house, &losses), sections })
     }
 
     /// Whether a list suits, in document 01's words.
     pub fn suits(&self, list: &[u8]) -> bool {
-        !self.list_wrong(list) && self.rate(list).is_some_and(|rating| rating.required <= self.house.delivered)
+        !self.list_wrong(list) && self.rate(list).is_some_and(|rating| rating.heads.required <= self.house.delivered)
     }
 
     /// The cost of a list that 12 lets through.
@@ -78,16 +69,28 @@ impl Order<'_> {
     }
 }
 
+impl Fitted {
+    /// Velocity and loss.
+    fn put(&self, bytes: &mut Vec<u8>) {
+        put(bytes, self.velocity, 2);
+        put(bytes, self.loss, 4);
+    }
+}
+
 impl Rating {
     pub fn bytes(&self) -> Vec<u8> {
-        let mut bytes = Vec::new();
-        put(&mut bytes, self.required, 4);
-        put(&mut bytes, self.pump, 4);
-        put(&mut bytes, self.dictating as i128, 1);
-        for fitted in &self.sections {
-            put(&mut bytes, fitted.velocity, 2);
-            put(&mut bytes, fitted.loss, 4);
-        }
+        let mut bytes = self.heads.bytes();
+        self.sections.iter().for_each(|fitted| fitted.put(&mut bytes));
         bytes
     }
+}
+
+/// The result of the losses call.
+pub fn losses_bytes(flows: &[i128], sections: &[Fitted]) -> Vec<u8> {
+    let mut bytes = Vec::new();
+    for (flow, fitted) in flows.iter().zip(sections) {
+        put(&mut bytes, *flow, 4);
+        fitted.put(&mut bytes);
+    }
+    bytes
 }

@@ -2,6 +2,7 @@
 
 use super::{Counters, Situation};
 use crate::case::{Call, Case};
+use crate::model::heads::Heads;
 use crate::model::{self, Expected, Judged, alpha};
 
 impl Counters {
@@ -19,17 +20,21 @@ impl Counters {
             self.note_taps(case, judged);
         }
         match &judged.result {
-            Expected::Rated(rating) => self.note_rating(judged, rating),
+            Expected::Rated(rating) => self.note_rating(judged, &rating.heads),
+            Expected::Headed(heads) => self.note_heads(judged, heads),
             Expected::Chosen { cost, list } => {
                 self.note_choice(judged, *cost, list);
                 self.note_search(judged);
             }
             _ => {}
         }
-        if case.call == Call::Meter {
-            self.note_meters(case, judged);
+        match case.call {
+            Call::Meter => self.note_meters(case, judged),
+            Call::Losses => self.note_losses(case, judged),
+            Call::Heads => self.note_given(case, judged),
+            _ => {}
         }
-        if matches!(case.call, Call::Rate | Call::Choose) && (1..=12).all(|number| !judged.faults.has(number)) {
+        if case.call.takes_catalogue() && (1..=12).all(|number| !judged.faults.has(number)) {
             self.note_readings(case, judged);
         }
         if judged.number == 16 {
@@ -105,7 +110,7 @@ impl Counters {
         self.saw(ChildDrawsMore, house.sections.iter().zip(flows).any(more));
     }
 
-    /// How the sizes in question read at the flows: those of the list for rating, all for choosing.
+    /// How the sizes in question read at the flows: all for choosing, otherwise those of the list.
     fn note_readings(&mut self, case: &Case, judged: &Judged) {
         use Situation::*;
         let limit = judged.house.limit;
@@ -130,16 +135,15 @@ impl Counters {
         }
     }
 
-    fn note_rating(&mut self, judged: &Judged, rating: &model::rating::Rating) {
+    fn note_rating(&mut self, judged: &Judged, heads: &Heads) {
         use Situation::*;
-        self.saw(NegativeHead, rating.required < 0);
-        self.saw(GreatHead, rating.required > 100_000_000);
-        self.saw(PumpZero, rating.pump == 0);
-        self.saw(PumpAbove, rating.pump > 0);
-        let greatest = rating.reaches[rating.dictating - 1];
-        self.saw(DictatingTie, rating.reaches.iter().filter(|reach| **reach == greatest).count() > 1);
-        self.saw(DictatingLater, rating.dictating > 1);
-        self.saw(DictatingKind0, judged.house.sections[rating.dictating - 1].kind == 0);
+        self.saw(NegativeHead, heads.required < 0);
+        self.saw(GreatHead, heads.required > 100_000_000);
+        self.saw(PumpZero, heads.pump == 0);
+        self.saw(PumpAbove, heads.pump > 0);
+        self.saw(DictatingTie, heads.equals() > 1);
+        self.saw(DictatingLater, heads.dictating > 1);
+        self.saw(DictatingKind0, judged.house.sections[heads.dictating - 1].kind == 0);
     }
 
     fn note_choice(&mut self, judged: &Judged, cost: i128, list: &[u8]) {
@@ -148,8 +152,8 @@ impl Counters {
         self.saw(GreatCost, cost > 2_147_483_647);
         self.saw(NegativeChosen, judged.house.delivered < judged.house.meter);
         if let Some(rating) = judged.order().rate(list) {
-            self.saw(HeadExact, rating.required == judged.house.delivered);
-            self.saw(ChosenNegative, rating.required < 0);
+            self.saw(HeadExact, rating.heads.required == judged.house.delivered);
+            self.saw(ChosenNegative, rating.heads.required < 0);
         }
     }
 
@@ -164,7 +168,7 @@ impl Counters {
         };
         let list: Option<Vec<u8>> = (1..=sections).map(flattest).collect();
         let rating = list.and_then(|list| order.rate(&list));
-        self.saw(HeadOneShort, rating.is_some_and(|rating| rating.required == judged.house.delivered + 1));
+        self.saw(HeadOneShort, rating.is_some_and(|rating| rating.heads.required == judged.house.delivered + 1));
     }
 
     /// Counts what brute force found: how many cheapest lists, or none.

@@ -11,8 +11,8 @@ impl Counters {
     /// An accepted job.
     pub(super) fn note_taps(&mut self, case: &Case, judged: &Judged) {
         match case.call {
-            Call::Copy => {}
-            Call::Flow | Call::Rate | Call::Choose => self.note_tapped_sections(case, judged),
+            Call::Copy | Call::Heads => {}
+            Call::Flow | Call::Losses | Call::Rate | Call::Choose => self.note_tapped_sections(case, judged),
             Call::Duty | Call::Meter => self.note_tapped_house(case, judged),
         }
     }
@@ -23,6 +23,7 @@ impl Counters {
         let tapped = taps.iter().any(|kinds| !kinds.is_empty());
         let done = tapped && judged.number == 0;
         self.saw(TapInFlow, done && case.call == Call::Flow);
+        self.saw(TapInLosses, done && case.call == Call::Losses);
         self.saw(TapInRating, done && case.call == Call::Rate);
         self.saw(TapInChoice, done && case.call == Call::Choose);
         if judged.number == 0 {
@@ -79,7 +80,7 @@ impl Counters {
         let averages = judged.demand.averages();
         let order = Order { flows: &averages, ..judged.order() };
         match (judged.number, &judged.result) {
-            (13, _) => self.saw(TapAlone13, order.rate(&case.sizes).is_some()),
+            (13, _) => self.saw(TapAlone13, order.fit(&case.sizes).is_some()),
             (16, _) => self.saw(TapAlone16, fronts::least(&order).is_some()),
             (_, Expected::Chosen { cost, .. }) => {
                 self.saw(TapDearer, fronts::least(&order).is_some_and(|(least, _)| least < *cost));
@@ -158,7 +159,8 @@ mod tests {
     fn case(call: Call, job: &[u8]) -> Case {
         let lent = |length| Buffer { length, pattern: Vec::new() };
         let (job, none) = (job.to_vec(), Vec::new());
-        Case { call, job, meters: none.clone(), cat: none.clone(), sizes: none, work: lent(60_000), out: lent(200) }
+        let (meters, losses, cat) = (none.clone(), none.clone(), none.clone());
+        Case { call, job, meters, losses, cat, sizes: none, work: lent(60_000), out: lent(200) }
     }
 
     fn reached<const N: usize>(case: &Case, situations: [Situation; N]) -> [u64; N] {
@@ -230,13 +232,15 @@ mod tests {
 
     #[test]
     fn lists() {
-        let ask = [TapInRating, TapAlone13];
-        let rating =
-            |last| Case { cat: catalogue(last, false), sizes: vec![1, 1], ..case(Call::Rate, &baths_over_basins()) };
-        assert_eq!(reached(&rating(300), ask), [1, 0]);
-        assert_eq!(reached(&rating(299), ask), [0, 1]);
-        assert_eq!(reached(&rating(240), ask), [0, 1]);
-        assert_eq!(reached(&rating(239), ask), [0, 0], "13 by the average too");
+        for (call, of_call) in [(Call::Rate, TapInRating), (Call::Losses, TapInLosses)] {
+            let ask = [of_call, TapAlone13];
+            let listed =
+                |last| Case { cat: catalogue(last, false), sizes: vec![1, 1], ..case(call, &baths_over_basins()) };
+            assert_eq!(reached(&listed(300), ask), [1, 0]);
+            assert_eq!(reached(&listed(299), ask), [0, 1]);
+            assert_eq!(reached(&listed(240), ask), [0, 1]);
+            assert_eq!(reached(&listed(239), ask), [0, 0], "13 by the average too");
+        }
         let ask = [TapInChoice, TapAlone16, TapDearer];
         let choice = |last, two| Case { cat: catalogue(last, two), ..case(Call::Choose, &baths_over_basins()) };
         assert_eq!(reached(&choice(300, true), ask), [1, 0, 0]);
