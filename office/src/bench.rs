@@ -1,4 +1,5 @@
-//! The library against its rivals, on the same inputs and in one run: flow, meter, rate and choose of the independent model, and
+//! The library against its rivals, on the same inputs and in one run: flow, meter, rating in one call and in
+//! two, and choosing of the independent model, and
 //! searches in safe Rust. Nobody clears a buffer between calls. Ratios are the library's time over the rival's, taken round
 //! by round with the sides in turn, so that a slow moment of the machine falls on all of them.
 
@@ -13,7 +14,7 @@ use crate::rivals::dense::{Dense, Form};
 use crate::rivals::fronts::Fronts;
 use crate::rivals::ranges::Ranges;
 use crate::rivals::tree::{Found, Tree};
-use houses::{Pipes, catalogue, house, meters};
+use houses::{Pipes, catalogue, house, losses, meters};
 use std::fmt::Write;
 use std::hint::black_box;
 use timing::{Side, Spread, micros, race};
@@ -37,12 +38,16 @@ pub fn bench() -> String {
             text += &choosing(&Load { sections, head: 6_000, sizes: 12, pipes });
         }
     }
-    let _ =
-        writeln!(text, "\nflow, meter and rating: library against the model (8 meters, 12 sizes of 64 rows)\n{OTHERS}");
+    let _ = writeln!(
+        text,
+        "\nflow, meter, rating and its two calls: library against the model (8 meters, 12 sizes of 64 rows)\n{OTHERS}"
+    );
     for sections in [8, 32, 63] {
         text += &other(Call::Flow, sections);
         text += &other(Call::Meter, sections);
         text += &other(Call::Rate, sections);
+        text += &other(Call::Losses, sections);
+        text += &other(Call::Heads, sections);
     }
     text + &growth::table()
 }
@@ -68,6 +73,7 @@ impl Load {
             call: Call::Choose,
             job: house(self.sections, self.head, self.pipes),
             meters: Vec::new(),
+            losses: Vec::new(),
             cat: catalogue(self.sizes, 64, self.pipes),
             sizes: Vec::new(),
             work: Buffer { length: work_bytes(self.sections, self.head), pattern: Vec::new() },
@@ -118,6 +124,10 @@ fn other_case(call: Call, sections: usize) -> Case {
             case.cat.clear();
             case.meters = meters();
         }
+        Call::Heads => {
+            case.cat.clear();
+            case.losses = losses(sections);
+        }
         _ => case.sizes = (0..sections).map(|place| (place % 12) as u8 + 1).collect(),
     }
     case.out.length = result_bytes(call, sections);
@@ -133,6 +143,8 @@ fn other(call: Call, sections: usize) -> String {
         black_box(match call {
             Call::Flow => ffi::flow(black_box(&case.job), &mut out),
             Call::Meter => ffi::meter(black_box(&case.job), &case.meters, &mut out),
+            Call::Losses => ffi::losses(black_box(&case.job), &case.cat, &case.sizes, &mut out),
+            Call::Heads => ffi::heads(black_box(&case.job), &case.losses, &mut out),
             _ => ffi::rate(black_box(&case.job), &case.cat, &case.sizes, &mut out),
         });
     };
