@@ -14,8 +14,8 @@ use json::{Fault, Node, Value};
 /// The commands whose answers have a loss for each section, which is the section's own.
 const TAKEN: [&str; 4] = ["losses", "rate", "choose", "heads"];
 const EXPECTED: &str = "an answer of `office losses`, `rate`, `choose` or `heads` with `--json`";
-/// As `report.rs` of the command has it.
-const SCHEMA: i64 = 1;
+/// What the command calls the meaning of its keys: it changes when a key changes its meaning or goes; a new key changes nothing.
+pub const SCHEMA: i64 = 1;
 
 /// What an answer says of a section.
 #[derive(Clone, Copy, Debug, PartialEq, Eq)]

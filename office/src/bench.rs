@@ -43,11 +43,7 @@ pub fn bench() -> String {
         "\nflow, meter, rating and its two calls: library against the model (8 meters, 12 sizes of 64 rows)\n{OTHERS}"
     );
     for sections in [8, 32, 63] {
-        text += &other(Call::Flow, sections);
-        text += &other(Call::Meter, sections);
-        text += &other(Call::Rate, sections);
-        text += &other(Call::Losses, sections);
-        text += &other(Call::Heads, sections);
+        OTHER_CALLS.into_iter().for_each(|call| text += &other(call, sections));
     }
     text + &growth::table()
 }
@@ -58,6 +54,9 @@ const CHOOSING: &str = "\
 const OTHERS: &str = "\
 |call|S|library µs|over model|
 |-|-|-|-|";
+
+/// The calls that are timed against the model alone, in the order of their lines.
+const OTHER_CALLS: [Call; 5] = [Call::Flow, Call::Meter, Call::Rate, Call::Losses, Call::Heads];
 
 /// What a search is made to do.
 struct Load {
@@ -134,19 +133,25 @@ fn other_case(call: Call, sections: usize) -> Case {
     case
 }
 
+/// The library's call of such a case.
+fn lent(case: &Case, out: &mut [u8]) -> u32 {
+    let job = black_box(&case.job);
+    match case.call {
+        Call::Flow => ffi::flow(job, out),
+        Call::Meter => ffi::meter(job, &case.meters, out),
+        Call::Losses => ffi::losses(job, &case.cat, &case.sizes, out),
+        Call::Heads => ffi::heads(job, &case.losses, out),
+        _ => ffi::rate(job, &case.cat, &case.sizes, out),
+    }
+}
+
 fn other(call: Call, sections: usize) -> String {
     let case = other_case(call, sections);
     let mut out = vec![0; case.out.length];
     let judged = judge(&case);
     assert_eq!(judged.number, 0, "the benchmark's house is accepted");
     let mut library = || {
-        black_box(match call {
-            Call::Flow => ffi::flow(black_box(&case.job), &mut out),
-            Call::Meter => ffi::meter(black_box(&case.job), &case.meters, &mut out),
-            Call::Losses => ffi::losses(black_box(&case.job), &case.cat, &case.sizes, &mut out),
-            Call::Heads => ffi::heads(black_box(&case.job), &case.losses, &mut out),
-            _ => ffi::rate(black_box(&case.job), &case.cat, &case.sizes, &mut out),
-        });
+        black_box(lent(&case, &mut out));
     };
     let mut model = || drop(black_box(judge(black_box(&case))));
     let sides: &mut [Side] = &mut [&mut library, &mut model];
@@ -167,6 +172,19 @@ mod tests {
                     let case = Load { sections, head, sizes: 12, pipes }.case();
                     assert_eq!(judge(&case).number, 0, "{pipes} {sections} {head}");
                 }
+            }
+        }
+    }
+
+    /// What is timed is a result and no refusal, of the library as of the model.
+    #[test]
+    fn the_other_calls_give_results() {
+        for call in OTHER_CALLS {
+            for sections in [8, 32, 63] {
+                let case = other_case(call, sections);
+                let mut out = vec![0; case.out.length];
+                assert_eq!((judge(&case).number, lent(&case, &mut out)), (0, 0), "{} {sections}", call.name());
+                assert!(out.iter().any(|byte| *byte != 0), "{} {sections}", call.name());
             }
         }
     }

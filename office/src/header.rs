@@ -1,6 +1,6 @@
 //! The header of a file of cells: which column stands where.
 
-use crate::cells::Cells;
+use crate::cells::{self, Cells};
 use crate::measure::{Measure, Quantity, latin};
 use crate::mistake::{Mistake, Mistakes};
 
@@ -92,7 +92,7 @@ impl Columns {
 
     /// Whether a row may begin with something else than one of the form's own columns: a name, a note, or a cell under an empty
     /// one of the header.
-    pub fn begin_otherwise(&self) -> bool {
+    fn begin_otherwise(&self) -> bool {
         !self.places.contains(&0)
     }
 
@@ -146,7 +146,7 @@ pub fn likeness(line: &Cells, form: &Form) -> usize {
 
 /// The columns of a header line, and all that is wrong with it. Where it can be told which column each is meant for, the rows
 /// can be read for their own mistakes too.
-pub fn columns(line: &Cells, form: &Form) -> (Option<Columns>, Mistakes) {
+fn columns(line: &Cells, form: &Form) -> (Option<Columns>, Mistakes) {
     let names: Vec<String> = line.cells.iter().map(|cell| plain(cell)).collect();
     let expected = form.expected(line.separator);
     // Where a column is missing, one that is unknown is rather that.
@@ -184,6 +184,17 @@ pub fn columns(line: &Cells, form: &Form) -> (Option<Columns>, Mistakes) {
     let places = places.into_iter().flatten().collect();
     let titled = names.iter().map(|name| !name.is_empty()).collect();
     (each.then(|| Columns { places, forms, name: named.first().copied(), notes, titled }), mistakes)
+}
+
+/// The columns of a header line under which rows can be read, and all that is wrong with it and with rows that `#` may hide; or
+/// what is wrong, where it can't be told which column is which.
+pub fn read(text: &str, header: &Cells, form: &Form) -> Result<(Columns, Mistakes), Mistakes> {
+    let (columns, mut mistakes) = columns(header, form);
+    let Some(columns) = columns else { return Err(mistakes) };
+    if columns.begin_otherwise() {
+        mistakes.extend(cells::hidden(text, header));
+    }
+    Ok((columns, mistakes))
 }
 
 /// A column that stands at several places.

@@ -12,7 +12,7 @@ use crate::header::{self, Column, Form};
 use crate::loss::{self, NoLosses};
 use crate::measure::{self, Quantity};
 use crate::mistake::{Mistake, Mistakes};
-use crate::{meters, readable, table};
+use crate::{meters, table};
 
 const IN_METRES: Column = Column::of("loss m", "m", &measure::LOSS_IN_METRES);
 
@@ -36,8 +36,7 @@ pub struct Packed {
 /// Whether a readable file is a list of losses: cells of its first line begin as both of the list's columns do, and fewer as a
 /// table's or as those of a list of meters.
 pub fn is_list(text: &str) -> bool {
-    let named = |line: &readable::TextLine| cells::named_separator(line).is_some();
-    let Some(line) = readable::lines(text).find(|line| !named(line)) else { return false };
+    let Some(line) = cells::first_line(text) else { return false };
     SEPARATORS.iter().map(|(separator, _)| Cells::of(&line, *separator)).any(|line| {
         let own = header::likeness(&line, &FORM);
         own > 1 && [&table::FORM, &meters::FORM].iter().all(|other| own > header::likeness(&line, other))
@@ -57,11 +56,7 @@ pub fn read(text: &str) -> Result<Packed, Mistakes> {
     let Some(header) = lines.next() else {
         return Err(Mistake::lacking("the file has no header line", expected).into());
     };
-    let (columns, mut mistakes) = header::columns(&header, &FORM);
-    let Some(columns) = columns else { return Err(mistakes) };
-    if columns.begin_otherwise() {
-        mistakes.extend(cells::hidden(text, &header));
-    }
+    let (columns, mut mistakes) = header::read(text, &header, &FORM)?;
     let mut given = rows::Given::default();
     for line in lines {
         given.take(&line, &columns, &mut mistakes);

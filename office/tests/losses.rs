@@ -3,10 +3,13 @@
 
 #[path = "tools/json.rs"]
 mod json;
+#[path = "tools/lists.rs"]
+mod lists;
 #[path = "tools/run.rs"]
 mod run;
 
 use json::Value;
+use lists::{Slip, are_named, put};
 use office::at::{At, Field};
 use office::mistake::Mistake;
 use office::places::{Asked, Place, places};
@@ -24,11 +27,6 @@ const SIZES: &str = "5,4,4,3,3,5,4,3,3,1,1,2";
 
 const THREE: &str = "section,loss cm\n1,133\n2,73\n3,51\n";
 const THREE_BYTES: [u8; 12] = [0, 0, 0, 133, 0, 0, 0, 73, 0, 0, 0, 51];
-
-fn put(text: &str, from: &str, to: &str) -> String {
-    assert!(text.contains(from), "{from}");
-    text.replacen(from, to, 1)
-}
 
 fn own_job() -> Vec<u8> {
     house::pack(&read(OWN)).expect("a house")
@@ -96,9 +94,6 @@ fn what_can_mean_one_thing_is_taken() {
     }
 }
 
-/// What is put for what, the line of the mistake, what is wrong and what is expected.
-type Slip = (&'static str, &'static str, usize, &'static str, &'static str);
-
 const SLIPS: &[Slip] = &[
     (
         "loss cm",
@@ -149,21 +144,12 @@ const SLIPS: &[Slip] = &[
 ];
 
 fn first(text: &str) -> Mistake {
-    losses::pack(text).expect_err(text).list.into_iter().next().expect("a mistake")
+    lists::first(losses::pack, text)
 }
 
 #[test]
 fn mistakes_name_their_line_and_what_is_wrong() {
-    for (from, to, line, wrong, expected) in SLIPS {
-        let text = put(THREE, from, to);
-        let mistake = first(&text);
-        assert_eq!(mistake.line.as_ref().map(|(number, _)| *number), Some(*line), "{to}: {mistake}");
-        assert!(mistake.wrong.contains(wrong), "{to}: {mistake}");
-        assert!(mistake.expected.contains(expected), "{to}: {mistake}");
-        let ran = office_with(&["heads", HOUSE, "-"], text.as_bytes());
-        assert_eq!((ran.status, ran.output.len()), (2, 0), "{to}");
-        assert!(ran.error.contains(&format!("standard input line {line}: ")), "{to}: {}", ran.error);
-    }
+    are_named(SLIPS, THREE, losses::pack, &["heads", HOUSE, "-"]);
     let metres = "section,loss m\n1,1.33\n2,0.73\n3,0.51\n";
     for (from, to, wrong, expected) in [
         (

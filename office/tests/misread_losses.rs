@@ -1,30 +1,24 @@
 //! Lists of losses that could mean something else to the command than to their author: refused, with a way to write what is meant.
 //! A loss that is lost, doubled or misread would give another pump set without a word.
 
+#[path = "tools/lists.rs"]
+mod lists;
 #[path = "tools/run.rs"]
 mod run;
 
+use lists::line;
 use office::losses;
 use office::mistake::{Mistake, Mistakes};
 use run::office_with;
 
 const OWN: &str = "examples/own-case.txt";
 
-/// The mistakes of a list with this header and these rows below it.
 fn mistakes(header: &str, rows: &str) -> Mistakes {
-    losses::pack(&format!("{header}\n{rows}\n")).expect_err(rows)
+    lists::mistakes(losses::pack, header, rows)
 }
 
-/// The only mistake of a list.
 fn only(header: &str, rows: &str) -> Mistake {
-    let mistakes = mistakes(header, rows);
-    assert_eq!((mistakes.list.len(), mistakes.more), (1, 0), "{mistakes}");
-    mistakes.list.into_iter().next().expect("one")
-}
-
-/// The line of a mistake.
-fn line(mistake: &Mistake) -> Option<usize> {
-    mistake.line.as_ref().map(|(number, _)| *number)
+    lists::only(losses::pack, header, rows)
 }
 
 /// The losses of a list in cm.

@@ -108,19 +108,17 @@ fn done(
     }
 }
 
-/// A house that the library takes, to lend with a catalogue or a list: no call takes one of these alone.
-const ACCEPTED: &str = "local losses 0.3\nhours 24\nmeter loss 0 cm\nguaranteed head 0 cm\ndelivered head 0 cm\n\
-    velocity limit 1500 mm/s\nresidents dwelling 1\n\
-    section 1 from pump length 1 m elevation 0 cm kind dwelling fixtures 1 free 0 cm\n";
-
-/// The same with so many sections, at least one.
+/// A house of so many sections that the library takes, to lend with a catalogue or a list: no call takes one of these alone.
 fn accepted(sections: usize) -> Vec<u8> {
-    let further = |section: usize| {
+    let section = |section: usize| {
         format!("section {section} from pump length 1 m elevation 0 cm kind dwelling fixtures 1 free 0 cm\n")
     };
-    let sections: String = (2..=sections.min(MOST_SECTIONS)).map(further).collect();
-    house::pack(&format!("{ACCEPTED}{sections}")).unwrap_or_default()
+    let sections: String = (1..=sections.clamp(1, MOST_SECTIONS)).map(section).collect();
+    house::pack(&format!("{HEAD}{sections}")).unwrap_or_default()
 }
+
+const HEAD: &str = "local losses 0.3\nhours 24\nmeter loss 0 cm\nguaranteed head 0 cm\ndelivered head 0 cm\n\
+    velocity limit 1500 mm/s\nresidents dwelling 1\n";
 
 /// The library's own judgement of a catalogue. Refusals that come after 11 are about the house lent with it.
 fn catalogue_refusal(cat: &[u8]) -> Option<Refusal> {

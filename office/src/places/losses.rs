@@ -1,9 +1,8 @@
 //! Refusal 19: the list of losses against the house, and losses that no table can give.
 
-use super::{Asked, Place};
+use super::{Asked, Place, shape};
 use crate::at::At;
 use crate::calls::MOST_SECTIONS;
-use crate::catalogue::Catalogue;
 use crate::loss::{self, LOSS, MOST};
 use crate::meter;
 use crate::record::Record;
@@ -36,8 +35,7 @@ fn length(list: &[u8], sections: Option<usize>) -> Option<Place> {
         return Some(Place::new(At::Losses, format!("the file is empty: it has 0 bytes; a section's loss has {LOSS}")));
     }
     if rest != 0 {
-        let missing = if LOSS - rest == 1 { "1 is".to_string() } else { format!("{} are", LOSS - rest) };
-        let why = format!("the list has {given} bytes, {LOSS} for each section: {missing} missing here");
+        let why = format!("the list has {given} bytes, {LOSS} for each section: {}", shape::missing(given, LOSS));
         return Some(Place::new(At::Loss(whole + 1), why));
     }
     let counted = |sections: usize| format!("losses given: {whole}; sections of the house: {sections}");
@@ -59,15 +57,13 @@ fn length(list: &[u8], sections: Option<usize>) -> Option<Place> {
 
 /// Another file lent as the list: what else is wrong with it says nothing.
 fn another(list: &[u8], sections: Option<usize>) -> Option<String> {
-    let stated = list.first_chunk::<4>().is_some_and(|four| u32::from_be_bytes(*four) as usize == list.len());
     let size = |byte: &u8| (1..=12).contains(byte);
-    let what = match (Record::read(list), Catalogue::read(list)) {
+    let what = match shape::stated(list) {
         _ if loss::is_list(list) => return None,
-        (Ok(_), _) if stated => "have the length of a job record",
-        (_, Ok(_)) if stated => "have the length of a catalogue",
-        _ if meter::is_list(list) => "are a list of meters",
-        _ if sections == Some(list.len()) && list.iter().all(size) => "are a size number for each section",
-        _ => return None,
+        Some(what) => what,
+        None if meter::is_list(list) => "are a list of meters",
+        None if sections == Some(list.len()) && list.iter().all(size) => "are a size number for each section",
+        None => return None,
     };
     Some(format!("these bytes {what}; a list of losses is expected"))
 }

@@ -70,6 +70,24 @@ pub fn count(job: &[u8]) -> Vec<Place> {
     found
 }
 
+/// What bytes are that state their own length, as a job record and a catalogue do: by which of them it is.
+pub fn stated(bytes: &[u8]) -> Option<&'static str> {
+    let whole = bytes.first_chunk::<4>().is_some_and(|four| u32::from_be_bytes(*four) as usize == bytes.len());
+    match (Record::read(bytes), Catalogue::read(bytes)) {
+        (Ok(_), _) if whole => Some("have the length of a job record"),
+        (_, Ok(_)) if whole => Some("have the length of a catalogue"),
+        _ => None,
+    }
+}
+
+/// How many bytes the last of equally long parts lacks, in words.
+pub fn missing(given: usize, each: usize) -> String {
+    match each - given % each {
+        1 => "1 is missing here".to_string(),
+        lacking => format!("{lacking} are missing here"),
+    }
+}
+
 /// A catalogue or a list of losses lent as a job: this place is named before the others. The layouts of a job and a catalogue never
 /// have the same length for the same counts, so it is no guess. Only where a job is lent as the catalogue are the two swapped.
 pub fn another(asked: &Asked) -> Option<Place> {
