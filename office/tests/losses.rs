@@ -295,10 +295,28 @@ fn the_two_in_turn_are_the_rating() {
                 keyed(headed, &["head_left_cm", "free_head_cm"])
             );
         }
-        // The answer of `rate`, of `choose` and of `heads` itself has the same losses.
-        let again = office_with(&["heads", HOUSE, "-"], &office(&["choose", HOUSE, TABLE, "--json"]).output);
-        assert_eq!(again.status, 0, "{}", again.error);
     }
+}
+
+/// The answers of `rate`, `choose` and `heads` itself have the same losses.
+#[test]
+fn other_answers_with_losses_are_taken() {
+    let lost = office(&["losses", HOUSE, TABLE, SIZES, "--json"]).output;
+    let text = office_with(&["heads", HOUSE, "-"], &lost).text();
+    assert!(text.starts_with("pump set: 2289 ml/s at 897 cm\n"), "{text}");
+    let headed = office_with(&["heads", HOUSE, "-", "--json"], &lost).output;
+    for answer in [
+        office(&["rate", HOUSE, TABLE, SIZES, "--json"]).output,
+        office(&["choose", HOUSE, TABLE, "--json"]).output,
+        headed,
+    ] {
+        let ran = office_with(&["heads", HOUSE, "-"], &answer);
+        assert_eq!((ran.status, ran.text()), (0, text.clone()), "{}", ran.error);
+    }
+}
+
+#[test]
+fn losses_refuses_as_rate_does() {
     let too_small = "1,4,4,3,3,5,4,3,3,1,1,2";
     for words in [
         [HOUSE, TABLE, too_small],
@@ -350,7 +368,23 @@ fn losses_of_another_house_are_not_taken() {
         assert!(ran.error.starts_with(&wanted), "{to}: {}", ran.error);
         assert!(ran.error.contains("made for another house, or for this one before a change; `office losses` works"));
     }
-    // Two pipes that hang on each other's stem change no flow and no length.
+    // What the losses don't come of may change: elevations and heads.
+    let higher = put(&house, "elevation  730 cm", "elevation 740 cm").replace("free 300 cm", "free 310 cm");
+    let file = scratch("higher-house.txt");
+    std::fs::write(&file, put(&higher, "meter loss      120 cm", "meter loss 75 cm")).expect("written");
+    assert_eq!(office_with(&["heads", &file, "-"], &lost).status, 0);
+    // Another count of sections is the library's to refuse.
+    let other = office_with(&["heads", OWN, "-"], &lost);
+    assert!(
+        other.status == 1 && other.text().contains("losses given: 12; sections of the house: 1"),
+        "{}",
+        other.text()
+    );
+}
+
+/// Two pipes that hang on each other's stem change no flow and no length.
+#[test]
+fn losses_of_another_tree_are_not_taken() {
     let head = read(OWN).split("section 1").next().expect("the fields").to_string();
     let section = |number: u8, from: &str| {
         format!("section {number} from {from} length 1 m elevation 0 cm kind hotel-75 fixtures 40 free 200 cm\n")
@@ -366,18 +400,6 @@ fn losses_of_another_house_are_not_taken() {
     let ran = office_with(&["heads", &after, "-"], &crossed);
     let why = "section 3 has its start at the end of section 1 there and the end of section 2 here";
     assert!(ran.status == 2 && ran.error.contains(why), "{}", ran.error);
-    // What the losses don't come of may change: elevations and heads.
-    let higher = put(&house, "elevation  730 cm", "elevation 740 cm").replace("free 300 cm", "free 310 cm");
-    let file = scratch("higher-house.txt");
-    std::fs::write(&file, put(&higher, "meter loss      120 cm", "meter loss 75 cm")).expect("written");
-    assert_eq!(office_with(&["heads", &file, "-"], &lost).status, 0);
-    // Another count of sections is the library's to refuse.
-    let other = office_with(&["heads", OWN, "-"], &lost);
-    assert!(
-        other.status == 1 && other.text().contains("losses given: 12; sections of the house: 1"),
-        "{}",
-        other.text()
-    );
 }
 
 /// What is put for what in the answer of `office losses`, what is wrong with it, and what is expected.
@@ -561,10 +583,8 @@ fn a_record_of_losses_is_known() {
 
 #[test]
 fn the_right_file_in_the_wrong_place_is_named() {
-    let [record, job, meters, answer] =
-        ["losses", "job", "meters", "json"].map(|end| scratch(&format!("wrong-loss.{end}")));
+    let [record, meters, answer] = ["losses", "meters", "json"].map(|end| scratch(&format!("wrong-loss.{end}")));
     assert_eq!(office(&["pack", LOSSES, "-o", &record]).status, 0);
-    assert_eq!(office(&["pack", HOUSE, "-o", &job]).status, 0);
     assert_eq!(office(&["pack", "examples/meters.csv", "-o", &meters]).status, 0);
     assert_eq!(office(&["losses", HOUSE, TABLE, SIZES, "--json", "-o", &answer]).status, 0);
     let cases: [(&[&str], &str); 15] = [
@@ -589,13 +609,29 @@ fn the_right_file_in_the_wrong_place_is_named() {
         assert!(ran.status == 2 && ran.output.is_empty() && ran.error.contains(why), "{words:?}: {}", ran.error);
     }
     for (text, why) in [
-        ("5,4,3\n", "is numbers alone, as a list of sizes has them; a list of losses is expected"),
+        (
+            "5,4,3\n",
+            "has nothing but numbers, as a list of sizes has; a list of losses has a header, `section,loss cm`",
+        ),
         ("loss of 3: 71 cm\n", "is no list of losses: its first line is not `section,loss cm`"),
     ] {
         let ran = office_with(&["heads", HOUSE, "-"], text.as_bytes());
         assert!(ran.status == 2 && ran.error.contains(why), "{text}: {}", ran.error);
     }
-    let cat = scratch("wrong-loss.cat");
+    assert!(losses::is_list("section\tloss\n") && losses::is_list("Section ; Loss (m)\n"));
+    assert!(
+        !losses::is_list(&read(TABLE)) && !losses::is_list(&read(HOUSE)) && !losses::is_list("section\t1\tfrom pump\n")
+    );
+}
+
+/// The same of records, which the library refuses.
+#[test]
+fn a_record_of_another_kind_is_named() {
+    let [record, job, meters] = ["losses", "job", "meters"].map(|end| scratch(&format!("wrong-record.{end}")));
+    assert_eq!(office(&["pack", LOSSES, "-o", &record]).status, 0);
+    assert_eq!(office(&["pack", HOUSE, "-o", &job]).status, 0);
+    assert_eq!(office(&["pack", "examples/meters.csv", "-o", &meters]).status, 0);
+    let cat = scratch("wrong-record.cat");
     assert_eq!(office(&["pack", TABLE, "-o", &cat]).status, 0);
     let twelve: &[u8] = &[5, 4, 4, 3, 3, 5, 4, 3, 3, 1, 1, 2];
     for (ran, why) in [
@@ -610,10 +646,6 @@ fn the_right_file_in_the_wrong_place_is_named() {
     ] {
         assert!(ran.status == 1 && ran.text().contains(why), "{why}: {}", ran.text());
     }
-    assert!(losses::is_list("section\tloss\n") && losses::is_list("Section ; Loss (m)\n"));
-    assert!(
-        !losses::is_list(&read(TABLE)) && !losses::is_list(&read(HOUSE)) && !losses::is_list("section\t1\tfrom pump\n")
-    );
 }
 
 /// The number of a refusal and its places.

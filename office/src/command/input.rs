@@ -251,11 +251,12 @@ impl File<'_> {
                 Ok(Losses { source: self.as_it_is(loss::bytes(&answer.losses())), answer: Some(answer) })
             }
             Content::Text(text) => {
-                if text.chars().all(|c| c.is_ascii_digit() || c == ',' || c.is_whitespace()) && !text.trim().is_empty()
-                {
-                    return Err(self.is_instead("numbers alone, as a list of sizes has them", Which::Losses));
+                let header = losses::FORM.header(',');
+                if is_of_sizes(&text) {
+                    let why = "has nothing but numbers, as a list of sizes has; a list of losses has a header,";
+                    return Err(Misuse::Words(format!("{} {why} `{header}`", self.name())));
                 }
-                self.is_list(&text, Which::Losses, losses::FORM.header(','))?;
+                self.is_list(&text, Which::Losses, header)?;
                 Ok(Losses { source: self.loss_list(&text)?, answer: None })
             }
         }
@@ -344,6 +345,12 @@ pub fn binary(bytes: &[u8], forced: bool) -> Binary {
             "no job record: {job};\nno catalogue: {catalogue};\nno list of meters: {meters};\nno list of losses: {losses}"
         )),
     }
+}
+
+/// Whether a text has whole numbers between commas and blanks and nothing else, as a list of sizes has.
+fn is_of_sizes(text: &str) -> bool {
+    let plain = |c: char| c.is_ascii_digit() || c == ',' || c.is_whitespace();
+    text.chars().all(plain) && text.contains(|c: char| c.is_ascii_digit())
 }
 
 /// The file behind `@`, whose name need not be text.
