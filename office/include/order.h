@@ -5,8 +5,8 @@
  *
  * Every slice is a pointer and then its length in bytes. For every call:
  *   - pointers are not null, also those of empty slices (length 0); lengths are below 2^63;
- *   - out and work overlap neither each other nor anything that is read; slices that are only read (job, meters, cat, sizes, losses)
- *     may overlap or be the same bytes;
+ *   - out and work overlap neither each other nor anything that is read; slices that are only read (job, meters, cat, sizes,
+ *     losses) may overlap or be the same bytes;
  *   - no pointer needs an alignment: all are read and written byte by byte;
  *   - nothing is kept after the call, no memory is allocated, and nothing is shared between calls: threads may call at once
  *     with out and work of their own, on the same job, meters, cat, sizes and losses as long as nobody writes those;

@@ -83,7 +83,9 @@ fn answer(node: &Node) -> Result<Answer, Fault> {
     }
     let refusal = node.key("refusal")?;
     if refusal.value != Value::Null {
-        return Err(refusal.fault("it is a refusal, and has no losses", EXPECTED));
+        let number = refusal.number("number", u32::MAX.into());
+        let which = number.map_or("a refusal".to_string(), |number| format!("refusal {number}"));
+        return Err(refusal.fault(format!("it is {which}, and has no losses"), EXPECTED));
     }
     let sections = node.key("sections")?;
     let Value::List(list) = &sections.value else { return Err(sections.fault("`sections` is no list", EXPECTED)) };

@@ -466,7 +466,7 @@ fn an_answer_is_read_strictly() {
     }
     let refused = office(&["losses", OWN, OWN_TABLE, "1", "--json"]);
     let ran = office_with(&["heads", OWN, "-"], &refused.output);
-    assert!(refused.status == 1 && ran.status == 2 && ran.error.contains("it is a refusal, and has no losses"));
+    assert!(refused.status == 1 && ran.status == 2 && ran.error.contains("it is refusal 13, and has no losses"));
     let mistakes = json::parse(&office_with(&["heads", OWN, "-", "--json"], b"{\"schema\":7}").text());
     assert_eq!(mistakes.list("mistakes")[0].number("line"), 1);
 }

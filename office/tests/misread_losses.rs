@@ -81,6 +81,9 @@ fn no_row_is_lost_or_doubled() {
     // A comment takes a row out, and the gap is seen.
     let gap = only("section,loss cm", "1,71\n# 2,30\n3,12");
     assert_eq!((line(&gap), gap.wrong.as_str()), (Some(4), "section 2 is missing: this line is section 3"));
+    // Where some program begins a line in a comment its author sees a row.
+    let seen = office_with(&["pack", "-"], "section,loss cm\n1,71 # noon\u{2028}2,30\n".as_bytes());
+    assert!(seen.status == 2 && seen.error.contains("show as a line of its own, `2,30`"), "{}", seen.error);
     let last = office_with(&["heads", OWN, "-"], b"section,loss cm\n1,71\n2,30\n");
     assert!(last.status == 1 && last.text().contains("losses given: 2; sections of the house: 1"), "{}", last.text());
 }

@@ -72,3 +72,27 @@ fn difference(found: &[SectionLoss], demand: &Demand) -> Option<String> {
     let (section, (own, flow)): (usize, _) = both.find(|(_, (own, flow))| own.flow != **flow)?;
     Some(format!("section {section} has {} ml/s with its loss and {flow} ml/s without", own.flow))
 }
+
+#[cfg(test)]
+mod tests {
+    use super::*;
+    use office::house;
+
+    const OWN: &str = include_str!("../../../examples/own-case.txt");
+
+    /// Losses with other flows than those that are marked beside them are not shown.
+    #[test]
+    fn flows_that_differ_are_found() {
+        let job = house::pack(OWN).expect("document 01's own case");
+        let Ok(demand) = Demand::of(&job) else { panic!("the library takes it") };
+        let own = SectionLoss { flow: 2_052, velocity: 1_026, loss: 71 };
+        assert_eq!(difference(&[own], &demand), None);
+        for (found, wanted) in [
+            (vec![SectionLoss { flow: 2_053, ..own }], "section 1 has 2053 ml/s with its loss and 2052 ml/s without"),
+            (vec![own, own], "losses come for 2 sections and flows for 1"),
+            (Vec::new(), "losses come for 0 sections and flows for 1"),
+        ] {
+            assert_eq!(difference(&found, &demand).as_deref(), Some(wanted));
+        }
+    }
+}

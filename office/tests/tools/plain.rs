@@ -72,11 +72,12 @@ fn is_a_line(part: &str) -> bool {
     while part.starts_with([' ', '\t']) {
         part.remove(0);
     }
-    let parted = part.chars().filter(|c| ",;\t".contains(*c)).count() >= 2;
+    let parted = part.chars().filter(|c| ",;\t".contains(*c)).count();
     let fields = "local hours meter guaranteed delivered residents version";
     let words = fields.split(' ').chain(["velocity limit", "section ", "section\t", "stated length"]);
     let meter = part.split([',', ';', '\t']).any(|cell| ["vane", "turbine"].contains(&cell.trim_matches([' ', '"'])));
-    parted && (meter || "0123456789,;\"".contains(part.chars().next().unwrap_or('x')))
+    (parted >= 2 && meter)
+        || (parted >= 1 && "0123456789,;\"".contains(part.chars().next().unwrap_or('x')))
         || words.into_iter().any(|w| part.starts_with(w))
 }
 
