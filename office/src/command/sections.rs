@@ -34,8 +34,13 @@ impl Known {
     }
 }
 
+/// A column of the table and what it shows of a section.
+type Shown = (About, Column, fn(&Pipe) -> String);
+/// A key of a section's object and its value.
+type Keyed = (About, &'static str, fn(&Pipe) -> Json);
+
 /// Last stands the tap that sets a flow, where the columns of numbers are not parted by it.
-const COLUMNS: &[(About, Column, fn(&Pipe) -> String)] = &[
+const COLUMNS: &[Shown] = &[
     (About::Section, number("section", ""), |pipe| pipe.number.to_string()),
     (About::Section, words("from"), |pipe| from(pipe.section.parent)),
     (About::Section, words("kind"), |pipe| kinds::name(pipe.section.kind)),
@@ -73,7 +78,7 @@ pub fn table(pipes: &[Pipe], known: Known) -> String {
     format!("{table}{}", if known.has(About::Head) { legend } else { "" })
 }
 
-const KEYS: &[(About, &str, fn(&Pipe) -> Json)] = &[
+const KEYS: &[Keyed] = &[
     (About::Section, "section", |pipe| pipe.number.into()),
     (About::Section, "parent", |pipe| pipe.section.parent.into()),
     (About::Size, "size", |pipe| pipe.size.into()),
