@@ -1,5 +1,5 @@
-/* Every call of the library from C, on document 01's own case: flows, duty, the meter, rating, choosing and copying, and a refusal
- * of each.
+/* Every call of the library from C, on document 01's own case: flows, duty, the meter, rating in one call and in two, choosing
+ * and copying, and a refusal of each.
  *
  *   cc -std=c99 -I office/include examples/order.c target/staticlib/liborder.a -o order && ./order
  *
@@ -31,6 +31,8 @@ static const uint8_t meters[10] = {
 };
 
 static uint8_t out[ORDER_METER_BYTES];
+static uint8_t rated[ORDER_RATE_BYTES];
+static uint8_t losses[4 * 63];
 static uint8_t work[ORDER_WORK_BYTES];
 static int wrong;
 
@@ -46,6 +48,22 @@ static void is(const char *what, uint32_t given, uint32_t expected)
         printf("  expected %lu\n", (unsigned long)expected);
         wrong = 1;
     }
+}
+
+/* Rating in two calls: the losses are gathered from the first result, and the two together have what order_rate wrote. */
+static void in_two_calls(const uint8_t *sizes, size_t sections)
+{
+    size_t i;
+
+    is("rate", order_rate(job, sizeof job, cat, sizeof cat, sizes, sections, rated, sizeof rated), 0);
+    is("losses", order_losses(job, sizeof job, cat, sizeof cat, sizes, sections, out, ORDER_LOSSES_BYTES), 0);
+    for (i = 0; i < sections; i++) {
+        is("flow of the section", number_at(out + 10 * i), 2052);
+        is("velocity and loss of the section", memcmp(out + 10 * i + 4, rated + 9 + 6 * i, 6) == 0, 1);
+        memcpy(losses + 4 * i, out + 10 * i + 6, 4);
+    }
+    is("heads", order_heads(job, sizeof job, losses, 4 * sections, out, ORDER_HEADS_BYTES), 0);
+    is("the same heads", memcmp(out, rated, ORDER_HEADS_BYTES) == 0, 1);
 }
 
 int main(void)
@@ -83,6 +101,18 @@ int main(void)
     is("loss", number_at(out + 11), 71);
     is("rate with size 1", order_rate(job, sizeof job, cat, sizeof cat, narrow, 1, out, ORDER_RATE_BYTES), 13);
     is("rate without sizes", order_rate(job, sizeof job, cat, sizeof cat, wide, 0, out, ORDER_RATE_BYTES), 12);
+
+    in_two_calls(wide, 1);
+    is("required head", number_at(out), 921);
+    is("losses with size 1",
+       order_losses(job, sizeof job, cat, sizeof cat, narrow, 1, out, ORDER_LOSSES_BYTES), 13);
+    is("losses into 9 bytes", order_losses(job, sizeof job, cat, sizeof cat, narrow, 1, out, 9), 14);
+    memset(losses, 0, 4);
+    is("heads without losses", order_heads(job, sizeof job, losses, 4, out, ORDER_HEADS_BYTES), 0);
+    is("required head", number_at(out), 850);
+    is("pump head", number_at(out + 4), 350);
+    is("heads of 3 bytes", order_heads(job, sizeof job, losses, 3, out, ORDER_HEADS_BYTES), 19);
+    is("heads into 8 bytes", order_heads(job, sizeof job, losses, 4, out, 8), 14);
 
     is("choose", order_choose(job, sizeof job, cat, sizeof cat, work, needed, out, ORDER_CHOOSE_BYTES), 0);
     is("cost", number_at(out), 130000);

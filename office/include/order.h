@@ -1,14 +1,15 @@
-/* The proved pipe sizing library: design flows, the meter, rating and choosing of a branched house network.
+/* The proved pipe sizing library: design flows, the meter, rating in one call or in two, and choosing of a branched
+ * house network.
  *
  * Build: `rt staticlib order` makes target/staticlib/liborder.a; link it with the C library (it uses memcpy and memset).
  *
  * Every slice is a pointer and then its length in bytes. For every call:
  *   - pointers are not null, also those of empty slices (length 0); lengths are below 2^63;
- *   - out and work overlap neither each other nor anything that is read; slices that are only read (job, meters, cat, sizes) may
- *     overlap or be the same bytes;
+ *   - out and work overlap neither each other nor anything that is read; slices that are only read (job, meters, cat, sizes,
+ *     losses) may overlap or be the same bytes;
  *   - no pointer needs an alignment: all are read and written byte by byte;
  *   - nothing is kept after the call, no memory is allocated, and nothing is shared between calls: threads may call at once
- *     with out and work of their own, on the same job, meters, cat and sizes as long as nobody writes those;
+ *     with out and work of their own, on the same job, meters, cat, sizes and losses as long as nobody writes those;
  *   - the stack takes about 60 KB for order_choose and under 27 KB for the others; a thread with 128 KB has enough.
  * Any bytes at all may be lent: each input gets its result or the number of its refusal.
  *
@@ -34,7 +35,8 @@
  *   16  no suitable list
  *   17  the list of meters breaks its rules
  *   18  no meter qualifies
- * Of several faults the first in the order 1 to 9, 17, 10, 11, 12, 14, 15, then 13, 16 or 18 is given back.
+ *   19  the losses aren't S long or one is over 4,259,775 cm
+ * Of several faults the first in the order 1 to 9, 17 or 19, 10, 11, 12, 14, 15, then 13, 16 or 18 is given back.
  *
  * A refusal leaves every byte of out as it was. A result is written from the start of out and leaves the bytes after it
  * as they were, so a longer buffer is fine. Numbers are big-endian. S is the section count, byte 6 of the job; H is the
@@ -60,6 +62,8 @@ extern "C" {
 #define ORDER_DUTY_BYTES 4u
 #define ORDER_METER_BYTES 671u     /* 1 + 40 + 10 * 63 */
 #define ORDER_RATE_BYTES 387u      /* 9 + 6 * 63 */
+#define ORDER_LOSSES_BYTES 630u    /* 10 * 63 */
+#define ORDER_HEADS_BYTES 9u
 #define ORDER_CHOOSE_BYTES 67u     /* 4 + 63 */
 #define ORDER_COPY_BYTES 670u      /* 40 + 10 * 63 */
 #define ORDER_WORK_BYTES 1792256u  /* 4 * 64 * 7,001 */
@@ -99,6 +103,27 @@ uint32_t order_meter(const uint8_t *job, size_t job_length, const uint8_t *meter
  * Refusals: 1 to 14 (14 is tested before 13). */
 uint32_t order_rate(const uint8_t *job, size_t job_length, const uint8_t *cat, size_t cat_length,
                     const uint8_t *sizes, size_t sizes_length, uint8_t *out, size_t out_length);
+
+/* The first of rating's two calls: flow, velocity and loss of each section, without heads.
+ * job: a job record. cat: a catalogue. sizes: S size numbers of 1 byte, from 1. out: at least 10 * S bytes.
+ * Result: for each section its design flow in ml/s as order_flow gives it (4 bytes), its velocity in mm/s (2) and its loss in cm
+ * (4), the last two as order_rate gives them. The losses to gather for order_heads are bytes 10 * (i - 1) + 6 to 10 * (i - 1) + 9
+ * of out for section i, counted from 0; no table gives one over 4,259,775.
+ * Refusals: 1 to 14 (14 is tested before 13). */
+uint32_t order_losses(const uint8_t *job, size_t job_length, const uint8_t *cat, size_t cat_length,
+                      const uint8_t *sizes, size_t sizes_length, uint8_t *out, size_t out_length);
+
+/* The second: the heads with given losses.
+ * job: a job record. losses: S losses in cm of 4 bytes each, section 1 first, each at most 4,259,775: those of order_losses, or any
+ * others, measured ones too; 0 is taken. Each is the section's own, and not that of the way from the pump to it.
+ * out: at least 9 bytes.
+ * Result: required head in cm (4 bytes, signed two's complement), pump head in cm (4), dictating section (1), worked out from these
+ * losses as order_rate works them out from its own.
+ * With enough space in both, order_losses and then order_heads with the losses of its result give the number that order_rate
+ * gives, or its figures: the 9 bytes of order_heads are the first 9 of order_rate.
+ * Refusals: 1 to 9, 19, 14, in this order. */
+uint32_t order_heads(const uint8_t *job, size_t job_length, const uint8_t *losses, size_t losses_length,
+                     uint8_t *out, size_t out_length);
 
 /* The cheapest suitable sizes.
  * job: a job record. cat: a catalogue. work: at least 4 * (S + 1) * (H + 1,001) bytes with any content.

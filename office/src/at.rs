@@ -34,7 +34,7 @@ impl Field {
     }
 }
 
-/// A place in a job, a catalogue, a list of sizes or a list of meters. Sections, sizes, rows and meters count from 1.
+/// A place in a job, a catalogue, a list of sizes, of meters or of losses. Sections, sizes, rows and meters count from 1.
 #[derive(Clone, Copy, Debug, PartialEq, Eq)]
 pub enum At {
     /// The job record as a whole.
@@ -57,6 +57,10 @@ pub enum At {
     Meters,
     /// A meter by its place in the list.
     Meter(usize),
+    /// The list of losses as a whole.
+    Losses,
+    /// The loss given for a section.
+    Loss(usize),
 }
 
 impl fmt::Display for At {
@@ -74,6 +78,8 @@ impl fmt::Display for At {
             At::Entry(place) => write!(f, "size number {place} of the list"),
             At::Meters => write!(f, "list of meters"),
             At::Meter(place) => write!(f, "meter {place}"),
+            At::Losses => write!(f, "list of losses"),
+            At::Loss(section) => write!(f, "loss of section {section}"),
         }
     }
 }
@@ -85,6 +91,15 @@ pub struct Lines(Vec<(At, usize)>);
 impl Lines {
     pub fn note(&mut self, at: At, line: usize) {
         self.0.push((at, line));
+    }
+
+    /// Notes the line of a place that may be given once only. Where it was given before: what is wrong, and what is expected.
+    pub fn once(&mut self, at: At, line: usize) -> Result<(), (String, String)> {
+        if let Some(first) = self.of(at) {
+            return Err((format!("`{at}` is given twice"), format!("one line; the first is line {first}")));
+        }
+        self.note(at, line);
+        Ok(())
     }
 
     /// The first line that has this place. A size's first row stands for the size.

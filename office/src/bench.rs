@@ -1,4 +1,5 @@
-//! The library against its rivals, on the same inputs and in one run: flow, meter, rate and choose of the independent model, and
+//! The library against its rivals, on the same inputs and in one run: flow, meter, rating in one call and in
+//! two, and choosing of the independent model, and
 //! searches in safe Rust. Nobody clears a buffer between calls. Ratios are the library's time over the rival's, taken round
 //! by round with the sides in turn, so that a slow moment of the machine falls on all of them.
 
@@ -13,7 +14,7 @@ use crate::rivals::dense::{Dense, Form};
 use crate::rivals::fronts::Fronts;
 use crate::rivals::ranges::Ranges;
 use crate::rivals::tree::{Found, Tree};
-use houses::{Pipes, catalogue, house, meters};
+use houses::{Pipes, catalogue, house, losses, meters};
 use std::fmt::Write;
 use std::hint::black_box;
 use timing::{Side, Spread, micros, race};
@@ -37,12 +38,12 @@ pub fn bench() -> String {
             text += &choosing(&Load { sections, head: 6_000, sizes: 12, pipes });
         }
     }
-    let _ =
-        writeln!(text, "\nflow, meter and rating: library against the model (8 meters, 12 sizes of 64 rows)\n{OTHERS}");
+    let _ = writeln!(
+        text,
+        "\nflow, meter, rating and its two calls: library against the model (8 meters, 12 sizes of 64 rows)\n{OTHERS}"
+    );
     for sections in [8, 32, 63] {
-        text += &other(Call::Flow, sections);
-        text += &other(Call::Meter, sections);
-        text += &other(Call::Rate, sections);
+        OTHER_CALLS.into_iter().for_each(|call| text += &other(call, sections));
     }
     text + &growth::table()
 }
@@ -53,6 +54,9 @@ const CHOOSING: &str = "\
 const OTHERS: &str = "\
 |call|S|library µs|over model|
 |-|-|-|-|";
+
+/// The calls that are timed against the model alone, in the order of their lines.
+const OTHER_CALLS: [Call; 5] = [Call::Flow, Call::Meter, Call::Rate, Call::Losses, Call::Heads];
 
 /// What a search is made to do.
 struct Load {
@@ -68,6 +72,7 @@ impl Load {
             call: Call::Choose,
             job: house(self.sections, self.head, self.pipes),
             meters: Vec::new(),
+            losses: Vec::new(),
             cat: catalogue(self.sizes, 64, self.pipes),
             sizes: Vec::new(),
             work: Buffer { length: work_bytes(self.sections, self.head), pattern: Vec::new() },
@@ -118,10 +123,26 @@ fn other_case(call: Call, sections: usize) -> Case {
             case.cat.clear();
             case.meters = meters();
         }
+        Call::Heads => {
+            case.cat.clear();
+            case.losses = losses(sections);
+        }
         _ => case.sizes = (0..sections).map(|place| (place % 12) as u8 + 1).collect(),
     }
     case.out.length = result_bytes(call, sections);
     case
+}
+
+/// The library's call of such a case.
+fn lent(case: &Case, out: &mut [u8]) -> u32 {
+    let job = black_box(&case.job);
+    match case.call {
+        Call::Flow => ffi::flow(job, out),
+        Call::Meter => ffi::meter(job, &case.meters, out),
+        Call::Losses => ffi::losses(job, &case.cat, &case.sizes, out),
+        Call::Heads => ffi::heads(job, &case.losses, out),
+        _ => ffi::rate(job, &case.cat, &case.sizes, out),
+    }
 }
 
 fn other(call: Call, sections: usize) -> String {
@@ -130,11 +151,7 @@ fn other(call: Call, sections: usize) -> String {
     let judged = judge(&case);
     assert_eq!(judged.number, 0, "the benchmark's house is accepted");
     let mut library = || {
-        black_box(match call {
-            Call::Flow => ffi::flow(black_box(&case.job), &mut out),
-            Call::Meter => ffi::meter(black_box(&case.job), &case.meters, &mut out),
-            _ => ffi::rate(black_box(&case.job), &case.cat, &case.sizes, &mut out),
-        });
+        black_box(lent(&case, &mut out));
     };
     let mut model = || drop(black_box(judge(black_box(&case))));
     let sides: &mut [Side] = &mut [&mut library, &mut model];
@@ -155,6 +172,19 @@ mod tests {
                     let case = Load { sections, head, sizes: 12, pipes }.case();
                     assert_eq!(judge(&case).number, 0, "{pipes} {sections} {head}");
                 }
+            }
+        }
+    }
+
+    /// What is timed is a result and no refusal, of the library as of the model.
+    #[test]
+    fn the_other_calls_give_results() {
+        for call in OTHER_CALLS {
+            for sections in [8, 32, 63] {
+                let case = other_case(call, sections);
+                let mut out = vec![0; case.out.length];
+                assert_eq!((judge(&case).number, lent(&case, &mut out)), (0, 0), "{} {sections}", call.name());
+                assert!(out.iter().any(|byte| *byte != 0), "{} {sections}", call.name());
             }
         }
     }

@@ -50,6 +50,35 @@ pub struct Rating {
     pub sections: Vec<Rated>,
 }
 
+/// One section with the size that a list gives it, without heads.
+#[derive(Clone, Copy, Debug, PartialEq, Eq)]
+pub struct SectionLoss {
+    /// ml/s
+    pub flow: u32,
+    /// mm/s
+    pub velocity: u16,
+    /// cm
+    pub loss: u32,
+}
+
+/// What a house asks of its pump set with the losses that its sections are given.
+#[derive(Clone, Copy, Debug, PartialEq, Eq)]
+pub struct Heads {
+    /// Required head in cm; it may be negative.
+    pub required: i32,
+    /// Pump head in cm.
+    pub pump: u32,
+    /// The lowest number of the sections whose end asks for the required head.
+    pub dictating: u8,
+}
+
+impl Rating {
+    /// The heads of the rating alone.
+    pub fn heads(&self) -> Heads {
+        Heads { required: self.required, pump: self.pump, dictating: self.dictating }
+    }
+}
+
 /// A cheapest suitable list of sizes.
 #[derive(Clone, Debug, PartialEq, Eq)]
 pub struct Choice {
@@ -60,7 +89,7 @@ pub struct Choice {
 }
 
 /// The greatest section count and delivered head of an accepted job.
-const MOST_SECTIONS: usize = 63;
+pub const MOST_SECTIONS: usize = 63;
 const MOST_HEAD: usize = 6_000;
 
 /// Design flows of a job record.
@@ -104,6 +133,26 @@ pub fn rate(job: &[u8], cat: &[u8], sizes: &[u8]) -> Result<Rating, Refusal> {
             .map(|six| Rated { velocity: u16::from_be_bytes([six[0], six[1]]), loss: u32_at(six, 2) })
             .collect(),
     })
+}
+
+/// Flow, velocity and loss of each section of a job record with a catalogue and one size number for each section; section 1 is at
+/// place 0.
+pub fn losses(job: &[u8], cat: &[u8], sizes: &[u8]) -> Result<Vec<SectionLoss>, Refusal> {
+    let mut out = [0; 10 * MOST_SECTIONS];
+    refused(ffi::losses(job, cat, sizes, &mut out))?;
+    let own = |ten: &[u8]| SectionLoss {
+        flow: u32_at(ten, 0),
+        velocity: u16::from_be_bytes([ten[4], ten[5]]),
+        loss: u32_at(ten, 6),
+    };
+    Ok(out[..10 * sections(job)].chunks_exact(10).map(own).collect())
+}
+
+/// The heads of a job record with one loss of 4 bytes for each section, whoever worked it out or measured it.
+pub fn heads(job: &[u8], losses: &[u8]) -> Result<Heads, Refusal> {
+    let mut out = [0; 9];
+    refused(ffi::heads(job, losses, &mut out))?;
+    Ok(Heads { required: u32_at(&out, 0) as i32, pump: u32_at(&out, 4), dictating: out[8] })
 }
 
 /// A cheapest suitable list of sizes for a job record and a catalogue.

@@ -1,4 +1,4 @@
-//! The lines of a table or of a list of meters, cell by cell.
+//! The lines of a table or of a list, cell by cell.
 
 mod no_number;
 
@@ -27,6 +27,11 @@ pub fn named_separator(line: &TextLine) -> Option<Option<char>> {
     let mut rest = named.chars();
     let separator = rest.next().filter(|c| SEPARATORS.iter().any(|(known, _)| known == c));
     Some(separator.filter(|_| rest.as_str().is_empty()))
+}
+
+/// The first line of a text, one that names a separator left aside.
+pub fn first_line(text: &str) -> Option<TextLine<'_>> {
+    readable::lines(text).find(|line| named_separator(line).is_none())
 }
 
 /// The one separator of a file, and how many lines stand before its cells. The separator is what a first line `sep=;` names, or

@@ -4,11 +4,13 @@ mod arguments;
 mod charts;
 mod fields;
 mod files;
+mod heads;
 mod help;
 mod input;
 mod json;
 mod keep;
 mod kinds;
+mod losses;
 mod meter;
 mod network;
 mod new;
@@ -17,6 +19,8 @@ mod picked;
 mod rating;
 mod refused;
 mod report;
+mod required;
+mod sections;
 mod topics;
 mod trials;
 mod version;
@@ -87,6 +91,8 @@ fn answer(arguments: &Arguments) -> Result<Outcome, Misuse> {
         "flow" => network::flow(arguments),
         "meter" => meter::meter(arguments),
         "rate" => network::rate(arguments),
+        "losses" => losses::losses(arguments),
+        "heads" => heads::heads(arguments),
         "choose" => network::choose(arguments),
         "draw" => network::draw(arguments),
         "kinds" => kinds::kinds(arguments),

@@ -2,21 +2,20 @@
 //! the number would be another without a word.
 
 use crate::cells::Cells;
-use crate::header::{Columns, Form};
+use crate::header::Columns;
 use crate::measure::Measure;
 use crate::mistake::Mistake;
 
 /// A name or a note of a row that may be a part of a number.
-pub fn doubtful(row: &Cells, columns: &Columns, form: &Form) -> Option<Mistake> {
+pub fn doubtful(row: &Cells, columns: &Columns) -> Option<Mistake> {
     let places = columns.words().filter(|_| row.separator == ',');
-    places.map(|place| Words { row, columns, form, place }).find_map(|words| words.pushed().or_else(|| words.joined()))
+    places.map(|place| Words { row, columns, place }).find_map(|words| words.pushed().or_else(|| words.joined()))
 }
 
 /// A name or a note.
 struct Words<'a, 'b> {
     row: &'a Cells<'b>,
     columns: &'a Columns,
-    form: &'a Form,
     place: usize,
 }
 
@@ -27,7 +26,7 @@ impl Words<'_, '_> {
 
     /// A number alone behind a column of numbers: a comma in one of these may have pushed the cells on.
     fn pushed(&self) -> Option<Mistake> {
-        let behind = self.form.measures().any(|(column, _)| self.columns.places[column] < self.place);
+        let behind = self.columns.measures().any(|(place, _)| place < self.place);
         let wrong = format!(
             "`{}` stands where words are expected, behind numbers: a comma may stand in one of these",
             self.cell()
@@ -56,7 +55,7 @@ impl Words<'_, '_> {
 
     /// The cell at a place that has a number without a point, and what is measured there.
     fn whole(&self, place: Option<usize>) -> Option<(&str, &'static Measure)> {
-        let (_, measure) = self.form.measures().find(|(column, _)| Some(self.columns.places[*column]) == place)?;
+        let (_, measure) = self.columns.measures().find(|(of, _)| Some(*of) == place)?;
         let number = self.row.at(place?);
         (!number.is_empty() && !number.contains('.')).then_some((number, measure))
     }

@@ -1,6 +1,6 @@
 //! The header of a file of cells: which column stands where.
 
-use crate::cells::Cells;
+use crate::cells::{self, Cells};
 use crate::measure::{Measure, Quantity, latin};
 use crate::mistake::{Mistake, Mistakes};
 
@@ -10,17 +10,34 @@ pub struct Column {
     unit: &'static str,
     /// What is measured below it; words have none.
     measure: Option<&'static Measure>,
+    /// The same column with its numbers in another unit.
+    other: Option<&'static Column>,
 }
 
 impl Column {
     /// A column of numbers; its title ends in its unit.
     pub const fn of(title: &'static str, unit: &'static str, measure: &'static Measure) -> Column {
-        Column { title, unit, measure: Some(measure) }
+        Column { title, unit, measure: Some(measure), other: None }
+    }
+
+    /// The same, or instead of it a column in another unit.
+    pub const fn or(self, other: &'static Column) -> Column {
+        Column { other: Some(other), ..self }
     }
 
     /// A column of words.
     pub const fn words(title: &'static str) -> Column {
-        Column { title, unit: "", measure: None }
+        Column { title, unit: "", measure: None, other: None }
+    }
+
+    /// The column, and the one in another unit that may stand for it.
+    fn forms(&self) -> impl Iterator<Item = &Column> {
+        [self].into_iter().chain(self.other)
+    }
+
+    /// The units for a message.
+    fn units(&self) -> String {
+        self.forms().map(|column| column.unit).collect::<Vec<_>>().join(" or ")
     }
 
     fn name(&self) -> &'static str {
@@ -47,15 +64,12 @@ impl Form {
         self.columns.iter().filter_map(|column| Some(Quantity::new(column.title, column.measure?)))
     }
 
-    /// The columns of numbers, by their places in the form, and what each measures.
-    pub fn measures(&self) -> impl Iterator<Item = (usize, &'static Measure)> {
-        (0..).zip(self.columns).filter_map(|(column, of)| Some((column, of.measure?)))
-    }
-
     /// The header and what may stand beside it, for a message.
     fn expected(&self, separator: char) -> String {
         let named = self.name.map_or(String::new(), |name| format!("a column `{name}` names the rows, "));
-        format!("`{}`; {named}a column `notes` is skipped", self.header(separator))
+        let others = self.columns.iter().filter_map(|column| column.other.map(|other| (column.title, other.title)));
+        let others: String = others.map(|(title, other)| format!("`{other}` in place of `{title}`, ")).collect();
+        format!("`{}`; {others}{named}a column `notes` is skipped", self.header(separator))
     }
 }
 
@@ -63,6 +77,8 @@ impl Form {
 /// header whether anything stands in it.
 pub struct Columns {
     pub places: Vec<usize>,
+    /// The form's columns in the units that the header has.
+    forms: Vec<&'static Column>,
     pub name: Option<usize>,
     notes: Vec<usize>,
     titled: Vec<bool>,
@@ -76,13 +92,18 @@ impl Columns {
 
     /// Whether a row may begin with something else than one of the form's own columns: a name, a note, or a cell under an empty
     /// one of the header.
-    pub fn begin_otherwise(&self) -> bool {
+    fn begin_otherwise(&self) -> bool {
         !self.places.contains(&0)
     }
 
+    /// The places of the columns of numbers, and what each measures.
+    pub fn measures(&self) -> impl Iterator<Item = (usize, &'static Measure)> {
+        self.places.iter().zip(&self.forms).filter_map(|(place, of)| Some((*place, of.measure?)))
+    }
+
     /// The number that a row has under a column of numbers.
-    pub fn number(&self, row: &Cells, form: &Form, column: usize) -> Result<i64, Mistake> {
-        let Column { title, measure, .. } = &form.columns[column];
+    pub fn number(&self, row: &Cells, column: usize) -> Result<i64, Mistake> {
+        let Column { title, measure, .. } = self.forms[column];
         let measure = measure.expect("a column of numbers");
         row.number(self.places[column], title, measure)
     }
@@ -125,7 +146,7 @@ pub fn likeness(line: &Cells, form: &Form) -> usize {
 
 /// The columns of a header line, and all that is wrong with it. Where it can be told which column each is meant for, the rows
 /// can be read for their own mistakes too.
-pub fn columns(line: &Cells, form: &Form) -> (Option<Columns>, Mistakes) {
+fn columns(line: &Cells, form: &Form) -> (Option<Columns>, Mistakes) {
     let names: Vec<String> = line.cells.iter().map(|cell| plain(cell)).collect();
     let expected = form.expected(line.separator);
     // Where a column is missing, one that is unknown is rather that.
@@ -133,14 +154,17 @@ pub fn columns(line: &Cells, form: &Form) -> (Option<Columns>, Mistakes) {
     let mut mistakes = Mistakes::default();
     let (mut notes, mut named) = (Vec::new(), Vec::new());
     let mut places: Vec<Vec<usize>> = form.columns.iter().map(|_| Vec::new()).collect();
+    let mut forms: Vec<&'static Column> = form.columns.iter().collect();
     for (place, name) in names.iter().enumerate().filter(|(_, name)| !name.is_empty()) {
-        let known = form.columns.iter().position(|column| plain(column.title) == *name);
+        let of = |column: &'static Column| column.forms().find(|column| plain(column.title) == *name);
+        let known = form.columns.iter().enumerate().find_map(|(column, own)| Some((column, of(own)?)));
         if NOTES.contains(&name.as_str()) {
             notes.push(place);
         } else if form.name == Some(name.as_str()) {
             named.push(place);
-        } else if let Some(column) = known {
+        } else if let Some((column, own)) = known {
             places[column].push(place);
+            forms[column] = own;
         } else {
             let (wrong, meant) = unknown(name, &line.cells[place], form);
             let spare = meant.is_none() && none_missing;
@@ -159,7 +183,18 @@ pub fn columns(line: &Cells, form: &Form) -> (Option<Columns>, Mistakes) {
     let each = places.iter().all(|places| places.len() == 1);
     let places = places.into_iter().flatten().collect();
     let titled = names.iter().map(|name| !name.is_empty()).collect();
-    (each.then(|| Columns { places, name: named.first().copied(), notes, titled }), mistakes)
+    (each.then(|| Columns { places, forms, name: named.first().copied(), notes, titled }), mistakes)
+}
+
+/// The columns of a header line under which rows can be read, and all that is wrong with it and with rows that `#` may hide; or
+/// what is wrong, where it can't be told which column is which.
+pub fn read(text: &str, header: &Cells, form: &Form) -> Result<(Columns, Mistakes), Mistakes> {
+    let (columns, mut mistakes) = columns(header, form);
+    let Some(columns) = columns else { return Err(mistakes) };
+    if columns.begin_otherwise() {
+        mistakes.extend(cells::hidden(text, header));
+    }
+    Ok((columns, mistakes))
 }
 
 /// A column that stands at several places.
@@ -180,8 +215,8 @@ fn unknown(name: &str, cell: &str, form: &Form) -> (String, Option<usize>) {
     let wrong = match meant.map(|column| &form.columns[column]) {
         None => wrong,
         Some(column) if column.unit.is_empty() => format!("{wrong}; `{}` is", column.title),
-        Some(column) if name == column.name() => format!("{wrong}: its unit, {}, is missing", column.unit),
-        Some(column) => format!("{wrong}: the {} is in {}", column.name(), column.unit),
+        Some(column) if name == column.name() => format!("{wrong}: its unit, {}, is missing", column.units()),
+        Some(column) => format!("{wrong}: the {} is in {}", column.name(), column.units()),
     };
     (wrong, meant)
 }

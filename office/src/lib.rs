@@ -1,11 +1,13 @@
 //! The order office's side of the pipe sizing library.
 //!
-//! - [`flow`], [`duty`], [`meter`], [`rate`], [`choose`] and [`copy`] call the proved library and give typed results or a [`Refusal`].
+//! - [`flow`], [`duty`], [`meter`], [`rate`], [`losses()`], [`heads`], [`choose`] and [`copy`] call the proved library and give typed
+//!   results or a [`Refusal`].
 //! - `ffi` has the same calls on lent buffers, and the only unsafe code.
 //! - `model` is document 01 once more, written independently; [`soak`] and [`replay`] compare the two.
 //! - [`bench()`] times the library against the model and against `rivals`, searches in safe Rust.
-//! - [`house`], [`table`] and [`meters`] are the readable files, [`places`] says where a refusal lies, [`taps`] what sets a flow,
-//!   [`draw`] draws a house; the command `office` puts them before people.
+//! - [`house`], [`table`], [`meters`] and [`losses`](mod@losses) are the readable files, [`answer`] takes losses that the command has
+//!   printed, [`places`] says where a refusal lies, [`taps`] what sets a flow, [`draw`] draws a house; the command `office` puts
+//!   them before people.
 
 #![deny(unsafe_code)]
 
@@ -21,12 +23,15 @@ pub mod rivals;
 pub mod situations;
 
 pub use bench::bench;
-pub use calls::{Choice, Flow, Metered, Rated, Rating, choose, copy, duty, flow, meter, rate};
+pub use calls::{
+    Choice, Flow, Heads, Metered, Rated, Rating, SectionLoss, choose, copy, duty, flow, heads, losses, meter, rate,
+};
 pub use compare::{Mismatch, replay, soak};
 pub use refusal::Refusal;
 pub use situations::Counters;
 
 // What people touch: readable files, the places of refusals, drawings.
+pub mod answer;
 pub mod at;
 pub mod catalogue;
 mod cells;
@@ -37,10 +42,13 @@ mod header;
 pub mod house;
 pub mod kinds;
 mod line;
+pub mod loss;
+pub mod losses;
 pub mod measure;
 pub mod meter;
 pub mod meters;
 pub mod mistake;
+mod numbered;
 pub mod pipes;
 pub mod places;
 pub mod readable;

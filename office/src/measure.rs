@@ -1,5 +1,5 @@
-//! Quantities with units: 12.5 m in a readable file, 125 dm in the record. Exact, no floating point. Houses, tables and lists
-//! of meters are read by the same rule.
+//! Quantities with units: 12.5 m in a readable file, 125 dm in the record. Exact, no floating point. Houses, tables, lists
+//! of meters and lists of losses are read by the same rule.
 
 /// A quantity of the readable file and what the record's bytes can hold of it.
 pub struct Measure {
@@ -110,6 +110,14 @@ pub const RESISTANCE: Measure = Measure {
     example: 5_000,
 };
 pub const SERVICE: Measure = bare("l/h", 65_535, "1 to 65535", 6_400);
+
+// The columns of a list of losses; their units stand in its header.
+/// The section that a loss is of, which no bytes hold: what is no section's number is told by the list.
+pub const OF_SECTION: Measure = bare("", i64::MAX, "1 to 63", 1);
+/// A section's loss: four bytes, cm.
+pub const LOSS: Measure = bare("cm", 4_294_967_295, "0 to 4259775", 71);
+/// The same written in m.
+pub const LOSS_IN_METRES: Measure = Measure { units: &[("", 2)], taken: "0.00 to 42597.75 m", ..LOSS };
 
 /// Units in Cyrillic letters and the ones they are.
 const CYRILLIC: [(&str, &str); 9] = [

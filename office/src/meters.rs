@@ -36,8 +36,7 @@ pub struct Packed {
 /// Whether a readable file is a list of meters: its first line has more cells that begin as a list's columns than as a table's,
 /// or a meter's type among its cells.
 pub fn is_list(text: &str) -> bool {
-    let named = |line: &readable::TextLine| cells::named_separator(line).is_some();
-    let Some(line) = readable::lines(text).find(|line| !named(line)) else { return false };
+    let Some(line) = cells::first_line(text) else { return false };
     let words = line.content.trim().to_lowercase();
     let house = readable::OF_A_HOUSE.iter().any(|word| words.starts_with(word));
     SEPARATORS.iter().map(|(separator, _)| Cells::of(&line, *separator)).filter(|line| line.cells.len() > 1).any(
@@ -68,11 +67,7 @@ pub fn read(text: &str) -> Result<Packed, Mistakes> {
     if has_type(&header) {
         return Err(header.mistake("a meter stands where the header should be", expected).into());
     }
-    let (columns, mut mistakes) = header::columns(&header, &FORM);
-    let Some(columns) = columns else { return Err(mistakes) };
-    if columns.begin_otherwise() {
-        mistakes.extend(cells::hidden(text, &header));
-    }
+    let (columns, mut mistakes) = header::read(text, &header, &FORM)?;
     let mut given = rows::Given::default();
     for line in lines {
         given.take(&line, &columns, &mut mistakes);

@@ -7,6 +7,7 @@ mod choice;
 mod demand;
 mod flows;
 mod list;
+mod losses;
 mod meters;
 mod pipe;
 mod sections;
@@ -38,13 +39,14 @@ impl fmt::Display for Place {
     }
 }
 
-/// What the refused call was given. A call that takes no catalogue, no sizes or no meters has none here.
+/// What the refused call was given. A call that takes no catalogue, no sizes, no meters or no losses has none here.
 #[derive(Clone, Copy, Debug, Default)]
 pub struct Asked<'a> {
     pub job: &'a [u8],
     pub cat: &'a [u8],
     pub sizes: &'a [u8],
     pub meters: &'a [u8],
+    pub losses: &'a [u8],
 }
 
 /// All places at which this refusal lies, in the order of the file.
@@ -67,6 +69,7 @@ pub fn places(refusal: &Refusal, asked: &Asked) -> Vec<Place> {
         Refusal::NoSuitableList => choice::none_suits(asked),
         Refusal::MeterList => meters::rules(asked.meters),
         Refusal::NoMeter => meters::none_qualifies(asked),
+        Refusal::LossList => losses::rules(asked),
         Refusal::ResultShort | Refusal::WorkShort | Refusal::Unknown(_) => Vec::new(),
     }
 }

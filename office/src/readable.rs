@@ -1,5 +1,5 @@
 //! The bytes of a readable file as text, and its lines. What a comment holds is nobody's business, unless some program shows a
-//! line of a house, a table or a list of meters in it; everywhere else each byte must be a letter that can be read in one way only.
+//! line of a house, a table or a list in it; everywhere else each byte must be a letter that can be read in one way only.
 
 use crate::echo;
 use crate::meter;
@@ -144,7 +144,7 @@ fn hidden(comment: &str) -> Option<&str> {
         let cells: Vec<String> = line.split([',', ';', '\t']).map(str::to_lowercase).collect();
         let begun = line.starts_with(|c: char| c.is_ascii_digit() || ",;\"".contains(c));
         let meter = cells.iter().any(|cell| meter::design(cell.trim_matches([' ', '"'])).is_some());
-        (begun || meter) && cells.len() > 2
+        (begun && cells.len() > 1) || (meter && cells.len() > 2)
     };
     let house = |line: &str| OF_A_HOUSE.iter().any(|word| line.to_lowercase().starts_with(word));
     let mut shown = comment.split(begins_a_line).skip(1).map(|line| line.trim_start_matches([' ', '\t']));

@@ -71,11 +71,7 @@ pub fn read(text: &str) -> Result<Packed, Mistakes> {
     let Some(header) = lines.next() else {
         return Err(Mistake::lacking("the file has no header line", format!("`{}`", FORM.header(','))).into());
     };
-    let (columns, mut mistakes) = header::columns(&header, &FORM);
-    let Some(columns) = columns else { return Err(mistakes) };
-    if columns.begin_otherwise() {
-        mistakes.extend(cells::hidden(text, &header));
-    }
+    let (columns, mut mistakes) = header::read(text, &header, &FORM)?;
     let mut given = sizes::Given::default();
     for line in lines {
         given.take(&line, &columns, &mut mistakes);

@@ -1,6 +1,6 @@
 //! Which of the readable files a text is, told by its first line.
 
-use crate::{meters, table};
+use crate::{losses, meters, table};
 
 #[derive(Clone, Copy, Debug, PartialEq, Eq)]
 pub enum Which {
@@ -9,14 +9,17 @@ pub enum Which {
     Table,
     /// A list of meters.
     Meters,
+    /// A list of losses.
+    Losses,
 }
 
 impl Which {
     pub fn of(text: &str) -> Which {
-        match (meters::is_list(text), table::is_table(text)) {
-            (true, _) => Which::Meters,
-            (false, true) => Which::Table,
-            (false, false) => Which::House,
+        match (meters::is_list(text), losses::is_list(text), table::is_table(text)) {
+            (true, _, _) => Which::Meters,
+            (false, true, _) => Which::Losses,
+            (false, false, true) => Which::Table,
+            (false, false, false) => Which::House,
         }
     }
 
@@ -26,6 +29,7 @@ impl Which {
             Which::House => "a house",
             Which::Table => "a table of sizes",
             Which::Meters => "a list of meters",
+            Which::Losses => "a list of losses",
         }
     }
 }

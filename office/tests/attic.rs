@@ -71,6 +71,18 @@ fn flow_rate_and_choose() {
     assert_eq!((printed.number("pump_head_cm"), printed.get("suits")), (0, &Value::Truth(true)));
 }
 
+/// With 1 cm for each section the branch at section 1 asks for the most: 60 - 120 + 1.
+#[test]
+fn given_losses() {
+    let list: String = (1..=6).map(|section| format!("{section},1\n")).collect();
+    let text = office_with(&["heads", ATTIC, "-"], format!("section,loss cm\n{list}").as_bytes()).text();
+    assert!(
+        text.contains("\nrequired head: meter loss 60 + elevation -120 + free head 0 + losses 1 = -59 cm\n"),
+        "{text}"
+    );
+    assert!(text.contains("\npump head              0 cm over the guaranteed 100 cm\n"), "{text}");
+}
+
 #[test]
 fn draw() {
     let drawn = answered(&["draw", ATTIC, TABLE]).text();
@@ -85,7 +97,8 @@ fn replay_and_the_model() {
     for call in Call::ALL {
         let (job, cat) = (job.clone(), cat.clone());
         let meters = vec![1, 0, 1, 0xff, 0xff];
-        let order = Case { call, job, meters, cat, sizes: vec![6; 6], work: buffer(40_000), out: buffer(700) };
+        let (losses, sizes) = ([0, 0, 0, 1].repeat(6), vec![6; 6]);
+        let order = Case { call, job, meters, losses, cat, sizes, work: buffer(40_000), out: buffer(700) };
         let ran = office_with(&["replay", "-"], order.text().as_bytes());
         assert_eq!(ran.status, 0, "{}{}", ran.text(), ran.error);
         assert!(ran.text().contains("library and model agree: number 0"), "{}", ran.text());

@@ -1,6 +1,7 @@
 //! The safe calls on document 01's own case.
 
-use office::{Choice, Flow, Metered, Rated, Rating, Refusal, choose, copy, duty, flow, meter, rate};
+use office::{Choice, Flow, Heads, Metered, Rated, Rating, Refusal, SectionLoss};
+use office::{choose, copy, duty, flow, heads, losses, meter, rate};
 
 const JOB: [u8; 50] = [
     0, 0, 0, 50, 1, 3, 1, 24, 0, 50, 1, 0xf4, 4, 0xb0, 5, 0xdc, // length to limit
@@ -82,6 +83,62 @@ fn rating_of_the_own_case() {
 }
 
 #[test]
+fn losses_of_the_own_case() {
+    let own = SectionLoss { flow: 2052, velocity: 1026, loss: 71 };
+    assert_eq!(losses(&JOB, &CATALOGUE, &[2]), Ok(vec![own]));
+    assert_eq!(losses(&JOB, &CATALOGUE, &[1]), Err(Refusal::SizeTooSmall));
+    assert_eq!(losses(&JOB, &CATALOGUE, &[]), Err(Refusal::SizeList));
+    assert_eq!(losses(&JOB, &CATALOGUE, &[3]), Err(Refusal::SizeList));
+    assert_eq!(losses(&JOB, &CATALOGUE[..46], &[2]), Err(Refusal::CatalogueShape));
+    assert_eq!(losses(&JOB[..49], &[], &[]), Err(Refusal::JobLength));
+}
+
+/// Meter loss 50, elevation 600, free head 200 and the loss; the guaranteed head is 500.
+#[test]
+fn heads_of_the_own_case() {
+    let with = |loss: u32| heads(&JOB, &loss.to_be_bytes());
+    assert_eq!(with(71), Ok(Heads { required: 921, pump: 421, dictating: 1 }));
+    assert_eq!(with(0), Ok(Heads { required: 850, pump: 350, dictating: 1 }));
+    assert_eq!(with(4_259_775), Ok(Heads { required: 4_260_625, pump: 4_260_125, dictating: 1 }));
+    assert_eq!(with(4_259_776), Err(Refusal::LossList));
+    for bytes in [0, 3, 5, 8] {
+        assert_eq!(heads(&JOB, &vec![0; bytes]), Err(Refusal::LossList), "{bytes} bytes");
+    }
+    assert_eq!(heads(&JOB[..49], &[]), Err(Refusal::JobLength));
+    // 10 m below the pump axis and without a meter nothing is needed of the pump.
+    let mut low = JOB;
+    low[9] = 0;
+    low[46..48].copy_from_slice(&(-1_000_i16).to_be_bytes());
+    low[48..50].copy_from_slice(&[0, 0]);
+    assert_eq!(heads(&low, &[0; 4]), Ok(Heads { required: -1_000, pump: 0, dictating: 1 }));
+}
+
+/// Two sections at the pump: the second end asks for as much as the first with an equal loss, and for more with a greater one.
+#[test]
+fn a_given_loss_moves_the_dictating_section() {
+    let mut two = [&JOB[..], &JOB[40..]].concat();
+    (two[3], two[6]) = (60, 2);
+    let with = |first: u32, second: u32| {
+        heads(&two, &[first.to_be_bytes(), second.to_be_bytes()].concat())
+            .map(|heads| (heads.required, heads.dictating))
+    };
+    assert_eq!((with(10, 10), with(10, 11), with(11, 10)), (Ok((860, 1)), Ok((861, 2)), Ok((861, 1))));
+    // Behind the first it adds to it.
+    two[50] = 1;
+    let behind = heads(&two, &[10_u32.to_be_bytes(), 11_u32.to_be_bytes()].concat());
+    assert_eq!(behind, Ok(Heads { required: 871, pump: 371, dictating: 2 }));
+}
+
+/// The first call's losses, lent to the second, give the rating's heads.
+#[test]
+fn the_two_calls_give_the_rating() {
+    let lent: Vec<u8> =
+        losses(&JOB, &CATALOGUE, &[2]).expect("rated").iter().flat_map(|s| s.loss.to_be_bytes()).collect();
+    let (heads, rating) = (heads(&JOB, &lent).expect("rated"), rate(&JOB, &CATALOGUE, &[2]).expect("rated"));
+    assert_eq!((heads.required, heads.pump, heads.dictating), (rating.required, rating.pump, rating.dictating));
+}
+
+#[test]
 fn choosing_for_the_own_case() {
     let choice = Choice { cost: 130_000, sizes: vec![2] };
     assert_eq!(choose(&JOB, &CATALOGUE).as_ref(), Ok(&choice));
@@ -103,6 +160,10 @@ fn any_bytes_are_taken() {
         assert_eq!(choose(&job, &CATALOGUE), Err(Refusal::JobLength));
         assert_eq!(meter(&job, &job), Err(Refusal::JobLength));
         assert_eq!(meter(&JOB, &job), Err(Refusal::MeterList));
+        assert_eq!(losses(&job, &job, &job), Err(Refusal::JobLength));
+        assert_eq!(losses(&JOB, &job, &job), Err(Refusal::CatalogueShape));
+        assert_eq!(heads(&job, &job), Err(Refusal::JobLength));
+        assert_eq!(heads(&JOB, &job), Err(Refusal::LossList));
     }
     let mut stated = vec![0xff; 50];
     stated[..5].copy_from_slice(&[0, 0, 0, 50, 1]);

@@ -12,6 +12,7 @@ use run::{office, office_with, read, scratch, top};
 const HOUSE: &str = "examples/house.txt";
 const TABLE: &str = "examples/table.csv";
 const METERS: &str = "examples/meters.csv";
+const LOSSES: &str = "examples/losses.csv";
 
 fn example() -> (Vec<u8>, Vec<u8>) {
     (house::pack(&read(HOUSE)).expect("a house"), table::pack(&read(TABLE)).expect("a table"))
@@ -175,13 +176,19 @@ fn the_documented_messages_are_the_real_ones() {
     }
     assert!(files.len() >= 12);
     for file in files {
-        let ran = match (file.ends_with(".csv"), file.contains("/meters-")) {
-            (true, true) => office(&["meter", HOUSE, &file]),
-            (true, false) => office(&["choose", HOUSE, &file]),
-            (false, _) => office(&["flow", &file]),
+        let name = file.rsplit('/').next().unwrap_or("");
+        let ran = match name.split_once('-') {
+            Some(("meters", _)) => office(&["meter", HOUSE, &file]),
+            Some(("losses", _)) => office(&["heads", HOUSE, &file]),
+            _ if file.ends_with(".csv") => office(&["choose", HOUSE, &file]),
+            _ => office(&["flow", &file]),
         };
         let printed = if ran.status == 1 { ran.text() } else { ran.error };
-        assert!(ran.status > 0 && printed.contains(" line "), "{file}: {printed}");
+        // Where a list is too short there is no line to name.
+        assert!(
+            ran.status > 0 && (printed.contains(" line ") || printed.contains("losses given")),
+            "{file}: {printed}"
+        );
         let indented: String = printed.lines().map(|line| format!("    {line}\n")).collect();
         assert!(documented.contains(&format!("`{file}`: ")), "docs/FILES.md does not name {file}");
         assert!(documented.contains(&indented), "docs/FILES.md has another message for {file}:\n{indented}");
@@ -190,7 +197,11 @@ fn the_documented_messages_are_the_real_ones() {
 
 #[test]
 fn misuse_has_status_2_and_says_why() {
-    let cases: [(&[&str], &str); 23] = [
+    let cases: [(&[&str], &str); 27] = [
+        (&["losses", HOUSE, TABLE], "`losses` takes 3 words, not 2\nusage: office losses JOB CAT SIZES"),
+        (&["heads", HOUSE], "`heads` takes 2 words, not 1\nusage: office heads JOB LOSSES"),
+        (&["heads", "-", "-"], "standard input can be read only once"),
+        (&["heads", HOUSE, "no-such-file"], "no-such-file can't be read"),
         (&["meter", HOUSE], "`meter` takes 2 words, not 1\nusage: office meter JOB METERS [-o HOUSE]"),
         (&["meter", HOUSE, METERS, "-o", "no-such-folder/file"], "no-such-folder/file can't be written"),
         (&["meter", "-", "-"], "standard input can be read only once"),
@@ -235,9 +246,14 @@ fn misuse_has_status_2_and_says_why() {
 /// In each table the right edge of a column of numbers is the same in every line, and nothing hangs over.
 #[test]
 fn tables_align() {
-    for (words, rows) in
-        [(&["flow", HOUSE][..], 12), (&["choose", HOUSE, TABLE][..], 12), (&["meter", HOUSE, METERS][..], 8)]
-    {
+    let sizes = "5,4,4,3,3,5,4,3,3,1,1,2";
+    for (words, rows) in [
+        (&["flow", HOUSE][..], 12),
+        (&["choose", HOUSE, TABLE], 12),
+        (&["losses", HOUSE, TABLE, sizes], 12),
+        (&["heads", HOUSE, LOSSES], 12),
+        (&["meter", HOUSE, METERS], 8),
+    ] {
         let text = office(words).text();
         let (_, chart) = text.split_once("\n\n").expect("figures, then the chart");
         let legend =

@@ -6,7 +6,7 @@ mod json;
 mod run;
 
 use json::Value;
-use office::{Refusal, calls, house, kinds, meters, table};
+use office::{Refusal, calls, house, kinds, losses, meters, table};
 use run::{Ran, office, office_with, read, scratch};
 
 fn answered(words: &[&str]) -> String {
@@ -63,20 +63,22 @@ fn blocks(text: &str) -> Vec<String> {
 #[test]
 fn the_examples_of_the_help_on_files_are_packed_from_that_text() {
     let examples = blocks(&answered(&["help", "files"]));
-    let [house, table, list] = &examples[..] else { panic!("a house, a table and a list: {examples:?}") };
-    for (text, packed) in [(house, house::pack(house)), (table, table::pack(table)), (list, meters::pack(list))] {
+    let [house, table, list, lost] = &examples[..] else { panic!("a house, a table and two lists: {examples:?}") };
+    let packed = [house::pack(house), table::pack(table), meters::pack(list), losses::pack(lost)];
+    for (text, packed) in [house, table, list, lost].into_iter().zip(packed) {
         let ran = office_with(&["pack", "-", "--strict"], text.as_bytes());
         assert_eq!((ran.status, ran.error.as_str()), (0, ""), "{text}");
         assert_eq!(Ok(ran.output), packed);
     }
-    let new = ["house", "table", "meters"].map(|what| answered(&["new", what]));
-    assert_eq!([house, table, list].map(String::as_str), new.each_ref().map(String::as_str));
+    let new = ["house", "table", "meters", "losses"].map(|what| answered(&["new", what]));
+    assert_eq!([house, table, list, lost].map(String::as_str), new.each_ref().map(String::as_str));
 }
 
 #[test]
 fn the_help_on_files_has_every_field() {
     let text = answered(&["help", "files"]);
-    for quantity in house::quantities().iter().chain(&table::quantities()).chain(&meters::quantities()) {
+    let lists = [meters::quantities(), losses::quantities()].into_iter().flatten();
+    for quantity in house::quantities().into_iter().chain(table::quantities()).chain(lists) {
         let wanted = unfolded(&format!("{} {} {}", quantity.name, quantity.taken, quantity.units));
         assert!(text.lines().any(|line| unfolded(line) == wanted), "{wanted}");
     }
@@ -85,7 +87,8 @@ fn the_help_on_files_has_every_field() {
 #[test]
 fn new_files_are_taken_without_refusal_or_warning() {
     let (house, table, list) = (scratch("new-house.txt"), scratch("new-table.csv"), scratch("new-meters.csv"));
-    for (what, file) in [("house", &house), ("table", &table), ("meters", &list)] {
+    let lost = scratch("new-losses.csv");
+    for (what, file) in [("house", &house), ("table", &table), ("meters", &list), ("losses", &lost)] {
         let _ = std::fs::remove_file(file);
         assert_eq!(answered(&["new", what, "-o", file]), "");
         assert_eq!(std::fs::read_to_string(file).expect("written"), answered(&["new", what]));
@@ -95,6 +98,11 @@ fn new_files_are_taken_without_refusal_or_warning() {
     let sizes = chosen.lines().find_map(|line| line.strip_prefix("sizes  ")).expect("a list of sizes");
     assert!(sizes.contains('1') && sizes.contains('2'), "the example mixes sizes: {sizes}");
     answered(&["rate", &house, &table, sizes, "--strict"]);
+    answered(&["losses", &house, &table, sizes, "--strict"]);
+    // Meter loss 50, elevation 680, free head 300, and the losses of sections 3, 2 and 1: 118, 80 and 295.
+    let heads = answered(&["heads", &house, &lost, "--strict"]);
+    assert!(heads.contains("\nrequired head      1523 cm\n") && heads.contains("118 (section 3) + 80 "), "{heads}");
+    answered(&["heads", "examples/house.txt", "examples/losses.csv", "--strict"]);
     assert!(answered(&["meter", &house, &list, "--strict"]).contains("* qualifies"));
     assert!(answered(&["meter", "examples/house.txt", "examples/meters.csv", "--strict"]).contains("* qualifies"));
     answered(&["choose", &house, "examples/table.csv", "--strict"]);
@@ -177,7 +185,7 @@ fn the_help_says_what_is_so_of_blanks_units_and_files() {
 /// Where the words stand, the help leads to what they mean; nothing says "average flow", which reads as a mean over time.
 #[test]
 fn one_tap_is_explained() {
-    for topic in ["flow", "meter", "rate", "choose", "draw", "13", "16"] {
+    for topic in ["flow", "meter", "rate", "losses", "heads", "choose", "draw", "13", "16"] {
         let text = unfolded(&answered(&["help", topic]));
         assert!(text.contains("one tap") && !text.contains("average"), "{text}");
         assert!(topic == "flow" || text.contains("`office help flow`"), "{text}");
@@ -213,7 +221,7 @@ fn new_replaces_no_file() {
     std::fs::write(&file, "my own house").expect("written");
     misused(office(&["new", "house", "-o", &file]), "is there already, and `new` replaces no file");
     assert_eq!(std::fs::read_to_string(&file).expect("as it was"), "my own house");
-    misused(office(&["new", "shed"]), "`new` gives no `shed`; it gives house, table or meters");
+    misused(office(&["new", "shed"]), "`new` gives no `shed`; it gives house, table, meters or losses");
     misused(office(&["new"]), "`new` takes 1 word, not 0");
     // What is no file of the disk is written as it is, as by every command.
     if cfg!(unix) {
@@ -257,12 +265,12 @@ fn help_on_what_there_is_not_says_what_there_is() {
 fn versions_a_line_each() {
     let version = env!("CARGO_PKG_VERSION");
     let wanted =
-        format!("command {version}\nlibrary {version}\nspecification document 01 with L1 and L2 of document 02\n");
+        format!("command {version}\nlibrary {version}\nspecification document 01 with L1, L2 and L3 of document 02\n");
     assert_eq!(answered(&["--version"]), wanted);
     let parsed = json::parse(&answered(&["--version", "--json"]));
     assert_eq!(parsed.get("command_version"), &Value::Text(version.into()));
     assert_eq!(parsed.get("library_version"), &Value::Text(version.into()));
-    assert_eq!(parsed.get("specification"), &Value::Text("document 01 with L1 and L2 of document 02".into()));
+    assert_eq!(parsed.get("specification"), &Value::Text("document 01 with L1, L2 and L3 of document 02".into()));
     misused(office(&["flow", "examples/house.txt", "--version"]), "`--version` stands alone");
     misused(office(&["--version", "please"]), "`--version` takes no words, but `please` is given");
 }
@@ -289,5 +297,5 @@ fn every_command_of_the_list_has_its_help_and_its_line_on_the_page() {
         assert_eq!(help, answered(&[name, "--help"]));
         assert!(page.contains(&format!("\n|`office {name}")), "docs/COMMAND.md has no line for `office {name}`");
     }
-    assert!(usages().len() >= 14, "{:?}", usages());
+    assert!(usages().len() >= 16, "{:?}", usages());
 }

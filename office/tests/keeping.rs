@@ -144,6 +144,8 @@ fn a_refusal_is_nothing_for_a_pipe() {
         &["flow", circle][..],
         &["meter", circle, METERS],
         &["meter", HOUSE, small],
+        &["losses", circle, TABLE, "6,6,6"],
+        &["heads", HOUSE, "examples/mistakes/losses-of-the-wing.csv"],
         &["rate", circle, TABLE, "6,6,6"],
         &["choose", circle, TABLE],
         &["draw", circle, TABLE],

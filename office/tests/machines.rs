@@ -11,6 +11,7 @@ use run::{office, office_with, read, scratch};
 const HOUSE: &str = "examples/house.txt";
 const TABLE: &str = "examples/table.csv";
 const METERS: &str = "examples/meters.csv";
+const LOSSES: &str = "examples/losses.csv";
 const WIDE: &str = "6,6,6,6,6,6,6,6,6,6,6,6";
 
 fn keys(value: &Value) -> Vec<String> {
@@ -33,9 +34,15 @@ fn the_keys_are_those_of_the_page() {
     assert_eq!(office(&["pack", HOUSE, "-o", &record]).status, 0);
     let list = scratch("machines.meters");
     assert_eq!(office(&["pack", METERS, "-o", &list]).status, 0);
-    let rows: [(&str, &[&str]); 10] = [
+    let lost = scratch("machines.losses");
+    assert_eq!(office(&["pack", LOSSES, "-o", &lost]).status, 0);
+    let rows: [(&str, &[&str]); 14] = [
         ("|`pack`|", &["pack", HOUSE]),
         ("|`pack`|", &["pack", METERS]),
+        ("|`pack`|", &["pack", LOSSES]),
+        ("|`show` of losses|", &["show", &lost]),
+        ("|`losses`|", &["losses", HOUSE, TABLE, WIDE]),
+        ("|`heads`|", &["heads", HOUSE, LOSSES]),
         ("|`show` of a job|", &["show", &record]),
         ("|`show` of meters|", &["show", &list]),
         ("|`meter`|", &["meter", HOUSE, METERS]),
@@ -71,6 +78,8 @@ fn files_are_named_in_every_answer() {
         (&["flow", HOUSE][..], vec![HOUSE]),
         (&["choose", HOUSE, TABLE], vec![HOUSE, TABLE]),
         (&["meter", HOUSE, METERS], vec![HOUSE, METERS]),
+        (&["heads", HOUSE, LOSSES], vec![HOUSE, LOSSES]),
+        (&["losses", HOUSE, TABLE, WIDE], vec![HOUSE, TABLE]),
         (&["rate", HOUSE, TABLE, WIDE], vec![HOUSE, TABLE]),
         (&["rate", HOUSE, TABLE, &by_file], vec![HOUSE, TABLE, &sizes]),
         (&["rate", HOUSE, TABLE, "1"], vec![HOUSE, TABLE]),

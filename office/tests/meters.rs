@@ -2,10 +2,13 @@
 
 #[path = "tools/json.rs"]
 mod json;
+#[path = "tools/lists.rs"]
+mod lists;
 #[path = "tools/run.rs"]
 mod run;
 
 use json::Value;
+use lists::{Slip, are_named, put};
 use office::at::{At, Field};
 use office::mistake::Mistake;
 use office::places::{Asked, Place, places};
@@ -19,11 +22,6 @@ const METERS: &str = "examples/meters.csv";
 /// A vane meter DN 40 and a turbine meter DN 50 of source document 001.
 const TWO: &str = "type,resistance m/(l/s)2,service flow l/h\nvane,0.5,6400\nturbine,0.143,12000\n";
 const TWO_BYTES: [u8; 10] = [1, 0x13, 0x88, 0x19, 0x00, 2, 0x05, 0x96, 0x2e, 0xe0];
-
-fn put(text: &str, from: &str, to: &str) -> String {
-    assert!(text.contains(from), "{from}");
-    text.replacen(from, to, 1)
-}
 
 /// The bytes of meters by type, resistance in ten-thousandths and service flow in l/h.
 fn list(meters: &[(u8, u16, u16)]) -> Vec<u8> {
@@ -108,9 +106,6 @@ fn what_can_mean_one_thing_is_taken() {
     }
 }
 
-/// What is put for what, the line of the mistake, what is wrong and what is expected.
-type Slip = (&'static str, &'static str, usize, &'static str, &'static str);
-
 const SLIPS: &[Slip] = &[
     (
         "resistance m/(l/s)2",
@@ -189,21 +184,12 @@ const SLIPS: &[Slip] = &[
 ];
 
 fn first(text: &str) -> Mistake {
-    meters::pack(text).expect_err(text).list.into_iter().next().expect("a mistake")
+    lists::first(meters::pack, text)
 }
 
 #[test]
 fn mistakes_name_their_line_and_what_is_wrong() {
-    for (from, to, line, wrong, expected) in SLIPS {
-        let text = put(TWO, from, to);
-        let mistake = first(&text);
-        assert_eq!(mistake.line.as_ref().map(|(number, _)| *number), Some(*line), "{to}: {mistake}");
-        assert!(mistake.wrong.contains(wrong), "{to}: {mistake}");
-        assert!(mistake.expected.contains(expected), "{to}: {mistake}");
-        let ran = office_with(&["meter", OWN, "-"], text.as_bytes());
-        assert_eq!((ran.status, ran.output.len()), (2, 0), "{to}");
-        assert!(ran.error.contains(&format!("standard input line {line}: ")), "{to}: {}", ran.error);
-    }
+    are_named(SLIPS, TWO, meters::pack, &["meter", OWN, "-"]);
     for text in ["# nothing\n", "type,resistance m/(l/s)2,service flow l/h\n"] {
         let mistake = first(text);
         assert!(mistake.line.is_none() && mistake.expected.contains("a line for each meter, 1 to 8"), "{mistake}");

@@ -1,9 +1,12 @@
 //! Lists of meters that could mean something else to the command than to their author: refused, with a way to write what is
 //! meant. A row that is lost, made or misread would give another meter, and another set, without a word.
 
+#[path = "tools/lists.rs"]
+mod lists;
 #[path = "tools/run.rs"]
 mod run;
 
+use lists::line;
 use office::mistake::{Mistake, Mistakes};
 use office::{meters, table};
 use run::{office_with, read};
@@ -12,21 +15,12 @@ const OWN: &str = "examples/own-case.txt";
 
 const HEADER: &str = "type,resistance m/(l/s)2,service flow l/h,name";
 
-/// The mistakes of a list with this header and these rows below it.
 fn mistakes(header: &str, rows: &str) -> Mistakes {
-    meters::pack(&format!("{header}\n{rows}\n")).expect_err(rows)
+    lists::mistakes(meters::pack, header, rows)
 }
 
-/// The only mistake of a list.
 fn only(header: &str, rows: &str) -> Mistake {
-    let mistakes = mistakes(header, rows);
-    assert_eq!((mistakes.list.len(), mistakes.more), (1, 0), "{mistakes}");
-    mistakes.list.into_iter().next().expect("one")
-}
-
-/// The line of a mistake.
-fn line(mistake: &Mistake) -> Option<usize> {
-    mistake.line.as_ref().map(|(number, _)| *number)
+    lists::only(meters::pack, header, rows)
 }
 
 /// The names of the list's meters.

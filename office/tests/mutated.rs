@@ -11,18 +11,26 @@ mod run;
 
 use mutate::{Dice, mutated};
 use office::catalogue::Catalogue;
+use office::loss;
 use office::meter;
 use office::record::Record;
 use office::which::Which;
-use office::{calls as library, generate, house, meters, readable, table};
+use office::{calls as library, generate, house, losses, meters, readable, table};
 use plain::Fields;
 use run::{read, scratch, top};
 use std::io::{BufRead, BufReader, Write};
 use std::process::{Child, ChildStdin, ChildStdout, Command, Stdio};
 
 fn examples() -> Vec<String> {
-    let files =
-        ["house.txt", "attic.txt", "table.csv", "mistakes/falling-velocity.csv", "mistakes/circle.txt", "meters.csv"];
+    let files = [
+        "house.txt",
+        "attic.txt",
+        "table.csv",
+        "mistakes/falling-velocity.csv",
+        "mistakes/circle.txt",
+        "meters.csv",
+        "losses.csv",
+    ];
     files.map(|file| read(&format!("examples/{file}"))).to_vec()
 }
 
@@ -37,6 +45,7 @@ fn packed(bytes: &[u8]) -> Option<(Vec<u8>, Which)> {
         Which::House => house::pack(&text),
         Which::Table => table::pack(&text),
         Which::Meters => meters::pack(&text),
+        Which::Losses => losses::pack(&text),
     };
     record.ok().map(|record| (record, which))
 }
@@ -47,6 +56,7 @@ fn shown(record: &[u8], which: Which) -> Option<String> {
         Which::House => house::show(record).ok(),
         Which::Table => table::show(record).ok(),
         Which::Meters => meters::show(record).ok(),
+        Which::Losses => losses::show(record).ok(),
     }
 }
 
@@ -107,12 +117,19 @@ fn of_meters(bytes: &[u8]) -> Fields {
     fields
 }
 
+fn of_losses(bytes: &[u8]) -> Fields {
+    let losses = loss::read(bytes).expect("a list of losses");
+    let own = (1..).zip(&losses).map(|(section, loss): (usize, _)| (format!("loss {section}"), i64::from(*loss)));
+    own.chain([("losses".to_string(), losses.len() as i64)]).collect()
+}
+
 /// The second reader has the same fields for a text that was taken.
 fn read_alike(text: &[u8], record: &[u8], which: Which) {
     let (first, second) = match which {
         Which::House => (of_job(record), plain::house(text)),
         Which::Table => (of_catalogue(record), plain::table(text)),
         Which::Meters => (of_meters(record), plain::meters(text)),
+        Which::Losses => (of_losses(record), plain::losses(text)),
     };
     assert_eq!(second, Some(first), "{}\n{text:?}", String::from_utf8_lossy(text));
 }
@@ -121,22 +138,24 @@ fn read_alike(text: &[u8], record: &[u8], which: Which) {
 fn a_second_reader_reads_the_same() {
     let examples = examples();
     let mut dice = Dice(0x5eed_0013);
-    let (mut taken, mut refused, mut differ, mut lists) = (0, 0, 0, 0);
+    let (mut taken, mut refused, mut differ, mut lists, mut losses) = (0, 0, 0, 0, 0);
     for _ in 0..30_000 {
         let text = mutated(&mut dice, &examples);
         let Some((record, which)) = packed(&text) else {
             refused += 1;
             let second = plain::house(&text).or_else(|| plain::table(&text)).or_else(|| plain::meters(&text));
+            let second = second.or_else(|| plain::losses(&text));
             differ += usize::from(second.is_some());
             continue;
         };
         taken += 1;
         lists += usize::from(which == Which::Meters);
+        losses += usize::from(which == Which::Losses);
         read_alike(&text, &record, which);
         let shown = shown(&record, which).expect("shown");
         assert_eq!(packed(shown.as_bytes()), Some((record, which)), "{shown}");
     }
-    assert!(taken > 6_000 && refused > 6_000 && lists > 1_500, "{taken} {refused} {lists}");
+    assert!(taken > 6_000 && refused > 6_000 && lists > 1_500 && losses > 1_000, "{taken} {refused} {lists} {losses}");
     // The other way round: what the page lets pass is not refused, but for words of sixty letters.
     assert!(differ * 1_000 <= refused, "{differ} of {refused} texts are refused that the second reader takes");
 }
@@ -232,6 +251,13 @@ fn calls(file: &str, which: Which) -> [String; 5] {
             format!("draw $examples/house.txt {file} {sizes}"),
             format!("flow {file}"),
         ],
+        Which::Losses => [
+            format!("heads $examples/house.txt {file}"),
+            format!("heads $examples/own-case.txt {file}"),
+            format!("heads $examples/attic.txt {file}"),
+            format!("meter $examples/house.txt {file}"),
+            format!("flow {file}"),
+        ],
         Which::Meters => [
             format!("meter $examples/house.txt {file}"),
             format!("meter $examples/own-case.txt {file}"),
@@ -247,7 +273,7 @@ fn own_calls(which: Which) -> usize {
     match which {
         Which::House => 5,
         Which::Table => 4,
-        Which::Meters => 3,
+        Which::Meters | Which::Losses => 3,
     }
 }
 
@@ -308,7 +334,11 @@ fn metered(shell: &mut Shell, text: &[u8], record: &[u8]) {
 fn answers_alike(shell: &mut Shell, record: &[u8], which: Which, status: i32) {
     // A record that states a length of 2^24 or more does not begin with 0, and a list may have types that there are not; the
     // message must name that.
-    let told = if which == Which::Meters { meter::is_list(record) } else { readable::is_record(record) };
+    let told = match which {
+        Which::Meters => meter::is_list(record),
+        Which::Losses => loss::is_list(record) && readable::is_record(record),
+        Which::House | Which::Table => readable::is_record(record),
+    };
     let name = if told { "record" } else { "--record record" };
     let others = calls("t", which).into_iter().zip(calls(name, which)).enumerate();
     for (place, (text, binary)) in others {

@@ -26,7 +26,7 @@
 #[path = "tools/run.rs"]
 mod run;
 
-use office::{calls, house, meters, table};
+use office::{calls, house, losses, meters, table};
 use run::{read, scratch, top};
 use std::collections::{BTreeMap, BTreeSet};
 use std::path::Path;
@@ -417,8 +417,11 @@ fn the_formats_are_those_of_the_command() {
     calls::choose(&job, &cat).expect("the library takes them");
     let list = meters::pack(&below(&page, "## A list of meters")).expect("a list of meters");
     calls::meter(&job, &list).expect("the library takes it, and a meter qualifies");
+    let lost = losses::pack(&below(&page, "## A list of losses")).expect("a list of losses");
+    calls::heads(&job, &lost).expect("the library takes it for the house");
     let rows: Vec<&str> = page.text.lines().filter(|line| line.starts_with('|')).collect();
-    let quantities: Vec<_> = house::quantities().into_iter().chain(meters::quantities()).collect();
+    let lists = meters::quantities().into_iter().chain(losses::quantities());
+    let quantities: Vec<_> = house::quantities().into_iter().chain(lists).collect();
     for quantity in quantities.iter().filter(|quantity| quantity.name != "section") {
         let shown = rows.iter().any(|row| {
             let (name, taken) = (quantity.name, format!("|{}|", quantity.taken));

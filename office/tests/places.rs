@@ -282,7 +282,8 @@ fn no_meter_is_refused_for_one_tap() {
 }
 
 fn asked(case: &Case) -> Asked<'_> {
-    Asked { job: &case.job, cat: &case.cat, sizes: &case.sizes, meters: &case.meters }
+    let Case { job, cat, sizes, meters, losses, .. } = case;
+    Asked { job, cat, sizes, meters, losses }
 }
 
 /// Every refusal of the made-up orders has a place, and its place is of its own kind.
@@ -296,6 +297,8 @@ fn every_refusal_has_a_place() {
             Call::Flow => calls::flow(&case.job).err(),
             Call::Duty => calls::duty(&case.job).err(),
             Call::Meter => calls::meter(&case.job, &case.meters).err(),
+            Call::Losses => calls::losses(&case.job, &case.cat, &case.sizes).err(),
+            Call::Heads => calls::heads(&case.job, &case.losses).err(),
             Call::Rate => calls::rate(&case.job, &case.cat, &case.sizes).err(),
             Call::Choose => calls::choose(&case.job, &case.cat).err(),
         };
@@ -307,7 +310,7 @@ fn every_refusal_has_a_place() {
             the_least_head_is_true(&case.job, &case.cat, &found);
         }
     }
-    for number in (1..=13).chain([16, 17, 18]) {
+    for number in (1..=13).chain([16, 17, 18, 19]) {
         assert!(seen[number] > 20, "refusal {number} came {} times", seen[number]);
     }
 }
@@ -336,9 +339,10 @@ fn any_bytes_are_taken() {
             let found = places(&refusal, &asked(&case));
             assert!(found.iter().all(|place| !place.why.is_empty()));
             let Case { job, meters, cat, .. } = &case;
-            let crossed = places(&refusal, &Asked { job: cat, cat: job, sizes: job, meters: job });
+            let crossed = places(&refusal, &Asked { job: cat, cat: job, sizes: job, meters: job, losses: job });
             assert!(crossed.iter().all(|place| !place.why.is_empty()));
-            let crossed = places(&refusal, &Asked { job: meters, cat: meters, sizes: meters, meters: cat });
+            let crossed =
+                places(&refusal, &Asked { job: meters, cat: meters, sizes: meters, meters: cat, losses: cat });
             assert!(crossed.iter().all(|place| !place.why.is_empty()));
         }
     }

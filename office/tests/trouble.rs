@@ -91,6 +91,9 @@ fn an_empty_file_is_called_empty() {
     assert!(choose.contains("catalogue: the file is empty: it has 0 bytes"), "{choose}");
     let meter = office_with(&["meter", HOUSE, "-"], b"").text();
     assert!(meter.contains("list of meters: the file is empty: it has 0 bytes"), "{meter}");
+    let heads = office_with(&["heads", HOUSE, "-"], b"").text();
+    assert!(heads.contains("list of losses: the file is empty: it has 0 bytes; a section's loss has 4"), "{heads}");
+    assert!(heads.starts_with("standard input is empty; `office new losses` gives a list of losses to start from\n"));
 }
 
 #[test]

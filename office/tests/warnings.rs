@@ -10,7 +10,7 @@ use office::at::{At, Field};
 use office::catalogue::Catalogue;
 use office::meter::{self, Meter};
 use office::record::Record;
-use office::warnings::{off_service, off_velocity, warnings};
+use office::warnings::{off_length, off_service, off_velocity, warnings};
 use office::{calls, house, meters, table};
 use run::{office, office_with, read, scratch, top};
 
@@ -304,6 +304,37 @@ fn the_example_lists_are_sound() {
         let list = meter::read(&meters::pack(&text).expect("a list")).expect("whole meters");
         assert_eq!(off_service(&list), [], "{text}");
     }
+}
+
+/// The own case's pipe is 1,000 cm long. A loss that is as long is none too many, nor one of 100 cm in a shorter pipe.
+#[test]
+fn losses_that_no_pipe_has_are_warned_of() {
+    let own = read("examples/own-case.txt");
+    let warned = |length: &str, loss: u32| {
+        let record = house::pack(&own.replace("length 10.0 m", length)).expect("a house");
+        let found = off_length(&Record::read(&record).expect("a record"), &[loss]);
+        assert!(found.iter().all(|place| place.at == At::Loss(1)));
+        found.len()
+    };
+    assert_eq!([1, 71, 999, 1_000].map(|loss| warned("length 10.0 m", loss)), [0; 4]);
+    assert_eq!([0, 1_001, 7_100].map(|loss| warned("length 10.0 m", loss)), [1; 3]);
+    assert_eq!([99, 100, 101].map(|loss| warned("length 0.3 m", loss)), [0, 0, 1]);
+    let record = Record::read(&house::pack(&own).expect("a house")).expect("a record");
+    assert_eq!(off_length(&record, &[0, 0]), [], "a list of another length is refused");
+    let run = |list: &str, words: &[&str]| {
+        office_with(&[&["heads", "examples/own-case.txt", "-"], words].concat(), list.as_bytes())
+    };
+    let ran = run("section,loss m\n1,71\n", &[]);
+    let why =
+        "warning: standard input line 2, loss of section 1: 7100 cm in a pipe that is 1000 cm long; is the unit right";
+    assert!(ran.status == 0 && ran.error.starts_with(why) && ran.error.lines().count() == 1, "{}", ran.error);
+    let strict = run("section,loss m\n1,71\n", &["--strict"]);
+    assert_eq!((strict.status, strict.output.len()), (2, 0));
+    let none = run("section,loss cm\n1,0\n", &["--json"]);
+    assert_eq!(none.status, 0, "the library takes it");
+    let printed = json::parse(&none.text());
+    assert_eq!((printed.number("required_head_cm"), printed.list("warnings")[0].number("line")), (850, 2));
+    assert!(none.error.contains("0 cm, but water loses some head in every pipe"), "{}", none.error);
 }
 
 /// One such meter must not hide another, least of all the one that is picked: 0.005 and 64 for a vane meter that has 0.5 and 6400.

@@ -1,4 +1,4 @@
-//! The benchmark's houses, meters and catalogues.
+//! The benchmark's houses, meters, losses and catalogues.
 
 use crate::model::norms;
 use std::fmt;
@@ -148,6 +148,11 @@ pub fn catalogue(sizes: usize, rows: usize, pipes: Pipes) -> Vec<u8> {
 pub fn meters() -> Vec<u8> {
     let meter = |place: u16| [&[2][..], &(150 * (9 - place)).to_be_bytes(), &[0xff, 0xff]].concat();
     (1..=8).flat_map(meter).collect()
+}
+
+/// A loss for each section, such as pipes have: 5 to 48 cm.
+pub fn losses(sections: usize) -> Vec<u8> {
+    (1..=sections as u32).flat_map(|own| (5 + own * 31 % 44).to_be_bytes()).collect()
 }
 
 fn state_length(mut bytes: Vec<u8>) -> Vec<u8> {

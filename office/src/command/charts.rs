@@ -1,6 +1,7 @@
 //! Aligned tables for people.
 
 /// A column: its name, its unit, and whether it holds words (aligned left) or numbers (aligned right).
+#[derive(Clone, Copy)]
 pub struct Column {
     pub name: &'static str,
     pub unit: &'static str,

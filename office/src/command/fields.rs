@@ -69,6 +69,12 @@ pub fn meters(meters: &[Meter]) -> Fields {
     vec![("meters", Json::List(list.collect()))]
 }
 
+pub fn losses(losses: &[u32]) -> Fields {
+    let one =
+        |(section, loss): (u8, &u32)| Json::Object(vec![("section", section.into()), ("loss_cm", (*loss).into())]);
+    vec![("losses", Json::List((1..).zip(losses).map(one).collect()))]
+}
+
 /// A meter by its place in the list.
 pub fn of_meter(place: i64, meter: &Meter) -> Fields {
     vec![

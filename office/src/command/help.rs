@@ -23,15 +23,15 @@ pub const COMMANDS: &[Command] = &[
         least: 1,
         most: 1,
         reads: true,
-        brief: "a readable house, table of sizes or list of meters as a binary record",
+        brief: "a readable house, table of sizes, list of meters or list of losses as a binary record",
         text: "\
-FILE is a readable house, table of sizes or list of meters (`office help files`); which of them is told by its first line.
-The record goes to RECORD or to standard output. Mistakes are named with their lines, and then no record is written.
+FILE is a readable house, table of sizes, list of meters or list of losses (`office help files`); which of them is told by its
+first line. The record goes to RECORD or to standard output. Mistakes are named with their lines, and then no record is written.
 
 What can be written as bytes is written. If the library refuses the record, a warning on standard error says why and where,
 and the status is 1.
 
---json gives the record in hex: kind (job, catalogue or meters), bytes, record.",
+--json gives the record in hex: kind (job, catalogue, meters or losses), bytes, record.",
     },
     Command {
         name: "show",
@@ -41,10 +41,10 @@ and the status is 1.
         reads: true,
         brief: "a binary record as a readable house, table or list",
         text: "\
-RECORD is a job record or a catalogue, told apart by their length, or a list of meters, told by its first byte, a meter's type;
-also where the library refuses it. Packing what is shown gives the same bytes. If the library refuses the record, a warning on
-standard error says why and where, and the status is 1. Bytes that are neither 40 + 10 x S nor 7 + sizes x (4 + 8 x rows) long,
-nor 5 for each meter, can't be shown: status 2.
+RECORD is a job record or a catalogue, told apart by their length, a list of meters, told by its first byte, a meter's type, or a
+list of losses, told by a 0 as the first of each four bytes; also where the library refuses it. Packing what is shown gives the
+same bytes. If the library refuses the record, a warning on standard error says why and where, and the status is 1. Bytes that are
+neither 40 + 10 x S nor 7 + sizes x (4 + 8 x rows) long, nor 5 for each meter or 4 for each loss, can't be shown: status 2.
 
 --json gives the fields by name.",
     },
@@ -109,11 +109,58 @@ path, and only what is done there brings the required head down.
 The delivered head plays no part in rating; `to spare` and `left` compare with it: left is the head left at a section's end
 when the delivered head is delivered, less meter loss, losses and elevation. An end with less than its free head is SHORT.
 
+`office losses` and `office heads` give the same in two steps. `office help flow` explains the design flow, and `one tap of`
+behind it.
+
+--json: duty_ml_per_s, duty_one_tap_kinds, hour_l_per_h, day_l, mean_hour_l_per_h, local_losses_tenths, cost_tenths (in tenths of
+the price unit), sizes, suits, required_head_cm, pump_head_cm, guaranteed_head_cm, delivered_head_cm, dictating_section, sections
+(section, parent, size, bore_mm, length_dm, flow_ml_per_s, one_tap_kinds, velocity_mm_per_s, loss_cm, head_left_cm, free_head_cm).",
+    },
+    Command {
+        name: "losses",
+        usage: "office losses JOB CAT SIZES [-o FILE] [--json] [--strict] [--record|--text]",
+        least: 3,
+        most: 3,
+        reads: true,
+        brief: "each section's flow, velocity and loss with a list of sizes, without heads",
+        text: "\
+JOB, CAT and SIZES as for `rate`, and the same figures. There are no heads, so that the pipes of a drawing in work can be looked
+at one by one. A loss is that of the section's own pipe at its design flow, with its local losses, and not that of the whole way
+from the pump.
+
+`heads` takes the answer's --json, and gives then what `rate` gives:
+office losses house.txt table.csv 3,2,1,1 --json | office heads house.txt -
+
 `office help flow` explains the design flow, and `one tap of` behind it.
 
---json: duty_ml_per_s, duty_one_tap_kinds, hour_l_per_h, day_l, mean_hour_l_per_h, cost_tenths (in tenths of the price unit),
-sizes, suits, required_head_cm, pump_head_cm, guaranteed_head_cm, delivered_head_cm, dictating_section, sections (section,
-parent, size, bore_mm, flow_ml_per_s, one_tap_kinds, velocity_mm_per_s, loss_cm, head_left_cm, free_head_cm).",
+--json: local_losses_tenths, sizes, sections (section, parent, size, bore_mm, length_dm, flow_ml_per_s, one_tap_kinds,
+velocity_mm_per_s, loss_cm).",
+    },
+    Command {
+        name: "heads",
+        usage: "office heads JOB LOSSES [-o FILE] [--json] [--strict] [--record|--text]",
+        least: 2,
+        most: 2,
+        reads: true,
+        brief: "heads and dictating section with losses that are given, as with those measured on site",
+        text: "\
+JOB is a readable house or a job record. LOSSES has a loss for each of its sections: a readable list (`office help files`), its
+record of 4 bytes for each section, or what `losses`, `rate`, `choose` or `heads` has printed with --json. A loss is that of the
+section's own pipe at its design flow, local losses too, in whole cm, 0 to 4259775; it is taken as given, from whomever it comes,
+and no table of sizes plays a part. The heads are worked out from the losses as `rate` does it, and `office help rate` explains
+them. How the required head comes about stands below the figures.
+
+The losses of an answer come with what they were worked out from. Where a section has another flow or length or begins elsewhere
+in the house, or where the local losses are others, the answer was made for another house or before a change; there is none then
+(status 2), and the message names the first difference. A readable list and a record say nothing of the house but how many sections
+it has: look yourself that they are of this one. A loss of 0, or one greater than 100 cm and than its pipe is long, gets a warning.
+
+`office help flow` explains the design flow, and `one tap of` behind it.
+
+--json: duty_ml_per_s, duty_one_tap_kinds, hour_l_per_h, day_l, mean_hour_l_per_h, local_losses_tenths, suits, required_head_cm,
+pump_head_cm, guaranteed_head_cm, delivered_head_cm, dictating_section, dictating_path (the sections from there to the pump),
+path_loss_cm (what these lose together), sections (section, parent, length_dm, flow_ml_per_s, one_tap_kinds, loss_cm, head_left_cm,
+free_head_cm).",
     },
     Command {
         name: "choose",
@@ -157,11 +204,11 @@ tenths of a litre in the hour, hundredths of a litre in the second.",
     },
     Command {
         name: "new",
-        usage: "office new house|table|meters [-o FILE]",
+        usage: "office new house|table|meters|losses [-o FILE]",
         least: 1,
         most: 1,
         reads: false,
-        brief: "a house, a table of sizes or a list of meters to start from",
+        brief: "a house, a table of sizes, a list of meters or a list of losses to start from",
         text: "\
 A small file with comments, which the library takes: put your own numbers in it. A FILE that is there already is not
 replaced (status 2).",

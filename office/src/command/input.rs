@@ -1,14 +1,15 @@
 //! Files as the command reads them: a readable file or a binary record, told apart by the first byte.
 
 use super::outcome::{Misuse, word};
+use office::answer::{self, Answer};
 use office::at::Lines;
 use office::catalogue::Catalogue;
+use office::loss::{self, NoLosses};
 use office::meter::{self, Meter, NoMeters};
-use office::meters;
 use office::readable::{self, MOST_BYTES};
 use office::record::Record;
 use office::which::Which;
-use office::{house, table};
+use office::{house, losses, meters, table};
 use std::ffi::{OsStr, OsString};
 use std::io::Read;
 
@@ -32,14 +33,16 @@ pub struct File<'a> {
 
 /// What a file holds.
 pub enum Content {
-    /// A job record or a catalogue.
+    /// A job record, a catalogue or the record of a list of losses.
     Record(Vec<u8>),
     /// The record of a list of meters.
     Meters(Vec<u8>),
+    /// What the command has printed with `--json`.
+    Answer(Vec<u8>),
     Text(String),
 }
 
-/// A job, a catalogue or a list of meters, with the lines of its fields where it came from a readable file.
+/// A job, a catalogue, a list of meters or one of losses, with the lines of its fields where it came from a readable file.
 pub struct Source {
     /// The file's name for messages.
     pub name: String,
@@ -51,6 +54,12 @@ pub struct Source {
 pub struct Meters {
     pub source: Source,
     pub names: Vec<String>,
+}
+
+/// A list of losses; one that the command has printed says what it was worked out from.
+pub struct Losses {
+    pub source: Source,
+    pub answer: Option<Answer>,
 }
 
 /// The bytes of a file, up to the limit; `-` is standard input.
@@ -95,13 +104,18 @@ impl File<'_> {
             Reading::Record => Ok(Content::Record(bytes)),
             Reading::ByContent if bytes.is_empty() || readable::is_record(&bytes) => Ok(Content::Record(bytes)),
             Reading::ByContent if meter::is_list(&bytes) => Ok(Content::Meters(bytes)),
+            _ if answer::is_answer(&bytes) => Ok(Content::Answer(bytes)),
             _ => readable::text(&bytes).map(Content::Text).map_err(|found| Misuse::Mistakes(self.name(), found)),
         }
     }
 
     /// What the file is, where another was expected.
     fn another(&self, found: Which, expected: Which) -> Misuse {
-        Misuse::Words(format!("{} is {}; {} is expected", self.name(), found.name(), expected.name()))
+        self.is_instead(found.name(), expected)
+    }
+
+    fn is_instead(&self, found: &str, expected: Which) -> Misuse {
+        Misuse::Words(format!("{} is {found}; {} is expected", self.name(), expected.name()))
     }
 
     /// A record as it is.
@@ -153,6 +167,7 @@ impl File<'_> {
         match self.content_of(bytes)? {
             Content::Record(bytes) => Ok(self.as_it_is(bytes)),
             Content::Meters(_) => Err(self.another(Which::Meters, Which::House)),
+            Content::Answer(_) => Err(self.is_instead(ANSWER, Which::House)),
             Content::Text(text) => match Which::of(&text) {
                 Which::House => self.house(&text),
                 other => Err(self.another(other, Which::House)),
@@ -171,9 +186,10 @@ impl File<'_> {
         match self.content()? {
             Content::Record(bytes) => Ok(self.as_it_is(bytes)),
             Content::Meters(_) => Err(self.another(Which::Meters, Which::Table)),
+            Content::Answer(_) => Err(self.is_instead(ANSWER, Which::Table)),
             Content::Text(text) => match Which::of(&text) {
                 Which::Table => self.table(&text),
-                Which::Meters => Err(self.another(Which::Meters, Which::Table)),
+                other @ (Which::Meters | Which::Losses) => Err(self.another(other, Which::Table)),
                 Which::House => Err(self.headless(Which::Table, table::FORM.header(','))),
             },
         }
@@ -201,15 +217,55 @@ impl File<'_> {
             Content::Record(bytes) | Content::Meters(bytes) => {
                 Ok(Meters { source: self.as_it_is(bytes), names: Vec::new() })
             }
-            Content::Text(text) => match Which::of(&text) {
-                Which::Table if table::read(&text).is_ok() => Err(self.another(Which::Table, Which::Meters)),
-                Which::House if house::read(&text).is_ok() => Err(self.another(Which::House, Which::Meters)),
-                Which::House if readable::lines(&text).next().is_some() => {
-                    Err(self.headless(Which::Meters, meters::FORM.header(',')))
-                }
-                _ => self.list(&text),
-            },
+            Content::Answer(_) => Err(self.is_instead(ANSWER, Which::Meters)),
+            Content::Text(text) => {
+                self.is_list(&text, Which::Meters, meters::FORM.header(','))?;
+                self.list(&text)
+            }
         }
+    }
+
+    /// Whether a text may be the list that is expected. One that is whole as something else is named as that, and one that begins
+    /// as no list is told which header it lacks.
+    fn is_list(&self, text: &str, expected: Which, header: String) -> Result<(), Misuse> {
+        let found = Which::of(text);
+        let whole = match found {
+            Which::House => house::read(text).is_ok(),
+            Which::Table => table::read(text).is_ok(),
+            Which::Meters | Which::Losses => found != expected,
+        };
+        match found {
+            _ if whole => Err(self.another(found, expected)),
+            Which::House if readable::lines(text).next().is_some() => Err(self.headless(expected, header)),
+            _ => Ok(()),
+        }
+    }
+
+    /// A list of losses: a readable one is packed, a record is taken as it is, and so are the losses of an answer.
+    pub fn losses(&self) -> Result<Losses, Misuse> {
+        match self.content()? {
+            Content::Record(bytes) => Ok(Losses { source: self.as_it_is(bytes), answer: None }),
+            Content::Meters(_) => Err(self.another(Which::Meters, Which::Losses)),
+            Content::Answer(bytes) => {
+                let answer = answer::read(&bytes).map_err(|mistakes| Misuse::Mistakes(self.name(), mistakes))?;
+                Ok(Losses { source: self.as_it_is(loss::bytes(&answer.losses())), answer: Some(answer) })
+            }
+            Content::Text(text) => {
+                let header = losses::FORM.header(',');
+                if is_of_sizes(&text) {
+                    let why = "has nothing but numbers, as a list of sizes has; a list of losses has a header,";
+                    return Err(Misuse::Words(format!("{} {why} `{header}`", self.name())));
+                }
+                self.is_list(&text, Which::Losses, header)?;
+                Ok(Losses { source: self.loss_list(&text)?, answer: None })
+            }
+        }
+    }
+
+    /// A readable list of losses.
+    pub fn loss_list(&self, text: &str) -> Result<Source, Misuse> {
+        let packed = losses::read(text).map_err(|mistakes| Misuse::Mistakes(self.name(), mistakes))?;
+        Ok(Source { name: self.name(), bytes: packed.bytes, lines: packed.lines })
     }
 
     /// A readable list of meters.
@@ -247,18 +303,23 @@ impl File<'_> {
     }
 }
 
-/// What binary bytes are: a list of meters by its types, the others by their length, which is never the same for a job and a
-/// catalogue with the same counts.
+/// How a message calls what the command has printed with `--json`.
+pub const ANSWER: &str = "an answer of `office` as JSON";
+
+/// What binary bytes are: a list of meters by its types, a list of losses by the first byte of each, the others by their length,
+/// which is never the same for a job and a catalogue with the same counts.
 pub enum Binary {
     Job(Record),
     Catalogue(Catalogue),
     Meters(Vec<Meter>),
+    Losses(Vec<u32>),
     /// None of them, in words.
     Neither(String),
 }
 
 /// What these bytes are. A list of meters that is none by its types is one by its length; where its first byte is 0, as in the
-/// other records, only if these bytes are known to be a record that may be damaged there.
+/// other records, only if these bytes are known to be a record that may be damaged there. So is a list of losses of which one has
+/// another first byte than 0.
 pub fn binary(bytes: &[u8], forced: bool) -> Binary {
     let meters = meter::read(bytes);
     if let Ok(meters) = &meters
@@ -270,14 +331,26 @@ pub fn binary(bytes: &[u8], forced: bool) -> Binary {
         true => Ok(meters),
         false => Err(NoMeters { given: bytes.len() }),
     });
-    match (Record::read(bytes), Catalogue::read(bytes), meters) {
-        (Ok(record), _, _) => Binary::Job(record),
-        (_, Ok(catalogue), _) => Binary::Catalogue(catalogue),
-        (_, _, Ok(meters)) => Binary::Meters(meters),
-        (Err(job), Err(catalogue), Err(meters)) => {
-            Binary::Neither(format!("no job record: {job};\nno catalogue: {catalogue};\nno list of meters: {meters}"))
-        }
+    let losses = loss::read(bytes).and_then(|losses| match forced || loss::is_list(bytes) {
+        true => Ok(losses),
+        false => Err(NoLosses { given: bytes.len() }),
+    });
+    match (Record::read(bytes), Catalogue::read(bytes), meters, losses) {
+        (_, _, _, Ok(losses)) if loss::is_list(bytes) => Binary::Losses(losses),
+        (Ok(record), _, _, _) => Binary::Job(record),
+        (_, Ok(catalogue), _, _) => Binary::Catalogue(catalogue),
+        (_, _, Ok(meters), _) => Binary::Meters(meters),
+        (_, _, _, Ok(losses)) => Binary::Losses(losses),
+        (Err(job), Err(catalogue), Err(meters), Err(losses)) => Binary::Neither(format!(
+            "no job record: {job};\nno catalogue: {catalogue};\nno list of meters: {meters};\nno list of losses: {losses}"
+        )),
     }
+}
+
+/// Whether a text has whole numbers between commas and blanks and nothing else, as a list of sizes has.
+fn is_of_sizes(text: &str) -> bool {
+    let plain = |c: char| c.is_ascii_digit() || c == ',' || c.is_whitespace();
+    text.chars().all(plain) && text.contains(|c: char| c.is_ascii_digit())
 }
 
 /// The file behind `@`, whose name need not be text.

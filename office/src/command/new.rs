@@ -7,9 +7,10 @@ use std::path::Path;
 pub const HOUSE: &str = include_str!("new/house.txt");
 pub const TABLE: &str = include_str!("new/table.csv");
 pub const METERS: &str = include_str!("new/meters.csv");
+pub const LOSSES: &str = include_str!("new/losses.csv");
 
 /// What there is to begin with, and its text.
-const STARTS: &[(&str, &str)] = &[("house", HOUSE), ("table", TABLE), ("meters", METERS)];
+const STARTS: &[(&str, &str)] = &[("house", HOUSE), ("table", TABLE), ("meters", METERS), ("losses", LOSSES)];
 
 pub fn new(arguments: &Arguments) -> Result<Outcome, Misuse> {
     let what = arguments.text(0).unwrap_or_default();

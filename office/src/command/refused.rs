@@ -5,10 +5,11 @@ use super::json::Json;
 use office::Refusal;
 use office::at::At;
 use office::catalogue::Catalogue;
+use office::loss;
 use office::meter;
 use office::places::{Asked, Place, places};
 use office::record::Record;
-use office::warnings::{off_service, off_velocity, warnings};
+use office::warnings::{off_length, off_service, off_velocity, warnings};
 
 /// What the refused call was given.
 #[derive(Clone, Copy, Default)]
@@ -17,13 +18,15 @@ pub struct Given<'a> {
     pub cat: Option<&'a Source>,
     pub sizes: &'a [u8],
     pub meters: Option<&'a Source>,
+    pub losses: Option<&'a Source>,
 }
 
 impl Given<'_> {
     fn places(&self, refusal: &Refusal) -> Vec<Place> {
         let bytes = |source: Option<&Source>| source.map_or(Vec::new(), |source| source.bytes.clone());
-        let (job, cat, meters) = (bytes(self.job), bytes(self.cat), bytes(self.meters));
-        places(refusal, &Asked { job: &job, cat: &cat, sizes: self.sizes, meters: &meters })
+        let [job, cat, meters, losses] = [self.job, self.cat, self.meters, self.losses].map(bytes);
+        let asked = Asked { job: &job, cat: &cat, sizes: self.sizes, meters: &meters, losses: &losses };
+        places(refusal, &asked)
     }
 
     /// The file that a place lies in, and its line where the file is readable.
@@ -32,6 +35,7 @@ impl Given<'_> {
             At::Catalogue | At::Size(_) | At::Row(..) => self.cat,
             At::List | At::Entry(_) => None,
             At::Meters | At::Meter(_) => self.meters,
+            At::Losses | At::Loss(_) => self.losses,
             _ => self.job,
         }?;
         Some((source.name.as_str(), source.lines.of(at)))
@@ -65,15 +69,18 @@ impl Given<'_> {
         ])
     }
 
-    /// What is nearly always a slip in the house, the table or the list of meters, although the library takes it.
+    /// What is nearly always a slip in the house, the table or a list, although the library takes it.
     fn warnings(&self) -> Vec<Place> {
         let record = self.job.and_then(|job| Record::read(&job.bytes).ok());
         let catalogue = self.cat.and_then(|cat| Catalogue::read(&cat.bytes).ok());
         // Bytes that are no list of meters have a refusal, and nothing that they hold is a slip.
         let meters = self.meters.filter(|meters| meter::is_list(&meters.bytes));
         let meters = meters.and_then(|meters| meter::read(&meters.bytes).ok());
-        // A house may have more warnings than are listed; those of the meters, eight at most, are never left out.
+        // A house may have more warnings than are listed; those of the meters, eight at most, are never left out, and those of
+        // the losses come next: nobody has looked at them before.
         let mut found: Vec<Place> = meters.as_deref().map(off_service).unwrap_or_default();
+        let losses = self.losses.and_then(|losses| loss::read(&losses.bytes).ok()).unwrap_or_default();
+        found.extend(record.iter().flat_map(|record| off_length(record, &losses)));
         found.extend(record.iter().flat_map(warnings));
         found.extend(catalogue.as_ref().and_then(off_velocity));
         found
@@ -103,6 +110,7 @@ impl Given<'_> {
             (self.job, "house", "a house"),
             (self.cat, "table", "a table"),
             (self.meters, "meters", "a list of meters"),
+            (self.losses, "losses", "a list of losses"),
         ];
         let empty = |(source, what, one): &(Option<&Source>, &str, &str)| {
             let name = &source.filter(|own| own.bytes.is_empty())?.name;

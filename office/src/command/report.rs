@@ -6,10 +6,8 @@ use super::json::Json;
 use super::outcome::{Misuse, Outcome};
 use super::refused::{self, Given};
 use office::Refusal;
+use office::answer::SCHEMA;
 use office::mistake::{Mistake, Mistakes};
-
-/// Changes when a key changes its meaning or goes; a new key changes nothing.
-const SCHEMA: i64 = 1;
 
 pub type Fields = Vec<(&'static str, Json)>;
 

@@ -3,7 +3,7 @@
 use super::charts::{chart, words};
 use super::new;
 use office::measure::Quantity;
-use office::{Refusal, house, meters, table};
+use office::{Refusal, house, losses, meters, table};
 
 pub struct Topic {
     pub name: &'static str,
@@ -12,7 +12,7 @@ pub struct Topic {
 }
 
 pub const TOPICS: &[Topic] = &[
-    Topic { name: "files", brief: "the three readable files, with an example of each", text: files },
+    Topic { name: "files", brief: "the four readable files, with an example of each", text: files },
     Topic { name: "refusals", brief: "what the library refuses, by number", text: refusals },
 ];
 
@@ -31,13 +31,17 @@ fn files() -> String {
         indented(new::METERS),
         OF_METERS.to_string(),
         listed(&meters::quantities()),
+        LOSSES.to_string(),
+        indented(new::LOSSES),
+        OF_LOSSES.to_string(),
+        listed(&losses::quantities()),
     ]
     .join("\n")
 }
 
 const FILES: &str = "\
-A house, a table of pipe sizes and a list of meters are plain text, from any editor or saved by a spreadsheet. `office new
-house`, `office new table` and `office new meters` give the examples below as files to start from.
+A house, a table of pipe sizes, a list of meters and a list of losses are plain text, from any editor or saved by a spreadsheet.
+`office new house`, `office new table`, `office new meters` and `office new losses` give the examples below as files to start from.
 
 Behind # stands a comment, to the end of the line. How many blanks stand between words doesn't matter, nor do small and
 capital letters. A number has a point before decimals and nothing between thousands; one with a comma is refused. A unit is
@@ -70,6 +74,15 @@ const OF_METERS: &str = "\
 Columns stand in any order; `name` may be left out, and a column `notes` is skipped. A type is vane or turbine. A resistance has
 up to four decimals; one that is finer is refused and not rounded. A service flow is whole: 6.4 m3/h are 6400 l/h. Where commas
 part the cells, a name that begins with a digit stands between quotation marks.
+";
+
+const LOSSES: &str = "\
+A list of losses has a header too, and below it one line for each section of the house:
+";
+
+const OF_LOSSES: &str = "\
+Columns stand in any order; a column `notes` is skipped. Each section has one line, in any order, from 1 without a gap. The losses
+are in cm and whole, or under `loss m` in m with up to two decimals; one that is finer is refused and not rounded.
 ";
 
 /// Quantities with what the library takes, and with their units where these stand behind the number.

@@ -1,7 +1,7 @@
 //! `office soak`, `replay` and `bench`: the library against the model.
 
 use super::arguments::{Arguments, number};
-use super::input::Content;
+use super::input::{ANSWER, Content};
 use super::outcome::{Misuse, Outcome};
 use office::case::Case;
 use std::io::IsTerminal;
@@ -29,8 +29,10 @@ pub fn soak(arguments: &Arguments) -> Result<Outcome, Misuse> {
 pub fn replay(arguments: &Arguments) -> Result<Outcome, Misuse> {
     let file = arguments.file(0);
     let name = file.name();
-    let Content::Text(text) = file.some_content()? else {
-        return Err(Misuse::Words(format!("{name} is no text, and so no order to replay")));
+    let text = match file.some_content()? {
+        Content::Text(text) => text,
+        Content::Answer(_) => return Err(Misuse::Words(format!("{name} is {ANSWER}, and so no order to replay"))),
+        _ => return Err(Misuse::Words(format!("{name} is no text, and so no order to replay"))),
     };
     Case::parse(&text).map_err(|why| Misuse::Words(format!("{name} is no order to replay: {why}")))?;
     Ok(match office::replay(&text) {

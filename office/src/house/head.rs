@@ -106,12 +106,7 @@ pub fn quantities() -> impl Iterator<Item = Quantity> {
 
 /// Notes the line of a place, which may be given once only.
 pub fn once(line: &Line, places: &mut Lines, at: At) -> Result<(), Mistake> {
-    if let Some(first) = places.of(at) {
-        let wrong = format!("`{at}` is given twice");
-        return Err(line.mistake(wrong, format!("one line; the first is line {first}")));
-    }
-    places.note(at, line.number);
-    Ok(())
+    places.once(at, line.number).map_err(|(wrong, expected)| line.mistake(wrong, expected))
 }
 
 /// The house's lines. The stated length and the version have a line only where they are not what packing would write.

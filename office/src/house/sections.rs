@@ -6,8 +6,8 @@ use crate::kinds;
 use crate::line::Line;
 use crate::measure::{self, Measure, Quantity};
 use crate::mistake::{Mistake, Mistakes};
+use crate::numbered::Numbered;
 use crate::record::{Record, Section};
-use std::collections::BTreeMap;
 
 /// The words that begin a field of a section.
 const WORDS: [&str; 6] = ["from", "length", "elevation", "kind", "fixtures", "free"];
@@ -16,12 +16,10 @@ const MEASURES: [Option<&Measure>; WORDS.len()] =
     [None, Some(&measure::LENGTH), Some(&measure::ELEVATION), None, Some(&measure::COUNT), Some(&measure::FREE)];
 const EXAMPLE: &str = "section 2 from 1 length 12.5 m elevation 600 cm kind hotel-75 fixtures 8 free 200 cm";
 
-/// The sections read so far, with the line and text of each for messages.
+/// The sections read so far.
 #[derive(Default)]
 pub struct Given {
-    sections: BTreeMap<u8, (Section, usize, String)>,
-    /// A line whose number can't be read may be the one that another line lacks.
-    unnumbered: bool,
+    sections: Numbered<Section>,
 }
 
 impl Given {
@@ -31,7 +29,7 @@ impl Given {
         let number = match number(line) {
             Ok(number) => number,
             Err(mistake) => {
-                self.unnumbered = true;
+                self.sections.put_unnumbered();
                 return mistakes.add(mistake);
             }
         };
@@ -39,27 +37,12 @@ impl Given {
             return mistakes.add(mistake);
         }
         let section = fields(line, mistakes);
-        self.sections.insert(number, (section, line.number, line.text.to_string()));
+        self.sections.put(number, section, line.number, line.text);
     }
 
     /// The sections from 1 on, without a gap.
     pub fn sections(self, mistakes: &mut Mistakes) -> Vec<Section> {
-        let last = self.sections.keys().last().copied().unwrap_or(0);
-        let mut sections = Vec::new();
-        let mut wanted = 1;
-        for (number, (section, line, text)) in self.sections {
-            if number != wanted && !self.unnumbered {
-                let gap = match number - wanted {
-                    1 => format!("section {wanted} is missing"),
-                    _ => format!("sections {wanted} to {} are missing", number - 1),
-                };
-                let expected = format!("a line for section {wanted}; sections number from 1 to {last} without a gap");
-                mistakes.add(Mistake::on(line, &text, format!("{gap}: this line is section {number}"), expected));
-            }
-            wanted = number.saturating_add(1);
-            sections.push(section);
-        }
-        sections
+        self.sections.in_order(mistakes)
     }
 }
 

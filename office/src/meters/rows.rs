@@ -1,6 +1,6 @@
 //! The rows of a list of meters.
 
-use super::{FORM, Packed};
+use super::Packed;
 use crate::at::{At, Lines};
 use crate::cells::Cells;
 use crate::commas;
@@ -31,7 +31,7 @@ impl Given {
     /// Takes one row.
     pub fn take(&mut self, row: &Cells, columns: &Columns, mistakes: &mut Mistakes) {
         mistakes.extend(columns.stray(row));
-        mistakes.extend(commas::doubtful(row, columns, &FORM));
+        mistakes.extend(commas::doubtful(row, columns));
         let mut noted = |found: Result<i64, Mistake>| found.map_err(|mistake| mistakes.add(mistake)).unwrap_or(0);
         let design = noted(design(row, columns)) as u8;
         let resistance = noted(advised(row, columns, RESISTANCE, of_resistance)) as u16;
@@ -78,7 +78,7 @@ fn design(row: &Cells, columns: &Columns) -> Result<i64, Mistake> {
 /// A number, with advice where its bytes don't hold it.
 fn advised(row: &Cells, columns: &Columns, column: usize, advice: fn(&str) -> Option<String>) -> Result<i64, Mistake> {
     let text = row.at(columns.places[column]);
-    columns.number(row, &FORM, column).map_err(|mistake| match advice(text) {
+    columns.number(row, column).map_err(|mistake| match advice(text) {
         Some(advice) => Mistake { expected: format!("{}; {advice}", mistake.expected), ..mistake },
         None => mistake,
     })

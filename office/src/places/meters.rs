@@ -1,12 +1,10 @@
 //! Refusals 17 and 18: the list of meters, and which limits each meter of it breaks in the house.
 
-use super::{Asked, Place};
+use super::{Asked, Place, shape};
 use crate::at::At;
 use crate::calls;
-use crate::catalogue::Catalogue;
 use crate::measure::RESISTANCE;
 use crate::meter::{self, Fit, METER, MOST, Meter};
-use crate::record::Record;
 
 /// 17: the list's length, and every field of a meter that is none.
 pub fn rules(list: &[u8]) -> Vec<Place> {
@@ -19,8 +17,7 @@ pub fn rules(list: &[u8]) -> Vec<Place> {
     if given == 0 {
         found.push(Place::new(At::Meters, format!("the file is empty: it has 0 bytes; a meter has {METER}")));
     } else if rest != 0 {
-        let missing = if METER - rest == 1 { "1 is".to_string() } else { format!("{} are", METER - rest) };
-        let why = format!("the list has {given} bytes, {METER} for each meter: {missing} missing here");
+        let why = format!("the list has {given} bytes, {METER} for each meter: {}", shape::missing(given, METER));
         found.push(Place::new(At::Meter(whole + 1), why));
     }
     // A list may be far longer than any that is taken; what is behind that says nothing new.
@@ -49,13 +46,8 @@ fn of_meter(meter: &Meter) -> Vec<String> {
 
 /// A house or a table of pipes lent as the list: what else is wrong with it says nothing. The job was accepted, so the two files
 /// are not swapped.
-fn another(list: &[u8]) -> Option<&'static str> {
-    let stated = list.first_chunk::<4>().is_some_and(|four| u32::from_be_bytes(*four) as usize == list.len());
-    match (Record::read(list), Catalogue::read(list)) {
-        (Ok(_), _) if stated => Some("these bytes have the length of a job record; a list of meters is expected"),
-        (_, Ok(_)) if stated => Some("these bytes have the length of a catalogue; a list of meters is expected"),
-        _ => None,
-    }
+fn another(list: &[u8]) -> Option<String> {
+    shape::stated(list).map(|what| format!("these bytes {what}; a list of meters is expected"))
 }
 
 /// 18: for each meter the limits that it breaks, and what would do for the house.

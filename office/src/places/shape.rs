@@ -3,6 +3,7 @@
 use super::{Asked, Place};
 use crate::at::{At, Field};
 use crate::catalogue::Catalogue;
+use crate::loss;
 use crate::record::{HEAD, Record, SECTION};
 
 /// 1: too short, or the stated length is another.
@@ -69,9 +70,30 @@ pub fn count(job: &[u8]) -> Vec<Place> {
     found
 }
 
-/// A catalogue lent as a job: this place is named before the others. The two layouts never have the same length for the same
-/// counts, so it is no guess. Only where a job is lent as the catalogue are the two swapped.
+/// What bytes are that state their own length, as a job record and a catalogue do: by which of them it is.
+pub fn stated(bytes: &[u8]) -> Option<&'static str> {
+    let whole = bytes.first_chunk::<4>().is_some_and(|four| u32::from_be_bytes(*four) as usize == bytes.len());
+    match (Record::read(bytes), Catalogue::read(bytes)) {
+        (Ok(_), _) if whole => Some("have the length of a job record"),
+        (_, Ok(_)) if whole => Some("have the length of a catalogue"),
+        _ => None,
+    }
+}
+
+/// How many bytes the last of equally long parts lacks, in words.
+pub fn missing(given: usize, each: usize) -> String {
+    match each - given % each {
+        1 => "1 is missing here".to_string(),
+        lacking => format!("{lacking} are missing here"),
+    }
+}
+
+/// A catalogue or a list of losses lent as a job: this place is named before the others. The layouts of a job and a catalogue never
+/// have the same length for the same counts, so it is no guess. Only where a job is lent as the catalogue are the two swapped.
 pub fn another(asked: &Asked) -> Option<Place> {
+    if loss::is_list(asked.job) && Record::read(asked.job).is_err() {
+        return Some(Place::new(At::Job, "these bytes are a list of losses; a job record is expected"));
+    }
     let table = Catalogue::read(asked.job).is_ok_and(|table| table.stated as usize == asked.job.len());
     let what = match Record::read(asked.cat).is_ok() {
         true => "are the two files swapped?",

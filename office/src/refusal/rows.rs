@@ -278,19 +278,20 @@ pub const ROWS: &[Row] = &[
     },
     Row {
         refusal: LossList,
-        text: "The list of losses breaks its rules. It has one loss of 4 bytes for each section, and no loss is over 4259775 cm, \
-               which no table can give.",
-        plain: "The list of losses does not have one loss for each section, or a loss is more than any pipe can lose.",
+        text: "The list of losses does not have one loss of 4 bytes for each section, or a loss is over 4,259,775 cm, which no \
+               table can give.",
+        plain: "The list of losses does not go with this house, or a loss is more than any pipe can have.",
         causes: &[
-            "Another file was given: a table of pipes, a list of sizes or a list of meters.",
-            "The losses are those of another house, or of this one with more or fewer sections.",
-            "The list was cut off while it was copied or sent.",
+            "The losses are those of another house, or of this one before a section was added or taken out.",
             "A loss has the wrong unit.",
+            "The list was cut off while it was copied or sent.",
+            "Another file was given: a house, a table of pipes, a list of sizes or a list of meters.",
         ],
         remedies: &[
+            "Give each section of the house its loss, one line each; `office new losses` gives a list to start from.",
+            "Work the losses out again with `office losses`, for the house as it is now.",
+            "Correct the loss that is named, in the unit of the list's header.",
             "Look whether the files are in their order: the house first, then the losses.",
-            "Write the list as a readable one, a line with the section and its loss for each section of the house.",
-            "Correct the loss that is named.",
         ],
     },
 ];

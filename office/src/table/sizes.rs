@@ -46,7 +46,7 @@ impl Under<'_, '_> {
     }
 
     fn number(&self, column: usize) -> Result<i64, Mistake> {
-        self.columns.number(self.line, &FORM, column)
+        self.columns.number(self.line, column)
     }
 
     /// The number, or a mistake that is noted.
@@ -60,7 +60,7 @@ impl Given {
     pub fn take(&mut self, line: &Cells, columns: &Columns, mistakes: &mut Mistakes) {
         let row = Under { line, columns };
         mistakes.extend(columns.stray(line));
-        mistakes.extend(commas::doubtful(line, columns, &FORM));
+        mistakes.extend(commas::doubtful(line, columns));
         let size = match self.size(&row) {
             Ok(size) => size,
             Err(mistake) => {

@@ -1,8 +1,8 @@
-//! Texts of houses, tables and lists of meters from a seed: sound ones in several forms, and the same with some letters, words
+//! Texts of houses, tables and lists of meters and losses from a seed: sound ones in several forms, and the same with some letters, words
 //! or lines changed.
 
 use office::case::Call;
-use office::{generate, house, meters, table};
+use office::{generate, house, loss, losses, meters, table};
 
 /// A small generator of numbers, the same in each run.
 pub struct Dice(pub u64);
@@ -89,6 +89,9 @@ const PIECES: &[&str] = &[
     "\u{0}",
     "\u{1b}[31m",
     "é",
+    "section,",
+    "loss cm",
+    "loss m",
     "vane",
     "turbine",
     "type",
@@ -122,13 +125,34 @@ fn list(dice: &mut Dice) -> String {
     text.lines().enumerate().map(named).collect()
 }
 
-/// The examples, made-up lists of meters, and the houses and tables of the made-up orders as `show` writes them.
+/// A made-up list of losses as `show` writes it, most of them such as the library takes, at times in m or with notes.
+fn lost(dice: &mut Dice) -> String {
+    let most = *dice.pick(&[900, 900, 900, 5_000_000, 1 << 24, 1 << 32]);
+    let own: Vec<u32> = (0..1 + dice.below(14)).map(|_| (dice.next() % most) as u32).collect();
+    let text = losses::show(&loss::bytes(&own)).expect("whole losses");
+    let metres = |(at, line): (usize, &str)| match line.split_once(',') {
+        Some((section, _)) if at > 0 => format!("{section},{}.{:02}\n", own[at - 1] / 100, own[at - 1] % 100),
+        _ => "section,loss m\n".to_string(),
+    };
+    let note = *dice.pick(&["measured", "riser 3", "3 bends", "\"3 bends\"", "40"]);
+    let noted = |(at, line): (usize, &str)| format!("{line},{}\n", if at == 0 { "notes" } else { note });
+    match dice.below(4) {
+        0 => text.lines().enumerate().map(metres).collect(),
+        1 => text.lines().enumerate().map(noted).collect(),
+        _ => text,
+    }
+}
+
+/// The examples, made-up lists of meters and losses, and the houses and tables of the made-up orders as `show` writes them.
 pub fn sound(dice: &mut Dice, examples: &[String]) -> String {
     if dice.below(3) == 0 {
         return dice.pick(examples).clone();
     }
     if dice.below(4) == 0 {
         return list(dice);
+    }
+    if dice.below(4) == 0 {
+        return lost(dice);
     }
     loop {
         let case = generate::case(21, dice.next() % 20_000);
@@ -144,7 +168,7 @@ pub fn sound(dice: &mut Dice, examples: &[String]) -> String {
 
 /// The same text in another form that means the same.
 pub fn dressed(dice: &mut Dice, text: &str) -> String {
-    let is_table = text.contains("bore mm") || text.contains("service flow");
+    let is_table = text.contains("bore mm") || text.contains("service flow") || text.contains("section,loss");
     match dice.below(12) {
         0 => text.replace('\n', "\r\n"),
         1 => text.replace('\n', "\r"),
@@ -152,6 +176,7 @@ pub fn dressed(dice: &mut Dice, text: &str) -> String {
         3 if is_table => text.replace(',', "\t"),
         4 if is_table => format!("sep=;\n{}", text.replace(',', ";")),
         5 if text.contains("bore mm") => text.replace("bore mm", "bore (mm)").replace("flow ml/s", "Flow [ml/s]"),
+        5 if text.contains("section,loss") => text.replace("loss cm", "Loss (см)").replace("loss m", "loss [m]"),
         5 if is_table => text.replace("m/(l/s)2", "(m/(l/s)²)").replace("flow l/h", "Flow [л/ч]"),
         2 => text.replace("hours ", "hours: ").replace(" cm", "cm"),
         3 => text.replace(" cm", " см").replace("mm/s", "мм/с"),

@@ -4,7 +4,7 @@
 
 use std::collections::BTreeMap;
 
-/// Fields by name: `hours`, `residents 7`, `section 3 length`, `size 2 row 1 flow`, `meter 1 type`.
+/// Fields by name: `hours`, `residents 7`, `section 3 length`, `size 2 row 1 flow`, `meter 1 type`, `loss 3`.
 pub type Fields = BTreeMap<String, i64>;
 
 const KINDS: &str = "none dwelling hostel-showers hostel-kitchens hotel-shared hotel-showers hotel-25 hotel-75 hotel-100 hospital \
@@ -72,11 +72,12 @@ fn is_a_line(part: &str) -> bool {
     while part.starts_with([' ', '\t']) {
         part.remove(0);
     }
-    let parted = part.chars().filter(|c| ",;\t".contains(*c)).count() >= 2;
+    let parted = part.chars().filter(|c| ",;\t".contains(*c)).count();
     let fields = "local hours meter guaranteed delivered residents version";
     let words = fields.split(' ').chain(["velocity limit", "section ", "section\t", "stated length"]);
     let meter = part.split([',', ';', '\t']).any(|cell| ["vane", "turbine"].contains(&cell.trim_matches([' ', '"'])));
-    parted && (meter || "0123456789,;\"".contains(part.chars().next().unwrap_or('x')))
+    (parted >= 2 && meter)
+        || (parted >= 1 && "0123456789,;\"".contains(part.chars().next().unwrap_or('x')))
         || words.into_iter().any(|w| part.starts_with(w))
 }
 
@@ -294,6 +295,11 @@ pub fn meters(bytes: &[u8]) -> Option<Fields> {
     parted(bytes, list)
 }
 
+/// The fields of a list of losses.
+pub fn losses(bytes: &[u8]) -> Option<Fields> {
+    parted(bytes, lost)
+}
+
 /// A file of cells: the separator that it names, or every one is tried on the whole file, and one must fit.
 fn parted(bytes: &[u8], rows: fn(&[String], char) -> Option<Fields>) -> Option<Fields> {
     let lines: Vec<String> = lines(bytes)?.into_iter().filter(|line| !line.trim().is_empty()).collect();
@@ -491,7 +497,7 @@ fn list(lines: &[String], separator: char) -> Option<Fields> {
                 Some(column @ 0..=2) => own[*column] = cell,
                 Some(3 | 4) if separator == ',' && place > numbers && is_number(cell) => return None,
                 Some(3 | 4) if separator != ',' || raw[place].starts_with('"') => {}
-                Some(3 | 4) if is_beside_a_number(&line, &columns, place) => return None,
+                Some(3 | 4) if is_beside_a_number(&line, &columns, place, &OF_METERS) => return None,
                 Some(3 | 4) => {}
                 _ => return None,
             }
@@ -516,19 +522,72 @@ fn is_number(cell: &str) -> bool {
         && rest.chars().all(|c| c.is_ascii_digit() || c == '.' || c.is_whitespace())
 }
 
+/// The columns of numbers of a list: which they are, how many decimals each keeps, and the most it holds.
+type Kept = [(usize, usize, i64); 2];
+const OF_METERS: Kept = [(1, 4, 65_535), (2, 0, 65_535)];
+
 /// Whether a name or a note may be a part of the number before it or behind it.
-fn is_beside_a_number(line: &[String], columns: &[usize], place: usize) -> bool {
+fn is_beside_a_number(line: &[String], columns: &[usize], place: usize, kept: &Kept) -> bool {
     let number = |at: usize| {
         let whole = line.get(at).filter(|cell| !cell.is_empty() && !cell.contains('.'))?;
-        columns.get(at).filter(|column| [1, 2].contains(*column)).map(|column| (whole, *column))
+        let column = columns.get(at)?;
+        kept.iter().find(|(own, ..)| own == column).map(|(_, decimals, most)| (whole, *decimals, *most))
     };
     let cell = &line[place];
     let begins = cell.chars().find(|c| c.is_alphanumeric()).is_some_and(|c| c.is_ascii_digit());
     let last: Vec<char> = cell.chars().rev().take_while(char::is_ascii_digit).collect();
     let last: String = last.into_iter().rev().collect();
-    let holds = |text: String| self::number(&text, 4, false).is_some_and(|value| value <= 65_535);
-    let behind = number(place + 1).is_some_and(|(whole, column)| {
-        is_number(cell) || (column == 1 && !last.is_empty() && holds(format!("{last}.{whole}")))
+    let behind = number(place + 1).is_some_and(|(whole, decimals, most)| {
+        let joined = self::number(&format!("{last}.{whole}"), decimals, false);
+        is_number(cell) || (decimals > 0 && !last.is_empty() && joined.is_some_and(|value| value <= most))
     });
     behind || (place > 0 && begins && number(place - 1).is_some())
+}
+
+/// The column of a list of losses that a header's cell names: 0 section, 1 loss, 2 notes; and the decimals of a loss.
+fn column_of_losses(cell: &str) -> Option<(usize, usize)> {
+    let plain: String = cell.chars().map(|c| if "()[],".contains(c) { ' ' } else { c }).collect();
+    match plain.split_whitespace().collect::<Vec<&str>>().as_slice() {
+        [] => Some((3, 0)),
+        ["section"] => Some((0, 0)),
+        ["loss", "cm" | "см"] => Some((1, 0)),
+        ["loss", "m" | "м"] => Some((1, 2)),
+        ["notes" | "note" | "remarks" | "remark" | "comments" | "comment"] => Some((2, 0)),
+        _ => None,
+    }
+}
+
+/// The header of a list of losses and the sections below it.
+fn lost(lines: &[String], separator: char) -> Option<Fields> {
+    let mut parted = filled(lines, separator)?.into_iter();
+    let header = bared(&parted.next()?);
+    let named: Option<Vec<(usize, usize)>> = header.iter().map(|cell| column_of_losses(cell)).collect();
+    let (columns, decimals): (Vec<usize>, Vec<usize>) = named?.into_iter().unzip();
+    let place = |wanted: usize| {
+        let mut all = (0..columns.len()).filter(|place| columns[*place] == wanted);
+        all.next().filter(|_| all.next().is_none())
+    };
+    let (section, loss) = (place(0)?, place(1)?);
+    let kept: Kept = [(0, 0, 63), (1, decimals[loss], 4_294_967_295)];
+    let mut fields = Fields::new();
+    for raw in parted {
+        let line = bared(&raw);
+        for (place, cell) in line.iter().enumerate().filter(|(_, cell)| !cell.is_empty()) {
+            match columns.get(place) {
+                Some(0 | 1) => {}
+                Some(2) if separator != ',' => {}
+                Some(2) if place > section.min(loss) && is_number(cell) => return None,
+                Some(2) if raw[place].starts_with('"') => {}
+                Some(2) if !is_beside_a_number(&line, &columns, place, &kept) => {}
+                _ => return None,
+            }
+        }
+        let own = count(line.get(section)?, 63).filter(|own| *own > 0)?;
+        let value = number(line.get(loss)?, decimals[loss], false).filter(|value| *value <= 4_294_967_295)?;
+        fields.insert(format!("loss {own}"), value).is_none().then_some(())?;
+    }
+    let all = fields.len();
+    (all > 0 && (1..=all).all(|section| fields.contains_key(&format!("loss {section}")))).then_some(())?;
+    fields.insert("losses".to_string(), all as i64);
+    Some(fields)
 }

@@ -18,6 +18,7 @@ pub fn of(input: &[u8]) -> (String, Faults) {
         call: Call::Rate,
         job: job.to_vec(),
         meters: Vec::new(),
+        losses: Vec::new(),
         cat: cat.to_vec(),
         sizes: sizes.to_vec(),
         work: Buffer::default(),
@@ -33,6 +34,7 @@ pub fn of(input: &[u8]) -> (String, Faults) {
     for ((fitted, flow), i) in rating.sections.iter().zip(&judged.flows).zip(1..) {
         text += &format!("section {i} {flow} {} {}\n", fitted.velocity, fitted.loss);
     }
-    text += &format!("head {} {} {}\n", rating.required, rating.pump, rating.dictating);
+    let heads = &rating.heads;
+    text += &format!("head {} {} {}\n", heads.required, heads.pump, heads.dictating);
     (text, judged.faults)
 }

@@ -1,0 +1,155 @@
+//! `office heads`: what a house asks of its pump set with losses that are given.
+
+use super::arguments::Arguments;
+use super::charts::figures;
+use super::input::Losses;
+use super::json::Json;
+use super::network::{Demand, house_fields, house_figures, legend};
+use super::outcome::{Misuse, Outcome};
+use super::refused::Given;
+use super::report::{self, Fields, Unanswered};
+use super::required;
+use super::sections::{self, Known};
+use office::pipes::{Pipe, without_sizes};
+use office::record::Record;
+use office::{Heads, calls, loss};
+
+pub fn heads(arguments: &Arguments) -> Result<Outcome, Misuse> {
+    let job = arguments.file(0).job()?;
+    let list = arguments.file(1).losses()?;
+    let given = Given { job: Some(&job), losses: Some(&list.source), ..Given::default() };
+    let found = calls::heads(&job.bytes, &list.source.bytes).map_err(Unanswered::Refused);
+    let headed = match found.and_then(|heads| Headed::of(&job.bytes, &list.source.bytes, heads)) {
+        Ok(headed) => headed,
+        Err(why) => return report::unanswered(arguments, &why, &given),
+    };
+    if let Some(why) = headed.is_of_another_house(&list) {
+        return Err(Misuse::Words(format!(
+            "{} is not of this house: {why}; it was made for another house, or for this one before a change; `office losses` works \
+             the losses out again",
+            list.source.name
+        )));
+    }
+    report::answer(arguments, &given, || headed.fields(), || headed.chart().into_bytes())
+}
+
+/// The library's heads with the losses that were given.
+struct Headed {
+    record: Record,
+    heads: Heads,
+    demand: Demand,
+    pipes: Vec<Pipe>,
+}
+
+impl Headed {
+    /// The library's answer with each section's part in it, unless what is shown would come to another required head.
+    fn of(job: &[u8], losses: &[u8], heads: Heads) -> Result<Headed, Unanswered> {
+        let demand = Demand::of(job)?;
+        let losses = loss::read(losses).unwrap_or_default();
+        // What the library has taken can be read; were it otherwise there would be no pipes to show.
+        let flows = (&demand.flow, &demand.taps);
+        let pipes = without_sizes(job, flows, &losses, heads.dictating).unwrap_or_default();
+        let headed = Headed { record: Record::read(job).unwrap_or_default(), heads, demand, pipes };
+        match headed.difference() {
+            Some(why) => Err(Unanswered::Differs(why)),
+            None => Ok(headed),
+        }
+    }
+
+    /// The pipes between the dictating end and the pump, the end's own first.
+    fn way(&self) -> impl Iterator<Item = &Pipe> {
+        self.pipes.iter().rev().filter(|pipe| pipe.dictating)
+    }
+
+    /// What is lost on that way, in cm.
+    fn lost(&self) -> i64 {
+        self.way().map(|pipe| i64::from(pipe.loss)).sum()
+    }
+
+    /// The required head as the command adds it up, where it is not the library's.
+    fn difference(&self) -> Option<String> {
+        let section = self.way().next().map(|pipe| pipe.section).unwrap_or_default();
+        let elevation = i64::from(section.elevation);
+        let own = i64::from(self.record.meter) + elevation + i64::from(section.free) + self.lost();
+        let given = i64::from(self.heads.required);
+        (own != given).then(|| format!("the required head is {given} cm by the library and {own} cm by the command"))
+    }
+
+    /// What of the house is not as the list of losses says, where it is an answer of the command.
+    fn is_of_another_house(&self, list: &Losses) -> Option<String> {
+        list.answer.as_ref()?.difference(&self.record, &self.demand.flow.flows)
+    }
+
+    fn fields(&self) -> Fields {
+        let mut fields = house_fields(&self.demand);
+        fields.push(("local_losses_tenths", self.record.tenths.into()));
+        fields.extend(required::fields(&self.record, &self.heads));
+        fields.extend([
+            ("dictating_path", Json::List(self.way().map(|pipe| pipe.number.into()).collect())),
+            ("path_loss_cm", Json::Number(self.lost())),
+            ("sections", sections::list(&self.pipes, Known::Heads)),
+        ]);
+        fields
+    }
+
+    fn chart(&self) -> String {
+        let mut rows = house_figures(&self.demand);
+        rows.extend(required::figures(&self.record, &self.heads));
+        let (set, table) = (required::set(&self.demand, &self.heads), sections::table(&self.pipes, Known::Heads));
+        let (sum, legend) = (self.sum(), legend(self.demand.taps.any()));
+        format!("{set}{}{sum}\n{table}{LEGEND}{legend}", figures(&rows))
+    }
+
+    /// How the required head comes about at the dictating end.
+    fn sum(&self) -> String {
+        let Some(end) = self.way().next() else { return String::new() };
+        let (elevation, free) = (end.section.elevation, end.section.free);
+        let house = format!("meter loss {} + elevation {elevation} + free head {free}", self.record.meter);
+        let (lost, required) = (self.lost(), self.heads.required);
+        format!("required head: {house} + losses {lost} = {required} cm\n{}", self.losses(end.number))
+    }
+
+    /// The losses on the way from the dictating end, as far as a line holds them.
+    fn losses(&self, end: u8) -> String {
+        let (all, lost) = (self.way().count(), self.lost());
+        let parts: Vec<String> = self.way().map(|pipe| format!("{} (section {})", pipe.loss, pipe.number)).collect();
+        let words = match all > MOST_ON_A_LINE {
+            true => format!("{lost} cm in {all} sections, which have a * below"),
+            false => format!("{} = {lost} cm", parts.join(" + ")),
+        };
+        format!("losses from section {end} to the pump: {words}\n")
+    }
+}
+
+/// A way of more sections is not written out.
+const MOST_ON_A_LINE: usize = 8;
+
+const LEGEND: &str = "\
+loss: as given, and not worked out from a table of sizes; it is to be what the section's own pipe loses at its flow
+";
+
+#[cfg(test)]
+mod tests {
+    use super::*;
+    use office::house;
+
+    const OWN: &str = include_str!("../../../examples/own-case.txt");
+
+    /// Heads that the losses don't come to are not shown.
+    #[test]
+    fn an_answer_that_differs_is_not_shown() {
+        let job = house::pack(OWN).expect("document 01's own case");
+        let list = loss::bytes(&[71]);
+        // Document 01 has 921 for a loss of 71: 50 + 600 + 200 + 71.
+        let heads = Heads { required: 921, pump: 421, dictating: 1 };
+        assert!(Headed::of(&job, &list, heads).is_ok());
+        for (other, list) in [
+            (Heads { required: 922, ..heads }, list.clone()),
+            (Heads { dictating: 2, ..heads }, list),
+            (heads, loss::bytes(&[72])),
+            (heads, Vec::new()),
+        ] {
+            assert!(matches!(Headed::of(&job, &list, other), Err(Unanswered::Differs(_))), "{other:?}");
+        }
+    }
+}

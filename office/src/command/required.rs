@@ -1,0 +1,43 @@
+//! The heads that a house asks for with its losses, as `rate`, `choose` and `heads` show them.
+
+use super::charts::Figure;
+use super::json::Json;
+use super::network::Demand;
+use super::report::Fields;
+use office::Heads;
+use office::record::Record;
+
+/// How many cm of the delivered head are left over; fewer than none where it is too little.
+fn spare(record: &Record, heads: &Heads) -> i64 {
+    i64::from(record.delivered) - i64::from(heads.required)
+}
+
+/// The pump set that is asked for, on a line of its own.
+pub fn set(demand: &Demand, heads: &Heads) -> String {
+    format!("pump set: {} ml/s at {} cm\n", demand.duty, heads.pump)
+}
+
+pub fn figures(record: &Record, heads: &Heads) -> Vec<Figure> {
+    let spare = spare(record, heads);
+    let spared = if spare < 0 { "cm: TOO LITTLE HEAD" } else { "cm" };
+    let cm = |remark: &str| format!("cm{remark}");
+    let guaranteed = format!(" over the guaranteed {} cm", record.guaranteed);
+    vec![
+        ("required head", heads.required.to_string(), cm("")),
+        ("pump head", heads.pump.to_string(), cm(&guaranteed)),
+        ("delivered head", record.delivered.to_string(), cm("")),
+        ("to spare", spare.to_string(), spared.to_string()),
+        ("dictating section", heads.dictating.to_string(), String::new()),
+    ]
+}
+
+pub fn fields(record: &Record, heads: &Heads) -> Fields {
+    vec![
+        ("suits", Json::Truth(spare(record, heads) >= 0)),
+        ("required_head_cm", heads.required.into()),
+        ("pump_head_cm", heads.pump.into()),
+        ("guaranteed_head_cm", record.guaranteed.into()),
+        ("delivered_head_cm", record.delivered.into()),
+        ("dictating_section", heads.dictating.into()),
+    ]
+}
