@@ -1,6 +1,6 @@
 -- L3: the losses call and the heads call in turn give what the rating call gives.
 -- Assumes nothing.
-use mathlib.Core.Path.{_≡_, refl, sym, ap, _∙_}
+use mathlib.Core.Path.{_≡_, refl, sym, _∙_}
 use mathlib.Core.Bool.{true}
 use mathlib.Core.List.{List, [], append-nil}
 use Prim.Native.Nat.{ℕ, _+_, _-_, _*_, _≤_, _<_}
@@ -10,13 +10,13 @@ use Rattle.basis.specs.Part.{part}
 use Rattle.basis.specs.Range.{concatTo}
 use Rattle.basis.specs.Round.{up}
 use Rattle.basis.proofs.Concat.{concat-ext, concat-length, concat-part}
-use Rattle.wire.specs.Wire.{beAt, bytesOf}
+use Rattle.wire.specs.Wire.{bytesOf}
 use Rattle.wire.proofs.Fields.{be-written, bytes-length}
 use Rattle.fields.specs.Fields.{countOf}
 use Rattle.record.specs.Record.{decode}
 use Rattle.demand.specs.Demand.{Accepted}
 use Rattle.demand.proofs.Validity.{valid-count, valid-rooted}
-use Rattle.acceptance.specs.Acceptance.{jobNo, inputNo}
+use Rattle.acceptance.specs.Acceptance.{jobNo}
 use Rattle.acceptance.proofs.Accepting.{accept-accepted, input-both}
 use Rattle.catalogue.proofs.AcceptedCat.{cat-of}
 use Rattle.heads.proofs.Same.{required-same, pump-same, dictating-same}
@@ -26,8 +26,8 @@ use Rattle.rating.proofs.Ordering.{sized-same}
 use Rattle.given_losses.specs.Losses.{lossIn, lossesOk}
 use Rattle.given_losses.proofs.Listed.{losses-pass}
 use Rattle.given_losses.proofs.Ordering.{heads-done}
-use Rattle.order.specs.Promises.{Rated, LossesGiven, HeadsGiven}
-use Rattle.demands.specs.Demand2.{Bytes, HeadFigures, RateFigures, LossFigures}
+use Rattle.order.specs.Promises.{Rated, LossesGiven}
+use Rattle.demands.specs.Demand2.{Bytes, HeadFigures, RateFigures}
 use Rattle.demands.specs.InTurn.{gathered, Enough, ThreeCalls, SameFigures, Alike, InTurn}
 use Rattle.demands.proofs.Heads.{heads-figures}
 use Rattle.demands.proofs.Lowest.{lowest}
