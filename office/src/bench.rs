@@ -1,7 +1,6 @@
-//! The library against its rivals, on the same inputs and in one run: flow, meter, rating in one call and in
-//! two, and choosing of the independent model, and
-//! searches in safe Rust. Nobody clears a buffer between calls. Ratios are the library's time over the rival's, taken round
-//! by round with the sides in turn, so that a slow moment of the machine falls on all of them.
+//! The library against its rivals, on the same inputs and in one run: flow, meter, rating in one call and in two, and choosing of
+//! the independent model, and searches in safe Rust. Nobody clears a buffer between calls. Ratios are the library's time over
+//! the rival's, taken round by round with the sides in turn, so that a slow moment of the machine falls on all of them.
 
 mod growth;
 mod houses;
