@@ -129,7 +129,7 @@ def list_lengths():
 
 # 19: "or one is over 4,259,775 cm"; 4,259,775 is 0x0040ffbf
 
-OVER = [MOST + 1, MOST + 65, 0x410000, 2 ** 23, 2 ** 24, 2 ** 24 + 71, 2 ** 31 - 1, 2 ** 31,
+OVER = [MOST + 1, MOST + 64, 0x410000, 2 ** 23, 2 ** 24, 2 ** 24 + 71, 2 ** 31 - 1, 2 ** 31,
         2 ** 31 + 71, 0x47000000, 2 ** 32 - 1]
 
 
@@ -155,7 +155,7 @@ def bounds():
                *at_place(place, 63, MOST), record=long) for place in (1, 32, 63)] + [
         refused(f"loss 4259776 in section {place} of a chain of 63", 19,
                 given(*at_place(place, 63, MOST + 1)), record=long) for place in (1, 32, 63)] + [
-        refused("a loss over the most, and a byte too few", 19, given(MOST + 1)[:3]),
+        refused("the first three bytes of a loss over the most", 19, given(MOST + 1)[:3]),
         refused("a loss over the most, and a byte too many", 19, given(MOST + 1) + b"\0"),
         refused("a loss over the most, and one too many", 19, given(MOST + 1, 71)),
         refused("one too many, which is over the most", 19, given(71, MOST + 1)),

@@ -119,7 +119,7 @@ uint32_t order_losses(const uint8_t *job, size_t job_length, const uint8_t *cat,
  * out: at least 9 bytes.
  * Result: required head in cm (4 bytes, signed two's complement), pump head in cm (4), dictating section (1), worked out from these
  * losses as order_rate works them out from its own.
- * With enough space in both, order_losses and then order_heads with the losses of its result give the number that order_rate
+ * With enough space in each of the three, order_losses and then order_heads with the losses of its result give the number that order_rate
  * gives, or its figures: the 9 bytes of order_heads are the first 9 of order_rate.
  * Refusals: 1 to 9, 19, 14, in this order. */
 uint32_t order_heads(const uint8_t *job, size_t job_length, const uint8_t *losses, size_t losses_length,

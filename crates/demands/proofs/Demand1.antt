@@ -17,7 +17,7 @@ use Rattle.acceptance.specs.Acceptance.{jobChecks, inputChecks}
 use Rattle.flow.specs.Calls.{flowNo, dutyNo}
 use Rattle.metering.specs.Calls.{meterNo}
 use Rattle.rating.specs.Calls.{sizedChecks, sizedNo}
-use Rattle.given_losses.specs.Calls.{headsNo}
+use Rattle.lent_losses.specs.Calls.{headsNo}
 use Rattle.choosing.specs.Calls.{chooseChecks, chooseNo, Chosen}
 use Rattle.order.specs.Promises.{Gives}
 use Rattle.demands.specs.Demand1.{Call, Read, Write, Copy, Flow, Duty, Meter, Rate, Losses, Heads, Choose, numbersOf, Among, Called, read, written, copied, flow-given, duty-given, meter-given, rated, losses-given, heads-given, chosen, Answered, Demand1}

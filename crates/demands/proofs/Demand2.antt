@@ -11,7 +11,7 @@ use Rattle.job.proofs.RoundTrip.{written-read-same, same-bytes, copied as copie
 use Rattle.acceptance.proofs.Accepting.{input-cat}
 use Rattle.flow.proofs.Ordering.{flow-done, duty-done}
 use Rattle.rating.proofs.Ordering.{sized-over, sized-done}
-use Rattle.given_losses.proofs.Ordering.{heads-listed, heads-done}
+use Rattle.lent_losses.proofs.Ordering.{heads-listed, heads-done}
 use Rattle.order.specs.Promises.{Copied}
 use Rattle.demands.specs.Demand2.{Demand2}
 use Rattle.demands.proofs.Flows.{flow-figures, duty-figure}

@@ -1,13 +1,15 @@
 -- The heads read back from a result's bytes, whoever gave the losses.
 -- Assumes nothing.
-use mathlib.Core.Path.{_≡_, refl, sym, _∙_}
+use mathlib.Core.Path.{_≡_, refl, sym, ap, _∙_}
 use mathlib.Core.List.{List, _++_}
 use Prim.Native.Nat.{ℕ, _+_, _≤_, _<_}
 use native.Mathlib.Omega.{arith}
 use lib.IntN.{ℤ, pos, negsuc, _-ℤ_}
 use lib.ListN.{length, drop, getD}
 use lib.Signed.{mag}
+use Rattle.basis.specs.Part.{part}
 use Rattle.basis.specs.Slots.{slots}
+use Rattle.basis.proofs.Part.{part-front}
 use Rattle.basis.proofs.Stored.{stored-front}
 use Rattle.wire.specs.Wire.{bytesOf, bitsOf}
 use Rattle.wire.proofs.Fields.{be-written}
@@ -24,11 +26,12 @@ use Rattle.heads.specs.Heads.{requiredOf, pumpAt, pumpOf}
 use Rattle.heads.proofs.Bounds.{required-small}
 use Rattle.heads.proofs.Same.{required-same}
 use Rattle.heads.proofs.Signed.{less-mag}
-use Rattle.rated_bytes.specs.RatedBytes.{headsBytes}
-use Rattle.given_losses.specs.Losses.{lossIn}
-use Rattle.given_losses.proofs.Listed.{losses-top}
-use Rattle.given_losses.proofs.Ordering.{heads-clear}
-use Rattle.given_losses.proofs.Placed.{placed-at, given-of}
+use Rattle.rated_bytes.specs.RatedBytes.{headsLength, headsBytes}
+use Rattle.rated_bytes.proofs.Written.{heads-length}
+use Rattle.lent_losses.specs.LentLosses.{lossIn}
+use Rattle.lent_losses.proofs.Listed.{losses-top}
+use Rattle.lent_losses.proofs.Ordering.{heads-clear}
+use Rattle.lent_losses.proofs.Placed.{placed-at, given-of}
 use Rattle.order.specs.Promises.{HeadsGiven}
 use Rattle.demands.specs.Demand2.{HeadFigures}
 
@@ -67,7 +70,12 @@ module _ {job : Job} (accepted : Accepted job) (loss : ℕ → ℕ) (top : (i : 
         dictating = rw result;
       }
 
--- the heads call
+-- the heads call: the nine bytes at the front of its buffer, and their figures
+pub heads-front : (job losses out₀ out : List ℕ) → HeadsGiven job losses out₀ out 0 → part out 0 headsLength ≡ headsBytes (decode job) (lossIn losses)
+heads-front job losses out₀ out g =
+    let heads : List ℕ = headsBytes (decode job) (lossIn losses) in
+    ap (λ (l : List ℕ). part l 0 headsLength) (g .buffer ∙ stored-front out₀ heads) ∙ part-front heads _ headsLength (heads-length (decode job) (lossIn losses))
+
 pub heads-figures : (job losses out₀ out : List ℕ) → HeadsGiven job losses out₀ out 0 → HeadFigures (decode job) (lossIn losses) out
 heads-figures job losses out₀ out g =
     let clear = heads-clear job losses (length out₀) (sym (g .number)) in

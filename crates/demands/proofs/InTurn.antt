@@ -22,16 +22,17 @@ use Rattle.catalogue.proofs.AcceptedCat.{cat-of}
 use Rattle.heads.proofs.Same.{required-same, pump-same, dictating-same}
 use Rattle.sizing.specs.Losses.{lossOf, lossesOf}
 use Rattle.sizing.proofs.LossBounds.{loss-top}
+use Rattle.rated_bytes.proofs.Same.{heads-same}
 use Rattle.rating.proofs.Ordering.{sized-same}
-use Rattle.given_losses.specs.Losses.{lossIn, lossesOk}
-use Rattle.given_losses.proofs.Listed.{losses-pass}
-use Rattle.given_losses.proofs.Ordering.{heads-done}
-use Rattle.order.specs.Promises.{Rated, LossesGiven}
-use Rattle.demands.specs.Demand2.{Bytes, HeadFigures, RateFigures}
+use Rattle.lent_losses.specs.LentLosses.{lossIn, lossesOk}
+use Rattle.lent_losses.proofs.Listed.{losses-pass}
+use Rattle.lent_losses.proofs.Ordering.{heads-done}
+use Rattle.order.specs.Promises.{Rated, LossesGiven, HeadsGiven}
+use Rattle.demands.specs.Demand2.{Bytes}
 use Rattle.demands.specs.InTurn.{gathered, Enough, ThreeCalls, SameFigures, Alike, InTurn}
-use Rattle.demands.proofs.Heads.{heads-figures}
+use Rattle.demands.proofs.Heads.{heads-front, heads-figures}
 use Rattle.demands.proofs.Lowest.{lowest}
-use Rattle.demands.proofs.Ratings.{passed-job, table-top, losses-small, losses-rateable, losses-bytes, rate-figures, losses-figures}
+use Rattle.demands.proofs.Ratings.{passed-job, table-top, losses-small, losses-rateable, losses-bytes, rate-front, rate-figures, losses-figures}
 
 -- where the first call gives a result: what is gathered from it
 module _ (b cat sizes out₀ out : List ℕ) (bytes : Bytes cat) (g : LossesGiven b cat sizes out₀ out 0) where
@@ -59,18 +60,21 @@ module _ (b cat sizes out₀ out : List ℕ) (bytes : Bytes cat) (g : LossesGive
       (λ i h k. rw (gathered-at i h k) (losses-small (losses-rateable b cat sizes out₀ out bytes g) bytes i h k))
 
   -- and so finds the rating's heads
-  heads-of : {rated heads : List ℕ} → Accepted (decode b) → RateFigures (decode b) cat sizes rated →
-      HeadFigures (decode b) (lossIn (gathered (countOf (decode b)) out)) heads → SameFigures (countOf (decode b)) rated out heads
-  heads-of accepted r h =
+  heads-of : {rated₀ rated heads₀ heads : List ℕ} → Accepted (decode b) → Rated b cat sizes rated₀ rated 0 →
+      HeadsGiven b (gathered (countOf (decode b)) out) heads₀ heads 0 → SameFigures (countOf (decode b)) rated out heads
+  heads-of {rated₀} {rated} {heads₀} {heads} accepted one second =
       let rooted = valid-rooted (accepted .valid) in
       let some = valid-count (accepted .valid) .low in
       let given : ℕ → ℕ = lossIn (gathered (countOf (decode b)) out) in
       let own : ℕ → ℕ = lossesOf (decode b) cat sizes in
       let l = losses-figures b cat sizes out₀ out bytes g in
+      let r = rate-figures b cat sizes rated₀ rated bytes one in
+      let h = heads-figures b (gathered (countOf (decode b)) out) heads₀ heads second in
       record {
         required = h .required ∙ required-same (decode b) rooted some given own gathered-at ∙ sym (r .heads .required);
         pump = h .pump ∙ pump-same (decode b) rooted some given own gathered-at ∙ sym (r .heads .pump);
         dictating = h .dictating ∙ dictating-same (decode b) rooted some given own gathered-at ∙ sym (r .heads .dictating);
+        nine = heads-front b _ heads₀ heads second ∙ heads-same (decode b) rooted some given own gathered-at ∙ sym (rate-front b cat sizes rated₀ rated bytes one);
         velocity = λ i a k. l .velocity i a k ∙ sym (r .velocity i a k);
         loss = λ i a k. l .loss i a k ∙ sym (r .loss i a k);
       }
@@ -105,8 +109,7 @@ module _ {b cat sizes rated₀ rated losses₀ losses heads₀ heads : List ℕ}
 
     figures : SameFigures (countOf (decode b)) rated losses heads
     figures =
-        heads-of b cat sizes losses₀ losses bytes first-given accepted (rate-figures b cat sizes rated₀ rated bytes one-given)
-        (heads-figures b (gathered (countOf (decode b)) losses) heads₀ heads (rw second-none at (c .second (first-same ∙ none))))
+        heads-of b cat sizes losses₀ losses bytes first-given accepted one-given (rw second-none at (c .second (first-same ∙ none)))
 
   alike : Alike (countOf (decode b)) rated losses heads n m k
   alike =

@@ -12,7 +12,7 @@ use Rattle.basis.specs.Part.{part}
 use Rattle.basis.specs.Range.{concatTo}
 use Rattle.basis.specs.Sections.{sizeOf}
 use Rattle.basis.proofs.Concat.{concat-length, concat-part, concat-within}
-use Rattle.basis.proofs.Part.{part-length, part-next}
+use Rattle.basis.proofs.Part.{part-length, part-next, part-front}
 use Rattle.basis.proofs.Stored.{stored-front}
 use Rattle.answer.specs.Checks.{firstNo, tooShort}
 use Rattle.answer.proofs.First.{first-split, first-clear}
@@ -36,7 +36,7 @@ use Rattle.sizing.specs.Losses.{listOk, overAny, readingOf, lossAt, lossesOf}
 use Rattle.sizing.proofs.LossBounds.{loss-top}
 use Rattle.sizing.proofs.Named.{list-names}
 use Rattle.sizing.proofs.Trying.{read-top}
-use Rattle.rated_bytes.specs.RatedBytes.{headsBytes, resultBytes, figuresBytes}
+use Rattle.rated_bytes.specs.RatedBytes.{headsLength, headsBytes, resultBytes, figuresBytes}
 use Rattle.rating.specs.Calls.{sizedChecks, sizedNo, rateBytes, lossesBytes}
 use Rattle.rating.specs.Contracts.{Rateable}
 use Rattle.rated_bytes.proofs.Written.{heads-length, section-length}
@@ -103,6 +103,11 @@ module _ (b cat sizes out₀ out : List ℕ) (bytes : Bytes cat) (g : Rated b ca
   result : out ≡ heads ++ (concatTo (countOf (decode b)) section ++ rest)
   unfolding rateBytes resultBytes heads section rest
   result = g .buffer ∙ stored-front out₀ (rateBytes (decode b) cat sizes) ∙ append-assoc heads _ _
+
+  pub rate-front : part out 0 headsLength ≡ headsBytes (decode b) (lossesOf (decode b) cat sizes)
+  unfolding heads
+  rate-front =
+      ap (λ (l : List ℕ). part l 0 headsLength) result ∙ part-front heads _ headsLength (heads-length (decode b) (lossesOf (decode b) cat sizes))
 
   -- the six bytes of section i
   section-at : (i : ℕ) → 0 < i → i ≤ countOf (decode b) → part out (9 + 6 * (i - 1)) 6 ≡ section i

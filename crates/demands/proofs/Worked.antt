@@ -40,8 +40,8 @@ use Rattle.meters.specs.Meters.{meterAt, meterOk, metersOk, meterLoss, mostLoss
 use Rattle.metering.specs.Calls.{meteredRecord, meterBytes, meterNo}
 use Rattle.rated_bytes.specs.RatedBytes.{headsBytes, figuresBytes}
 use Rattle.rating.specs.Calls.{sizedChecks, sizedNo, lossesBytes}
-use Rattle.given_losses.specs.Losses.{lossIn, lossesOk}
-use Rattle.given_losses.specs.Calls.{headsNo}
+use Rattle.lent_losses.specs.LentLosses.{lossIn, lossesOk}
+use Rattle.lent_losses.specs.Calls.{headsNo}
 use Rattle.sizing.proofs.Named.{list-long, list-names}
 use Rattle.acceptance.proofs.Accepting.{input-cat}
 use Rattle.choosing.specs.Suitable.{Suitable, priceAt, costOf}

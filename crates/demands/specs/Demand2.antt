@@ -23,8 +23,8 @@ use Rattle.sizing.specs.Losses.{listOk, overAny, readingOf, lossesOf}
 use Rattle.flow.specs.Calls.{flowLength, flowNo, dutyNo}
 use Rattle.rated_bytes.specs.RatedBytes.{rateLength, lossesLength, headsLength}
 use Rattle.rating.specs.Calls.{rateNo, lossesNo}
-use Rattle.given_losses.specs.Losses.{lossIn, lossesOk}
-use Rattle.given_losses.specs.Calls.{headsNo}
+use Rattle.lent_losses.specs.LentLosses.{lossIn, lossesOk}
+use Rattle.lent_losses.specs.Calls.{headsNo}
 use Rattle.order.specs.Promises.{Copied, FlowGiven, DutyGiven, Rated, LossesGiven, HeadsGiven}
 
 -- what is lent is bytes, as it always is: the parameters are slices of bytes

@@ -20,7 +20,7 @@ use Rattle.catalogue.specs.Rules.{catNo}
 use Rattle.heads.specs.Heads.{requiredOf}
 use Rattle.sizing.specs.Losses.{lossOf, lossAt}
 use Rattle.rated_bytes.specs.RatedBytes.{rateLength, lossesLength, headsLength}
-use Rattle.given_losses.specs.Losses.{lossesOk}
+use Rattle.lent_losses.specs.LentLosses.{lossesOk}
 use Rattle.order.specs.Promises.{Rated, LossesGiven, HeadsGiven}
 use Rattle.demands.specs.Demand2.{Bytes}
 
@@ -45,6 +45,8 @@ pub record SameFigures (count : ℕ) (rated losses heads : List ℕ) : Type 0 wh
   pub required : signedOf 32 (beAt 4 heads 0) ≡ signedOf 32 (beAt 4 rated 0)
   pub pump : beAt 4 heads 4 ≡ beAt 4 rated 4
   pub dictating : byteAt heads 8 ≡ byteAt rated 8
+  -- these are all nine bytes of the second's result
+  pub nine : part heads 0 headsLength ≡ part rated 0 headsLength
   pub velocity : (i : ℕ) → 0 < i → i ≤ count → beAt 2 losses (10 * (i - 1) + 4) ≡ beAt 2 rated (9 + 6 * (i - 1))
   pub loss : (i : ℕ) → 0 < i → i ≤ count → beAt 4 losses (10 * (i - 1) + 6) ≡ beAt 4 rated (11 + 6 * (i - 1))
 
@@ -73,5 +75,5 @@ pub record InTurn : Type 0 where
   -- so of an accepted job and an accepted catalogue no section with any size loses more
   pub table : (job cat : List ℕ) (s i : ℕ) → jobNo job ≡ 0 → catNo cat ≡ 0 → Bytes cat → 0 < s → s ≤ sizesOf cat → 0 < i →
       i ≤ countOf (decode job) → lossAt (decode job) cat s i ≤ 4259775
-  -- a loss of 0 is taken, which no table gives; the required head of an accepted job is at least -1,000 cm whatever the losses are
+  -- the required head of an accepted job is at least -1,000 cm, whatever the losses are, 0 too
   pub lowest : (job : List ℕ) (loss : ℕ → ℕ) → jobNo job ≡ 0 → leZ (negsuc 999) (requiredOf (decode job) loss) ≡ true

@@ -18,7 +18,7 @@ use Rattle.flow.specs.Calls.{flowNo, dutyNo}
 use Rattle.meters.specs.Meters.{meterAt, meterLoss}
 use Rattle.metering.specs.Calls.{placeFor, meterBytes, meterNo}
 use Rattle.rating.specs.Calls.{rateNo, lossesNo, lossesBytes}
-use Rattle.given_losses.specs.Calls.{headsNo, givenBytes}
+use Rattle.lent_losses.specs.Calls.{headsNo, lentBytes}
 use Rattle.choosing.specs.Suitable.{Suitable, costOf}
 use Rattle.choosing.specs.Calls.{Ample, chooseNo, Chosen}
 
@@ -127,9 +127,9 @@ pub record OwnCase : Type 0 where
   pub losses-over : lossesNo ownJob ownCat (1 ∷ []) 10 ≡ 13
   -- the heads of that loss are the rating's, 921, 421 and section 1; those of no loss are 850, 350 and section 1
   pub heads-given : headsNo ownJob (lossAlone 0 71) 9 ≡ 0
-  pub heads-bytes : givenBytes (decode ownJob) (lossAlone 0 71) ≡ 0 ∷ 0 ∷ 3 ∷ 153 ∷ 0 ∷ 0 ∷ 1 ∷ 165 ∷ 1 ∷ []
+  pub heads-bytes : lentBytes (decode ownJob) (lossAlone 0 71) ≡ 0 ∷ 0 ∷ 3 ∷ 153 ∷ 0 ∷ 0 ∷ 1 ∷ 165 ∷ 1 ∷ []
   pub no-loss : headsNo ownJob (lossAlone 0 0) 9 ≡ 0
-  pub no-loss-bytes : givenBytes (decode ownJob) (lossAlone 0 0) ≡ 0 ∷ 0 ∷ 3 ∷ 82 ∷ 0 ∷ 0 ∷ 1 ∷ 94 ∷ 1 ∷ []
+  pub no-loss-bytes : lentBytes (decode ownJob) (lossAlone 0 0) ≡ 0 ∷ 0 ∷ 3 ∷ 82 ∷ 0 ∷ 0 ∷ 1 ∷ 94 ∷ 1 ∷ []
   -- 4,259,775 cm are taken and one more is not; five bytes are no list, which is found before the room
   pub most-loss : headsNo ownJob (0 ∷ 64 ∷ 255 ∷ 191 ∷ []) 9 ≡ 0
   pub over-loss : headsNo ownJob (0 ∷ 64 ∷ 255 ∷ 192 ∷ []) 9 ≡ 19

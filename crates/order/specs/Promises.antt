@@ -10,7 +10,7 @@ use Rattle.job.specs.Calls.{copyNo}
 use Rattle.flow.specs.Calls.{flowNo, flowBytes, dutyNo, dutyBytes}
 use Rattle.metering.specs.Calls.{meterNo, meterBytes}
 use Rattle.rating.specs.Calls.{rateNo, rateBytes, lossesNo, lossesBytes}
-use Rattle.given_losses.specs.Calls.{headsNo, givenBytes}
+use Rattle.lent_losses.specs.Calls.{headsNo, lentBytes}
 
 -- the number, and the result buffer after it: the bytes at its front where the number is 0, else as it was
 pub record Gives (no : ℕ) (bytes out₀ out : List ℕ) (n : ℕ) : Type 0 where
@@ -43,4 +43,4 @@ LossesGiven job cat sizes out₀ out n = Gives (lossesNo job cat sizes (length o
 
 -- heads: 1 to 9, 19, 14, or the heads with the losses that are given
 abbrev pub HeadsGiven : List ℕ → List ℕ → List ℕ → List ℕ → ℕ → Type 0
-HeadsGiven job losses out₀ out n = Gives (headsNo job losses (length out₀)) (givenBytes (decode job) losses) out₀ out n
+HeadsGiven job losses out₀ out n = Gives (headsNo job losses (length out₀)) (lentBytes (decode job) losses) out₀ out n

@@ -56,7 +56,7 @@ pub extern "C" fn order_losses(job: &[u8], cat: &[u8], sizes: &[u8], out: &mut [
 pub extern "C" fn order_heads(job: &[u8], losses: &[u8], out: &mut [u8]) -> u32
     ensures { λ r. ⌜ HeadsGiven (now (job .entry)) (now (losses .entry)) (now (out .entry)) (now (out .exit)) r ⌝ }
 {
-    answer::number(given_losses::heads(job, losses, out))
+    answer::number(lent_losses::heads(job, losses, out))
 }
 
 // A list of sizes of least cost: 1 to 11, 14, 15, 16, or the choosing result.

@@ -1,4 +1,4 @@
--- Document 01, "Rating and choosing", and document 02, L3: the bytes of a rating result and of the two calls that it is split into, from each section's figures.
+-- Document 01, "Rating and choosing", and document 02, L3: the bytes of a rating result, and of the losses and heads results, from each section's figures.
 -- Assumes nothing.
 use Prim.Native.Nat.{ℕ, _+_, _*_}
 use mathlib.Core.List.{List, [], _∷_, _++_}

@@ -1,4 +1,4 @@
-// The bytes of a rating result, and of the two calls that it is split into: the figures of the sections, and the heads.
+// The bytes of a rating result, and of the losses and heads results.
 use fields::Job;
 use heads::Heads;
 ghost use mathlib.Core.Path.{_≡_};

@@ -109,7 +109,7 @@ fn losses(record: &[u8], catalogue: &[u8], list: &[u8], out: &mut [u8]) {
 }
 
 fn heads(record: &[u8], losses: &[u8], out: &mut [u8]) {
-    let answer = given_losses::heads(record, losses, out);
+    let answer = lent_losses::heads(record, losses, out);
     print::given(answer, out);
 }
 

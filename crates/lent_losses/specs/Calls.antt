@@ -9,7 +9,7 @@ use Rattle.fields.specs.Fields.{countOf}
 use Rattle.record.specs.Record.{decode}
 use Rattle.acceptance.specs.Acceptance.{jobChecks}
 use Rattle.rated_bytes.specs.RatedBytes.{headsLength, headsBytes}
-use Rattle.given_losses.specs.Losses.{lossIn, lossesOk}
+use Rattle.lent_losses.specs.LentLosses.{lossIn, lossesOk}
 
 -- the heads call with a result buffer of so many bytes
 unfoldable pub headsNo : List ℕ → List ℕ → ℕ → ℕ
@@ -17,5 +17,5 @@ headsNo b losses room =
     firstNo (jobChecks b ++ ((not (lossesOk (countOf (decode b)) losses), 19) ∷ (tooShort room headsLength, 14) ∷ []))
 
 -- the result: the heads with the losses that are given
-abbrev pub givenBytes : Job → List ℕ → List ℕ
-givenBytes job losses = headsBytes job (lossIn losses)
+abbrev pub lentBytes : Job → List ℕ → List ℕ
+lentBytes job losses = headsBytes job (lossIn losses)

@@ -1,4 +1,4 @@
--- `given_losses::read_losses` meets its contract: before section i the losses below it pass 19 and stand at their places.
+-- `lent_losses::read_losses` meets its contract: before section i the losses below it pass 19 and stand at their places.
 -- Assumes nothing.
 use mathlib.Core.Path.{_≡_, refl, sym, ap, _∙_}
 use mathlib.Core.Bool.{true}
@@ -15,10 +15,10 @@ use Rattle.basis.specs.Slots.{slots}
 use Rattle.basis.proofs.Bools.{apart}
 use Rattle.basis.proofs.Each.{all-none, all-more}
 use Rattle.basis.proofs.Slots.{slots-none, slots-more}
-use Rattle.given_losses.specs.Losses.{lossIn}
-use Rattle.given_losses.proofs.Listed.{other-length, losses-all, one-over}
-use Rattle.given_losses.proofs.read_losses.Statement.{statement}
-use Rattle.given_losses.proofs.read_losses.Tie as tie
+use Rattle.lent_losses.specs.LentLosses.{lossIn}
+use Rattle.lent_losses.proofs.Listed.{other-length, losses-all, one-over}
+use Rattle.lent_losses.proofs.read_losses.Statement.{statement}
+use Rattle.lent_losses.proofs.read_losses.Tie as tie
 
 abbrev Inv-loop : tie.InvT-loop
 Inv-loop given count at₀ i₀ at i =

@@ -10,8 +10,8 @@ ghost use Rattle.basis.specs.Slots.{slots};
 ghost use Rattle.answer.specs.Answer.{numberOf};
 ghost use Rattle.answer.specs.Checks.{bufferAfter};
 ghost use Rattle.record.specs.Record.{decode};
-ghost use Rattle.given_losses.specs.Losses.{lossIn, lossesOk};
-ghost use Rattle.given_losses.specs.Calls.{headsNo, givenBytes};
+ghost use Rattle.lent_losses.specs.LentLosses.{lossIn, lossesOk};
+ghost use Rattle.lent_losses.specs.Calls.{headsNo, lentBytes};
 
 // The losses at the sections' places, and whether 19 finds nothing.
 struct Losses {
@@ -45,7 +45,7 @@ fn read_losses(given: &[u8], count: usize) -> Losses
 pub fn heads(b: &[u8], given: &[u8], out: &mut [u8]) -> Answer
     ensures number { λ r. ⌜ numberOf r ≡ headsNo (now (b .entry)) (now (given .entry)) (length (now (out .entry))) ⌝ }
     ensures buffer { λ r. ⌜ now (out .exit) ≡ bufferAfter (numberOf r)
-        (givenBytes (decode (now (b .entry))) (now (given .entry))) (now (out .entry)) ⌝ }
+        (lentBytes (decode (now (b .entry))) (now (given .entry))) (now (out .entry)) ⌝ }
 {
     let accepted = accept(b);
     let answer = accepted.answer;

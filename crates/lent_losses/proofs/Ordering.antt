@@ -12,8 +12,8 @@ use Rattle.record.specs.Record.{decode}
 use Rattle.acceptance.specs.Acceptance.{jobChecks, jobNo}
 use Rattle.acceptance.proofs.Accepting.{job-numbered, job-stops, job-passes}
 use Rattle.rated_bytes.specs.RatedBytes.{headsLength}
-use Rattle.given_losses.specs.Losses.{lossesOk}
-use Rattle.given_losses.specs.Calls.{headsNo}
+use Rattle.lent_losses.specs.LentLosses.{lossesOk}
+use Rattle.lent_losses.specs.Calls.{headsNo}
 
 -- what holds where the call finds nothing
 pub record Clear (b losses : List ℕ) : Type 0 where

@@ -1,4 +1,4 @@
--- `given_losses::heads` meets its contract.
+-- `lent_losses::heads` meets its contract.
 -- Assumes nothing.
 use mathlib.Core.Path.{_≡_, refl, sym, ap, _∙_}
 use mathlib.Core.Bool.{true}
@@ -18,12 +18,12 @@ use Rattle.demand.proofs.Validity.{valid-count}
 use Rattle.acceptance.specs.Acceptance.{jobNo}
 use Rattle.acceptance.proofs.Accepting.{accept-fields, accept-accepted}
 use Rattle.rated_bytes.specs.RatedBytes.{headsBytes}
-use Rattle.given_losses.specs.Losses.{lossIn, lossesOk}
-use Rattle.given_losses.proofs.Listed.{losses-top}
-use Rattle.given_losses.proofs.Ordering.{heads-refused, heads-listed, heads-short, heads-done}
-use Rattle.given_losses.proofs.Placed.{given-of, given-bytes}
-use Rattle.given_losses.proofs.heads.Statement.{statement}
-use Rattle.given_losses.proofs.heads.Tie as tie
+use Rattle.lent_losses.specs.LentLosses.{lossIn, lossesOk}
+use Rattle.lent_losses.proofs.Listed.{losses-top}
+use Rattle.lent_losses.proofs.Ordering.{heads-refused, heads-listed, heads-short, heads-done}
+use Rattle.lent_losses.proofs.Placed.{given-of, given-bytes}
+use Rattle.lent_losses.proofs.heads.Statement.{statement}
+use Rattle.lent_losses.proofs.heads.Tie as tie
 
 -- the record and the losses that are lent
 abbrev record-of : tie.After-accept → List ℕ

@@ -10,7 +10,7 @@ use borrow.Author.Tests.{eq-eqb, ne-eqb, eqb-true, le-leb, lt-leb, leb-true}
 use Rattle.basis.specs.Range.{allTo}
 use Rattle.basis.proofs.Bools.{left}
 use Rattle.basis.proofs.Each.{all-at, all-each, all-false}
-use Rattle.given_losses.specs.Losses.{lossIn, lossesOk}
+use Rattle.lent_losses.specs.LentLosses.{lossIn, lossesOk}
 
 module _ (count : ℕ) (losses : List ℕ) where
   pub other-length : (length losses ≡ 4 * count → ⊥) → lossesOk count losses ≡ false

@@ -1,0 +1,2 @@
+pub mod LentLosses
+pub mod Calls
