@@ -149,9 +149,6 @@ pub fn likeness(line: &Cells, form: &Form) -> usize {
 fn columns(line: &Cells, form: &Form) -> (Option<Columns>, Mistakes) {
     let names: Vec<String> = line.cells.iter().map(|cell| plain(cell)).collect();
     let expected = form.expected(line.separator);
-    if let Some(sign) = parted_otherwise(line, form) {
-        return (None, line.mistake(format!("{sign} the columns; commas, semicolons or tabs do"), expected).into());
-    }
     // Where a column is missing, one that is unknown is rather that.
     let missing = |own: usize| !names.iter().any(|name| meant(name, form) == Some(own));
     let none_missing = !(0..form.columns.len()).any(missing);
@@ -178,13 +175,10 @@ fn columns(line: &Cells, form: &Form) -> (Option<Columns>, Mistakes) {
             places[meant.unwrap_or(0)].extend(meant.map(|_| place));
         }
     }
-    for (column, places) in form.columns.iter().zip(&places) {
-        let title = column.title;
-        if places.is_empty() {
-            mistakes.add(line.mistake(format!("the header has no column `{title}`"), expected.clone()));
-        }
-        mistakes.extend(twice(line, title, places, &expected).map(|mistake| in_both_units(mistake, column, &names)));
-    }
+    mistakes.extend(form.columns.iter().zip(&places).filter_map(|(column, places)| match &places[..] {
+        [] => Some(line.mistake(format!("the header has no column `{}`", column.title), expected.clone())),
+        _ => twice(line, column.title, places, &expected).map(|twice| in_both_units(twice, column, &names)),
+    }));
     mistakes.extend(form.name.and_then(|name| twice(line, name, &named, &expected)));
     let each = places.iter().all(|places| places.len() == 1);
     let places = places.into_iter().flatten().collect();
@@ -195,6 +189,9 @@ fn columns(line: &Cells, form: &Form) -> (Option<Columns>, Mistakes) {
 /// The columns of a header line under which rows can be read, and all that is wrong with it and with rows that `#` may hide; or
 /// what is wrong, where it can't be told which column is which.
 pub fn read(text: &str, header: &Cells, form: &Form) -> Result<(Columns, Mistakes), Mistakes> {
+    if let Some(wrong) = parted_otherwise(header, form) {
+        return Err(header.mistake(wrong, form.expected(header.separator)).into());
+    }
     let (columns, mut mistakes) = columns(header, form);
     let Some(columns) = columns else { return Err(mistakes) };
     if columns.begin_otherwise() {
@@ -269,7 +266,7 @@ fn unknown(name: &str, cell: &str, form: &Form, meant: Option<usize>) -> String 
     }
 }
 
-/// What parts the columns of a header that has none of the separators, for a message.
+/// What is wrong with a header that has none of the separators: something else parts its columns.
 fn parted_otherwise(line: &Cells, form: &Form) -> Option<String> {
     let [cell] = &line.cells[..] else { return None };
     let are_begun = |parted: char| {
@@ -278,10 +275,9 @@ fn parted_otherwise(line: &Cells, form: &Form) -> Option<String> {
     };
     let known = |c: char| SEPARATORS.iter().any(|(known, _)| *known == c);
     let signs = cell.chars().filter(|c| !c.is_alphanumeric() && !c.is_whitespace() && !known(*c));
-    match signs.into_iter().find(|sign| are_begun(*sign)) {
-        Some(sign) => Some(format!("`{sign}` does not part")),
-        None => are_begun(' ').then(|| "blanks do not part".to_string()),
-    }
+    let sign = signs.into_iter().find(|sign| are_begun(*sign)).map(|sign| format!("`{sign}` does"));
+    let found = sign.or_else(|| are_begun(' ').then(|| "blanks do".to_string()))?;
+    Some(format!("{found} not part the columns; commas, semicolons or tabs do"))
 }
 
 /// Whether a line that is no header of the form is nearly one: it has no digit, which a row has, one of its words is nearly the

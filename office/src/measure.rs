@@ -245,10 +245,10 @@ impl Measure {
     }
 
     /// The next number that the record keeps, in words, where it may stand for one that is finer.
-    fn no_less(&self, text: &str, power: u32) -> Option<String> {
-        let above = self.above(text, power).filter(|_| self.manner.upward)?;
-        let above = format!("{} {}", self.show(above), self.counts);
-        Some(format!("; {} is the next that states no less loss", above.trim_end()))
+    fn no_less(&self, text: &str, power: u32) -> String {
+        let above = self.above(text, power).filter(|_| self.manner.upward);
+        let above = above.map(|above| format!("{} {}", self.show(above), self.counts));
+        above.map_or(String::new(), |above| format!("; {} is the next that states no less loss", above.trim_end()))
     }
 
     /// The next number that the record keeps above one that is finer.
@@ -271,7 +271,7 @@ impl Measure {
         let front = text.split('.').next().unwrap_or("");
         let short = if text.contains('.') { text.trim_end_matches('0').trim_end_matches('.') } else { text };
         let thousands = behind.len() == 3 && begins_a_thousand(front);
-        let no_less = self.no_less(text, power);
+        let (no_less, than) = (self.no_less(text, power), format!("loss than {short}"));
         match fault {
             Fault::NoNumber => (format!("`{text}` is no number for `{what}`"), example.to_string()),
             Fault::Comma if power == 0 => {
@@ -284,10 +284,7 @@ impl Measure {
             Fault::Sign => (format!("`{text}` for `{what}` has a sign"), format!("the number alone, {}", self.taken)),
             Fault::Thousands => (
                 format!("`{text}` for `{what}` may be {short} or {joined}"),
-                format!(
-                    "fewer decimals, and nothing between thousands{}",
-                    no_less.map_or(String::new(), |words| format!("{words} than {text}"))
-                ),
+                "fewer decimals, and nothing between thousands".to_string() + &no_less.replace("loss", &than),
             ),
             Fault::Decimals => (
                 format!("`{text}` for `{what}` has more decimals than the record keeps"),
@@ -301,8 +298,7 @@ impl Measure {
                 (format!("`{text}` for `{what}` has a point"), format!("{whole}; write {front} if that is meant"))
             }
             Fault::Point | Fault::TooFine => {
-                let expected = format!("{whole}{}", no_less.unwrap_or_default());
-                (format!("`{text}` for `{what}` is finer than the record keeps"), expected)
+                (format!("`{text}` for `{what}` is finer than the record keeps"), whole + &no_less)
             }
             Fault::TooLong => (format!("`{text}` for `{what}` has too many digits"), self.taken.to_string()),
         }

@@ -80,9 +80,9 @@ pub fn stated(bytes: &[u8]) -> Option<&'static str> {
     }
 }
 
-/// What bytes are that may be the record of a list of losses and state no length of their own, as the other records do.
+/// What bytes are that are the record of a list of losses.
 pub fn of_losses(bytes: &[u8]) -> Option<&'static str> {
-    (loss::is_list(bytes) && stated(bytes).is_none()).then_some("are a list of losses")
+    loss::is_list(bytes).then_some("are a list of losses")
 }
 
 /// How many bytes the last of equally long parts lacks, in words.
