@@ -59,9 +59,10 @@ impl Form {
         self.columns.iter().map(|column| column.title).collect::<Vec<_>>().join(&separator.to_string())
     }
 
-    /// What the columns of numbers measure.
+    /// What the columns of numbers measure, in each unit that they may have.
     pub fn quantities(&self) -> impl Iterator<Item = Quantity> {
-        self.columns.iter().filter_map(|column| Some(Quantity::new(column.title, column.measure?)))
+        let forms = self.columns.iter().flat_map(Column::forms);
+        forms.filter_map(|column| Some(Quantity::new(column.title, column.measure?)))
     }
 
     /// The header and what may stand beside it, for a message.
