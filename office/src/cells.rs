@@ -6,6 +6,7 @@ use crate::header::{self, Form};
 use crate::measure::{Fault, Measure};
 use crate::mistake::{Mistake, Mistakes};
 use crate::readable::{self, TextLine};
+use no_number::Remark;
 use std::borrow::Cow;
 
 /// A line that is not blank, parted at its separators.
@@ -205,11 +206,17 @@ impl<'a> Cells<'a> {
 
 /// What is wrong with a cell's number, and what is expected: the number alone, since its unit stands in the header.
 fn of_fault(fault: Fault, what: &str, text: &str, measure: &Measure) -> (String, String) {
-    let example = format!("for example {}", measure.show(measure.example));
-    let (wrong, expected) = measure.fault(fault, what, text, measure.decimals(), &example);
-    match no_number::remark(text) {
-        _ if fault != Fault::NoNumber => (wrong, expected),
-        Some((why, written)) => (format!("{wrong}: {why}"), format!("{written}; {}", measure.whole())),
-        None => (wrong, format!("{}, {example}", measure.whole())),
+    let (number, whole) = (measure.show(measure.example), measure.whole());
+    let (wrong, expected) = measure.fault(fault, what, text, measure.decimals(), &format!("for example {number}"));
+    if fault != Fault::NoNumber {
+        return (wrong, expected);
+    }
+    let Remark { why, written } = no_number::remark(text, measure.manner.power);
+    let wrong = why.map_or(wrong.clone(), |why| format!("{wrong}: {why}"));
+    match written {
+        Some(written) => (wrong, format!("{written}; {whole}")),
+        // Some say themselves how one is written.
+        None if whole.ends_with(&number) => (wrong, whole),
+        None => (wrong, format!("{whole}, for example {number}")),
     }
 }

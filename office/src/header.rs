@@ -1,6 +1,6 @@
 //! The header of a file of cells: which column stands where.
 
-use crate::cells::{self, Cells};
+use crate::cells::{self, Cells, SEPARATORS};
 use crate::measure::{Measure, Quantity, latin};
 use crate::mistake::{Mistake, Mistakes};
 
@@ -59,9 +59,10 @@ impl Form {
         self.columns.iter().map(|column| column.title).collect::<Vec<_>>().join(&separator.to_string())
     }
 
-    /// What the columns of numbers measure.
+    /// What the columns of numbers measure, in each unit that they may have.
     pub fn quantities(&self) -> impl Iterator<Item = Quantity> {
-        self.columns.iter().filter_map(|column| Some(Quantity::new(column.title, column.measure?)))
+        let forms = self.columns.iter().flat_map(Column::forms);
+        forms.filter_map(|column| Some(Quantity::new(column.title, column.measure?)))
     }
 
     /// The header and what may stand beside it, for a message.
@@ -150,7 +151,8 @@ fn columns(line: &Cells, form: &Form) -> (Option<Columns>, Mistakes) {
     let names: Vec<String> = line.cells.iter().map(|cell| plain(cell)).collect();
     let expected = form.expected(line.separator);
     // Where a column is missing, one that is unknown is rather that.
-    let none_missing = (0..form.columns.len()).all(|own| names.iter().any(|name| meant(name, form) == Some(own)));
+    let missing = |own: usize| !names.iter().any(|name| meant(name, form) == Some(own));
+    let none_missing = !(0..form.columns.len()).any(missing);
     let mut mistakes = Mistakes::default();
     let (mut notes, mut named) = (Vec::new(), Vec::new());
     let mut places: Vec<Vec<usize>> = form.columns.iter().map(|_| Vec::new()).collect();
@@ -166,19 +168,18 @@ fn columns(line: &Cells, form: &Form) -> (Option<Columns>, Mistakes) {
             places[column].push(place);
             forms[column] = own;
         } else {
-            let (wrong, meant) = unknown(name, &line.cells[place], form);
+            let meant = meant(name, form).or_else(|| akin_to(name, form).filter(|own| missing(*own)));
+            let wrong = unknown(name, &line.cells[place], form, meant);
             let spare = meant.is_none() && none_missing;
             let rename = if spare { "; rename it `notes` if it is for people" } else { "" };
             mistakes.add(line.mistake(wrong, format!("{expected}{rename}")));
             places[meant.unwrap_or(0)].extend(meant.map(|_| place));
         }
     }
-    for (column, places) in form.columns.iter().map(|column| column.title).zip(&places) {
-        if places.is_empty() {
-            mistakes.add(line.mistake(format!("the header has no column `{column}`"), expected.clone()));
-        }
-        mistakes.extend(twice(line, column, places, &expected));
-    }
+    mistakes.extend(form.columns.iter().zip(&places).filter_map(|(column, places)| match &places[..] {
+        [] => Some(line.mistake(format!("the header has no column `{}`", column.title), expected.clone())),
+        _ => twice(line, column.title, places, &expected).map(|twice| in_both_units(twice, column, &names)),
+    }));
     mistakes.extend(form.name.and_then(|name| twice(line, name, &named, &expected)));
     let each = places.iter().all(|places| places.len() == 1);
     let places = places.into_iter().flatten().collect();
@@ -189,6 +190,9 @@ fn columns(line: &Cells, form: &Form) -> (Option<Columns>, Mistakes) {
 /// The columns of a header line under which rows can be read, and all that is wrong with it and with rows that `#` may hide; or
 /// what is wrong, where it can't be told which column is which.
 pub fn read(text: &str, header: &Cells, form: &Form) -> Result<(Columns, Mistakes), Mistakes> {
+    if let Some(wrong) = parted_otherwise(header, form) {
+        return Err(header.mistake(wrong, form.expected(header.separator)).into());
+    }
     let (columns, mut mistakes) = columns(header, form);
     let Some(columns) = columns else { return Err(mistakes) };
     if columns.begin_otherwise() {
@@ -202,21 +206,88 @@ fn twice(line: &Cells, column: &str, places: &[usize], expected: &str) -> Option
     (places.len() > 1).then(|| line.mistake(format!("the column `{column}` is there twice"), expected))
 }
 
+/// A column that is there twice, with its units where it is there in each.
+fn in_both_units(twice: Mistake, column: &Column, names: &[String]) -> Mistake {
+    let there = |column: &&Column| names.contains(&plain(column.title));
+    let units: Vec<&str> = column.forms().filter(there).map(|column| column.unit).collect();
+    match units.len() > 1 {
+        true => Mistake { wrong: format!("{}: both units are there, {}", twice.wrong, units.join(" and ")), ..twice },
+        false => twice,
+    }
+}
+
+fn first(words: &str) -> &str {
+    words.split(' ').next().unwrap_or_default()
+}
+
 /// The column that a header's cell is likely meant for: the one with the same first word.
 fn meant(name: &str, form: &Form) -> Option<usize> {
-    let first = |words: &str| words.split(' ').next().map(String::from);
     form.columns.iter().position(|column| first(column.title) == first(name))
 }
 
-/// A name that is no column's: what is wrong, and the column that it is likely meant for.
-fn unknown(name: &str, cell: &str, form: &Form) -> (String, Option<usize>) {
-    let meant = meant(name, form);
+/// Whether a word is nearly a column's own: several of it, or a longer word that ends so, as `losses` or `headloss` for `loss`.
+fn is_akin(word: &str, own: &str) -> bool {
+    word.ends_with(own) || word.strip_prefix(own).is_some_and(|end| ["s", "es"].contains(&end))
+}
+
+/// The column that a name is nearly the name of.
+fn akin_to(name: &str, form: &Form) -> Option<usize> {
+    form.columns.iter().position(|column| name.split(' ').any(|word| is_akin(word, first(column.title))))
+}
+
+/// What stands in a name behind the word of its column.
+fn behind<'a>(name: &'a str, column: &Column) -> &'a str {
+    let words = name.split(' ').find(|word| is_akin(word, first(column.title))).unwrap_or_default();
+    name.split_once(words).map_or("", |(_, behind)| behind.trim_start())
+}
+
+/// Words of units in which pressures are given, in small letters.
+const PRESSURES: [&str; 17] = [
+    "pa", "hpa", "kpa", "mpa", "bar", "mbar", "atm", "psi", "wc", "mwc", "ws", "mws", "h2o", "mh2o", "кпа", "бар",
+    "вод",
+];
+
+/// What a pressure is as a head of water, at 1000 kg/m3 and 9.81 m/s2, rounded up: a loss may be stated greater, never less.
+const AS_HEADS: &str = "1 bar = 1020 cm, 1 kPa = 10.2 cm, 1 m of water = 1 m";
+
+/// What is wrong with a name that is no column's, but is likely meant for this one.
+fn unknown(name: &str, cell: &str, form: &Form, meant: Option<usize>) -> String {
     let wrong = format!("`{cell}` is no column of a {}", form.what);
-    let wrong = match meant.map(|column| &form.columns[column]) {
-        None => wrong,
-        Some(column) if column.unit.is_empty() => format!("{wrong}; `{}` is", column.title),
-        Some(column) if name == column.name() => format!("{wrong}: its unit, {}, is missing", column.units()),
-        Some(column) => format!("{wrong}: the {} is in {}", column.name(), column.units()),
+    let Some(column) = meant.map(|column| &form.columns[column]) else { return wrong };
+    let (unit, pressure) = (behind(name, column), |word: &str| PRESSURES.contains(&word.replace('.', "").as_str()));
+    let in_its_unit = column.forms().find(|column| column.unit == unit);
+    let units = format!("{wrong}: the {} is in {}", column.name(), column.units());
+    match in_its_unit {
+        _ if column.unit.is_empty() => format!("{wrong}; `{}` is", column.title),
+        _ if name == column.name() => format!("{wrong}: its unit, {}, is missing", column.units()),
+        Some(own) => format!("{wrong}; `{}` is", own.title),
+        None if unit.is_empty() => format!("{wrong}; `{}` is", column.title),
+        None if column.unit == "cm" && unit.split(' ').any(pressure) => format!("{units}; {AS_HEADS}"),
+        None => units,
+    }
+}
+
+/// What is wrong with a header that has none of the separators: something else parts its columns.
+fn parted_otherwise(line: &Cells, form: &Form) -> Option<String> {
+    let [cell] = &line.cells[..] else { return None };
+    let are_begun = |parted: char| {
+        let begins = |own: &str| cell.split(parted).any(|part| is_akin(first(&plain(part)), own));
+        form.columns.iter().all(|column| begins(first(column.title)))
     };
-    (wrong, meant)
+    let known = |c: char| SEPARATORS.iter().any(|(known, _)| *known == c);
+    let signs = cell.chars().filter(|c| !c.is_alphanumeric() && !c.is_whitespace() && !known(*c));
+    let sign = signs.into_iter().find(|sign| are_begun(*sign)).map(|sign| format!("`{sign}` does"));
+    let found = sign.or_else(|| are_begun(' ').then(|| "blanks do".to_string()))?;
+    Some(format!("{found} not part the columns; commas, semicolons or tabs do"))
+}
+
+/// Whether a line that is no header of the form is nearly one: it has no digit, which a row has, one of its words is nearly the
+/// word of the column `of`, and it has other cells, or the word of another column too.
+pub fn is_nearly(line: &str, form: &Form, of: &str) -> bool {
+    let small = line.to_lowercase();
+    let words: Vec<&str> = small.split(|c: char| !c.is_alphanumeric()).collect();
+    let has = |own: &str| words.iter().any(|word| is_akin(word, own));
+    let mut others = form.columns.iter().map(|column| first(column.title)).filter(|own| *own != of);
+    let parted = small.contains(|c: char| c == '|' || SEPARATORS.iter().any(|(known, _)| *known == c));
+    !small.contains(|c: char| c.is_ascii_digit()) && has(of) && (parted || others.any(has))
 }

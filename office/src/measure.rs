@@ -15,7 +15,22 @@ pub struct Measure {
     pub taken: &'static str,
     /// A plausible value for a message.
     pub example: i64,
+    pub manner: Manner,
 }
+
+/// How the numbers of a column are written, for messages. Those of a house have their units beside them.
+#[derive(Clone, Copy)]
+pub struct Manner {
+    /// How many decimals one may have; empty where none are kept or the count of what is kept says it.
+    pub decimals: &'static str,
+    /// One with its power of ten written out; empty where there is none to show.
+    pub power: &'static str,
+    /// Whether the next greater may stand for one that is finer than the record keeps: more loss may be stated than there is,
+    /// never less.
+    pub upward: bool,
+}
+
+const PLAIN: Manner = Manner { decimals: "", power: "", upward: false };
 
 /// A quantity as help lists it.
 pub struct Quantity {
@@ -37,12 +52,12 @@ const NONE: &[(&str, u32)] = &[("", 0)];
 
 /// Heads and losses: two bytes, cm.
 const fn head(taken: &'static str, example: i64) -> Measure {
-    Measure { units: CENTIMETRES, counts: "cm", least: 0, most: 65_535, taken, example }
+    Measure { units: CENTIMETRES, counts: "cm", least: 0, most: 65_535, taken, example, manner: PLAIN }
 }
 
 /// A number without a unit.
 const fn bare(counts: &'static str, most: i64, taken: &'static str, example: i64) -> Measure {
-    Measure { units: NONE, counts, least: 0, most, taken, example }
+    Measure { units: NONE, counts, least: 0, most, taken, example, manner: PLAIN }
 }
 
 pub const METER: Measure = head("0 to 1000 cm", 50);
@@ -59,6 +74,7 @@ pub const LENGTH: Measure = Measure {
     most: 65_535,
     taken: "0.1 to 500.0 m",
     example: 125,
+    manner: PLAIN,
 };
 /// Velocities: two bytes, mm/s.
 pub const VELOCITY: Measure = Measure {
@@ -68,10 +84,10 @@ pub const VELOCITY: Measure = Measure {
     most: 65_535,
     taken: "1 to 3000 mm/s",
     example: 1_500,
+    manner: PLAIN,
 };
 /// Local losses: one byte, tenths.
-pub const TENTHS: Measure =
-    Measure { units: &[("", 1)], counts: "tenths", least: 0, most: 255, taken: "0.2 or 0.3", example: 3 };
+pub const TENTHS: Measure = Measure { units: &[("", 1)], ..bare("tenths", 255, "0.2 or 0.3", 3) };
 pub const HOURS: Measure = bare("", 255, "1 to 24", 24);
 /// A section's own number.
 pub const SECTION: Measure = bare("", 255, "1 to 63", 1);
@@ -86,6 +102,7 @@ pub const BYTES: Measure = Measure {
     most: 4_294_967_295,
     taken: "the record's own length",
     example: 50,
+    manner: PLAIN,
 };
 
 // The columns of a table; their units stand in its header.
@@ -108,6 +125,7 @@ pub const RESISTANCE: Measure = Measure {
     most: 65_535,
     taken: "0.0001 to 6.5535",
     example: 5_000,
+    manner: Manner { decimals: "with at most 4 decimals", power: "0.0081 for 8.1E-3", upward: true },
 };
 pub const SERVICE: Measure = bare("l/h", 65_535, "1 to 65535", 6_400);
 
@@ -115,9 +133,19 @@ pub const SERVICE: Measure = bare("l/h", 65_535, "1 to 65535", 6_400);
 /// The section that a loss is of, which no bytes hold: what is no section's number is told by the list.
 pub const OF_SECTION: Measure = bare("", i64::MAX, "1 to 63", 1);
 /// A section's loss: four bytes, cm.
-pub const LOSS: Measure = bare("cm", 4_294_967_295, "0 to 4259775", 71);
-/// The same written in m.
-pub const LOSS_IN_METRES: Measure = Measure { units: &[("", 2)], taken: "0.00 to 42597.75 m", ..LOSS };
+pub const LOSS: Measure = Measure {
+    manner: Manner { decimals: "", power: "71 for 7.1E1", upward: true },
+    ..bare("cm", 4_294_967_295, "0 to 4259775", 71)
+};
+/// The same written in m. A message that spoke of whole cm would ask for 4 where 0.04 is meant.
+pub const LOSS_IN_METRES: Measure = Measure {
+    units: &[("", 2)],
+    counts: "",
+    taken: "0.00 to 42597.75 m",
+    example: 4,
+    manner: Manner { decimals: "with at most two decimals, as 0.04", power: "0.04 for 4E-2", upward: true },
+    ..LOSS
+};
 
 /// Units in Cyrillic letters and the ones they are.
 const CYRILLIC: [(&str, &str); 9] = [
@@ -200,7 +228,7 @@ impl Measure {
 
     /// A number of this quantity in a unit with this power, within what the bytes hold.
     pub fn number(&self, text: &str, power: u32) -> Result<i64, Fault> {
-        if self.least == 0 && text.starts_with(['+', '-']) && !text.contains(',') {
+        if self.least == 0 && text.len() > 1 && text.starts_with(['+', '-']) && !text.contains(',') {
             return Err(Fault::Sign);
         }
         whole(text, power)
@@ -209,11 +237,26 @@ impl Measure {
     /// The numbers that are taken, for a message: whole ones of what the record counts, or so many decimals.
     pub fn whole(&self) -> String {
         let (counts, taken) = (self.counts, self.taken);
-        match self.decimals() {
-            0 if counts.is_empty() => format!("a whole number, {taken}"),
-            kept if counts.is_empty() => format!("{taken}, with at most {kept} decimals"),
-            _ => format!("a whole number of {counts}, {taken}"),
+        match self.manner.decimals {
+            "" if counts.is_empty() => format!("a whole number, {taken}"),
+            "" => format!("a whole number of {counts}, {taken}"),
+            decimals => format!("{taken}, {decimals}"),
         }
+    }
+
+    /// The next number that the record keeps, in words, where it may stand for one that is finer.
+    fn no_less(&self, text: &str, power: u32) -> String {
+        let above = self.above(text, power).filter(|_| self.manner.upward);
+        let above = above.map(|above| format!("{} {}", self.show(above), self.counts));
+        above.map_or(String::new(), |above| format!("; {} is the next that states no less loss", above.trim_end()))
+    }
+
+    /// The next number that the record keeps above one that is finer.
+    fn above(&self, text: &str, power: u32) -> Option<i64> {
+        let (whole, part) = text.split_once('.')?;
+        let kept = part.get(..power as usize).filter(|_| part.trim_end_matches('0').len() > power as usize)?;
+        let below = if power == 0 { whole.to_string() } else { format!("{whole}.{kept}") };
+        self.number(&below, power).ok().map(|below| below + 1).filter(|above| self.holds(*above))
     }
 
     pub fn holds(&self, value: i64) -> bool {
@@ -228,6 +271,7 @@ impl Measure {
         let front = text.split('.').next().unwrap_or("");
         let short = if text.contains('.') { text.trim_end_matches('0').trim_end_matches('.') } else { text };
         let thousands = behind.len() == 3 && begins_a_thousand(front);
+        let (no_less, than) = (self.no_less(text, power), format!("loss than {short}"));
         match fault {
             Fault::NoNumber => (format!("`{text}` is no number for `{what}`"), example.to_string()),
             Fault::Comma if power == 0 => {
@@ -240,7 +284,7 @@ impl Measure {
             Fault::Sign => (format!("`{text}` for `{what}` has a sign"), format!("the number alone, {}", self.taken)),
             Fault::Thousands => (
                 format!("`{text}` for `{what}` may be {short} or {joined}"),
-                "fewer decimals, and nothing between thousands".to_string(),
+                "fewer decimals, and nothing between thousands".to_string() + &no_less.replace("loss", &than),
             ),
             Fault::Decimals => (
                 format!("`{text}` for `{what}` has more decimals than the record keeps"),
@@ -253,8 +297,9 @@ impl Measure {
             Fault::Point if behind.bytes().all(|b| b == b'0') => {
                 (format!("`{text}` for `{what}` has a point"), format!("{whole}; write {front} if that is meant"))
             }
-            Fault::Point => (format!("`{text}` for `{what}` is finer than the record keeps"), whole),
-            Fault::TooFine => (format!("`{text}` for `{what}` is finer than the record keeps"), whole),
+            Fault::Point | Fault::TooFine => {
+                (format!("`{text}` for `{what}` is finer than the record keeps"), whole + &no_less)
+            }
             Fault::TooLong => (format!("`{text}` for `{what}` has too many digits"), self.taken.to_string()),
         }
     }

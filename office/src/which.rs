@@ -1,5 +1,8 @@
 //! Which of the readable files a text is, told by its first line.
 
+use crate::cells::{self, Cells, SEPARATORS};
+use crate::header;
+use crate::readable::{self, OF_A_HOUSE, TextLine};
 use crate::{losses, meters, table};
 
 #[derive(Clone, Copy, Debug, PartialEq, Eq)]
@@ -15,7 +18,8 @@ pub enum Which {
 
 impl Which {
     pub fn of(text: &str) -> Which {
-        match (meters::is_list(text), losses::is_list(text), table::is_table(text)) {
+        let losses = losses::is_list(text) || is_nearly_losses(text);
+        match (meters::is_list(text), losses, table::is_table(text)) {
             (true, _, _) => Which::Meters,
             (false, true, _) => Which::Losses,
             (false, false, true) => Which::Table,
@@ -32,4 +36,22 @@ impl Which {
             Which::Losses => "a list of losses",
         }
     }
+}
+
+/// Whether a text is no house and no table, and its first line is nearly the header of a list of losses. None of these can be
+/// packed; as a list its header's mistakes are told, and not that its lines begin no line of a house.
+fn is_nearly_losses(text: &str) -> bool {
+    let Some(line) = cells::first_line(text) else { return false };
+    let begins = |line: &TextLine, word: &str| line.content.trim_start().to_lowercase().starts_with(word);
+    let of_a_house = |line: &TextLine| OF_A_HOUSE.iter().any(|word| begins(line, word));
+    // A section's line in a house has its number.
+    let first = of_a_house(&line) && !begins(&line, "section");
+    let parted = SEPARATORS.iter().map(|(separator, _)| Cells::of(&line, *separator));
+    let other = parted
+        .map(|line| header::likeness(&line, &table::FORM) + header::likeness(&line, &meters::FORM))
+        .sum::<usize>();
+    header::is_nearly(line.content, &losses::FORM, "loss")
+        && other == 0
+        && !first
+        && !readable::lines(text).filter(|own| own.number > line.number).any(|line| of_a_house(&line))
 }

@@ -6,6 +6,7 @@ mod json;
 mod run;
 
 use json::Value;
+use office::record::Record;
 use office::{Refusal, calls, house, kinds, losses, meters, table};
 use run::{Ran, office, office_with, read, scratch};
 
@@ -82,6 +83,7 @@ fn the_help_on_files_has_every_field() {
         let wanted = unfolded(&format!("{} {} {}", quantity.name, quantity.taken, quantity.units));
         assert!(text.lines().any(|line| unfolded(line) == wanted), "{wanted}");
     }
+    assert!(text.lines().any(|line| unfolded(line) == "loss m 0.00 to 42597.75 m"), "the other unit of a loss: {text}");
 }
 
 #[test]
@@ -124,6 +126,76 @@ fn the_list_begins_with_what_an_installer_does_first() {
     answered(&["new", "house", "-o", &files[0]]);
     answered(&["new", "table", "-o", &files[1]]);
     assert!(answered(&["choose", &files[0], &files[1]]).starts_with("pump set: "));
+}
+
+/// The gauges' example is of the house to start from: section 3 rises from 380 to 680 cm, and its loss stands in the list.
+#[test]
+fn the_example_of_gauges_is_worked_out() {
+    let (house, list) = (answered(&["new", "house"]), answered(&["new", "losses"]));
+    let record = Record::read(&house::pack(&house).expect("a house")).expect("a record");
+    let flow = calls::flow(&record.bytes()).expect("accepted").flows[2];
+    let rise = record.sections[2].elevation - record.sections[1].elevation;
+    let measured = 1_613 - 1_270 - u32::try_from(rise).expect("it rises");
+    let hundredths = (measured * flow * flow * 100).div_ceil(300 * 300);
+    let loss = (measured * flow * flow).div_ceil(300 * 300);
+    assert_eq!((record.sections[2].parent, rise, measured, hundredths, loss), (2, 300, 43, 11_707, 118));
+    assert!(list.contains(&format!("\n3,{loss},measured\n")), "{list}");
+    let figures =
+        ["1613 cm", "1270 cm", "343 cm", "300 cm", "43 cm", "300 ml/s", "495 ml/s", "(495 / 300)", "117.07", "118"];
+    let rules = [
+        "the difference of their readings less the height by which the section's end lies above its beginning, or plus it where \
+         the end lies lower",
+        "(design flow / measured flow)",
+        "rounded up to a whole cm",
+    ];
+    let page = read("docs/FILES.md");
+    for text in [plain(&list), unfolded(&answered(&["help", "heads"])), unfolded(&page)] {
+        for words in figures.iter().chain(&rules) {
+            assert!(text.contains(words), "{words}: {text}");
+        }
+        assert!(flow == 495 && text.contains("the square of the flow"), "{text}");
+    }
+    assert!(unfolded(&read("docs/COMMAND.md")).contains(rules[0]));
+    assert!(list.contains("of `office new house`"), "{list}");
+}
+
+/// What the help and the page say of a drawing in work.
+#[test]
+fn a_drawing_in_work_has_losses_without_heights_and_heads() {
+    let (table, blank) = (scratch("drawing-table.csv"), scratch("drawing-house.txt"));
+    std::fs::write(&table, answered(&["new", "table"])).expect("written");
+    let house = answered(&["new", "house"]);
+    let losses = |house: &str, sizes: &str| {
+        std::fs::write(&blank, house).expect("written");
+        office(&["losses", &blank, &table, sizes])
+    };
+    let mut nothing = Record::read(&house::pack(&house).expect("a house")).expect("a record");
+    (nothing.meter, nothing.guaranteed, nothing.delivered) = (0, 0, 0);
+    nothing.sections.iter_mut().for_each(|section| (section.elevation, section.free) = (0, 0));
+    let mut dead_end = nothing.clone();
+    (dead_end.sections[3].kind, dead_end.sections[3].fixtures) = (0, 0);
+    let [nothing, dead_end] = [nothing, dead_end].map(|record| house::show(&record.bytes()).expect("a house"));
+    let (whole, without) = (losses(&house, "2,2,1,1"), losses(&nothing, "2,2,1,1"));
+    assert_eq!((whole.status, without.status, without.error.as_str()), (0, 0, ""));
+    assert_eq!(whole.text(), without.text());
+    assert!(losses(&dead_end, "2,2,1,1").text().starts_with("refused 6: "), "{dead_end}");
+    let small = losses(&nothing, "1,2,1,1").text();
+    assert!(small.starts_with("refused 13: ") && !small.contains("velocity  loss"), "{small}");
+    let help = unfolded(&answered(&["help", "losses"]));
+    let said = "Elevations, free heads, guaranteed and delivered head and meter loss play no part";
+    assert!(help.contains(&format!("{said}, so 0 may stand for what is not known yet.")), "{help}");
+    assert!(help.contains("needs its fixtures all the same (refusal 6)") && help.contains("(13) leaves no table"));
+    assert!(
+        read("docs/COMMAND.md")
+            .contains(&format!("{said} in `losses`, so that 0 may stand for what is not known yet."))
+    );
+    // Its pipe works with the files to start from.
+    let pipe = help
+        .split("--json | office heads house.txt -")
+        .next()
+        .and_then(|front| front.split(' ').rev().nth(1))
+        .expect("sizes");
+    assert_eq!(losses(&house, pipe).status, 0, "{pipe}");
 }
 
 /// A line of the glossary: what it says of a word.
@@ -178,6 +250,7 @@ fn the_help_says_what_is_so_of_blanks_units_and_files() {
     let refused = office_with(&["meter", "-", "examples/meters.csv"], over.as_bytes());
     assert!(refused.status == 1 && refused.text().starts_with("refused 3: "), "{}", refused.text());
     assert!(meter.contains("with -o - the words stand on standard error, so that a pipe gets an answer or nothing"));
+    assert!(answered(&["help", "choose"]).contains("`sizes` can be given to `rate`, `losses` and `draw`."));
     let draw = unfolded(&answered(&["help", "draw"]));
     assert!(draw.contains("`draw` with refusal 16, do their work and write the file all the same"), "{draw}");
 }

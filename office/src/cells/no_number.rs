@@ -1,27 +1,51 @@
 //! Cells that are no plain number although one stands in them: why, and what to write.
 
-/// What is in the way of a cell's number, and what to write; none where there is no telling.
-pub fn remark(text: &str) -> Option<(&'static str, String)> {
+use crate::measure::latin;
+
+/// What is in the way of a cell's number, and what to write instead; none where there is no telling.
+#[derive(Debug, Default, PartialEq, Eq)]
+pub struct Remark {
+    pub why: Option<&'static str>,
+    pub written: Option<String>,
+}
+
+/// What is in the way of a cell's number; `power` shows one with its power of ten written out, if there is one to show.
+pub fn remark(text: &str, power: &str) -> Remark {
     let end = text.find(|c: char| !c.is_ascii_digit() && c != '.').unwrap_or(text.len());
     let (number, behind) = text.split_at(end);
     let bare = |text: &str| text.chars().filter(|c| !c.is_whitespace()).collect::<String>();
     let joined = bare(text);
-    if number.is_empty() || behind.is_empty() {
-        None
+    let told = |why: &'static str, written: String| Remark { why: Some(why), written: Some(written) };
+    if number.is_empty() {
+        Remark::default()
+    } else if behind.is_empty() {
+        Remark { why: of_points(number), written: None }
     } else if joined.chars().all(|c| c.is_ascii_digit() || c == '.') {
-        Some(("a blank stands in it", format!("nothing between digits; write {joined} if that is meant")))
+        told("a blank stands in it", format!("nothing between digits; write {joined} if that is meant"))
     } else if is_power(&bare(behind)) {
-        Some(("it has a power of ten", "the number written out, as 0.0081 for 8.1E-3".to_string()))
+        let shown = if power.is_empty() { String::new() } else { format!(", as {power}") };
+        told("it has a power of ten", format!("the number written out{shown}"))
     } else if behind.starts_with(char::is_whitespace) || is_word(behind) {
-        Some(("more than the number stands in it", "the number alone; its unit stands in the header".to_string()))
+        told("more than the number stands in it", "the number alone; its unit stands in the header".to_string())
     } else {
-        None
+        let fraction = bare(behind).starts_with('/');
+        Remark { why: fraction.then_some("a fraction stands in it"), written: None }
     }
 }
 
-/// Whether a unit may be glued to the number. A single letter is rather a digit that was mistyped.
+/// What is wrong with the points among digits.
+fn of_points(number: &str) -> Option<&'static str> {
+    match (number.matches('.').count(), number.starts_with('.'), number.ends_with('.')) {
+        (1, true, false) => Some("no digit stands before its point"),
+        (1, false, true) => Some("no digit stands behind its point"),
+        (2.., _, _) => Some("it has more than one point, and nothing stands between thousands"),
+        _ => None,
+    }
+}
+
+/// Whether a unit may be glued to the number. A single letter is rather a digit that was mistyped, unless it is the metre's.
 fn is_word(behind: &str) -> bool {
-    behind.starts_with(char::is_alphabetic) && behind.chars().count() > 1
+    behind.starts_with(char::is_alphabetic) && (behind.chars().count() > 1 || latin(behind) == "m")
 }
 
 /// Whether what stands behind a number is a power of ten: `e-3`, `·10-5`, `*10^3`.
@@ -52,12 +76,21 @@ mod tests {
             ("0.5 m/(l/s)2", "more than"),
             ("6400l/h", "more than"),
             ("900 ₽", "more than"),
+            ("0.71m", "more than"),
+            ("0.71м", "more than"),
+            ("1/2", "a fraction"),
+            (".5", "no digit stands before"),
+            ("7.", "no digit stands behind"),
+            ("1.2.3", "more than one point"),
         ] {
-            let (found, _) = remark(text).expect(text);
+            let found = remark(text, "").why.expect(text);
             assert!(found.contains(why), "{text}: {found}");
         }
-        for text in ["", "4o", "forty", ".", "7.", ".5", "1.2.3", "5-6", "-", "e3", "\"13"] {
-            assert_eq!(remark(text), None, "{text}");
+        for text in ["", "4o", "forty", ".", "5-6", "-", "e3", "\"13"] {
+            assert_eq!(remark(text, ""), Remark::default(), "{text}");
         }
+        let written = |power: &str| remark("1e2", power).written;
+        assert_eq!(written("").as_deref(), Some("the number written out"));
+        assert_eq!(written("0.04 for 4E-2").as_deref(), Some("the number written out, as 0.04 for 4E-2"));
     }
 }

@@ -26,7 +26,8 @@ pub const COMMANDS: &[Command] = &[
         brief: "a readable house, table of sizes, list of meters or list of losses as a binary record",
         text: "\
 FILE is a readable house, table of sizes, list of meters or list of losses (`office help files`); which of them is told by its
-first line. The record goes to RECORD or to standard output. Mistakes are named with their lines, and then no record is written.
+first line. Of an answer with losses that was printed with --json the losses are packed. The record goes to RECORD or to standard
+output. Mistakes are named with their lines, and then no record is written.
 
 What can be written as bytes is written. If the library refuses the record, a warning on standard error says why and where,
 and the status is 1.
@@ -45,6 +46,9 @@ RECORD is a job record or a catalogue, told apart by their length, a list of met
 list of losses, told by a 0 as the first of each four bytes; also where the library refuses it. Packing what is shown gives the
 same bytes. If the library refuses the record, a warning on standard error says why and where, and the status is 1. Bytes that are
 neither 40 + 10 x S nor 7 + sizes x (4 + 8 x rows) long, nor 5 for each meter or 4 for each loss, can't be shown: status 2.
+
+Of what `losses`, `rate`, `choose` or `heads` has printed with --json, the losses are shown as a readable list, in which those
+that were measured can be put: office show answer.json -o losses.csv
 
 --json gives the fields by name.",
     },
@@ -128,8 +132,13 @@ JOB, CAT and SIZES as for `rate`, and the same figures. There are no heads, so t
 at one by one. A loss is that of the section's own pipe at its design flow, with its local losses, and not that of the whole way
 from the pump.
 
+Elevations, free heads, guaranteed and delivered head and meter loss play no part, so 0 may stand for what is not known yet. A
+pipe's last end needs its fixtures all the same (refusal 6), and one size that is too small (13) leaves no table: give that section
+a greater one for now.
+
 `heads` takes the answer's --json, and gives then what `rate` gives:
-office losses house.txt table.csv 3,2,1,1 --json | office heads house.txt -
+office losses house.txt table.csv 2,2,1,1 --json | office heads house.txt -
+`show` makes a readable list of it, in which losses that were measured can be put.
 
 `office help flow` explains the design flow, and `one tap of` behind it.
 
@@ -147,13 +156,25 @@ velocity_mm_per_s, loss_cm).",
 JOB is a readable house or a job record. LOSSES has a loss for each of its sections: a readable list (`office help files`), its
 record of 4 bytes for each section, or what `losses`, `rate`, `choose` or `heads` has printed with --json. A loss is that of the
 section's own pipe at its design flow, local losses too, in whole cm, 0 to 4259775; it is taken as given, from whomever it comes,
-and no table of sizes plays a part. The heads are worked out from the losses as `rate` does it, and `office help rate` explains
-them. How the required head comes about stands below the figures.
+and no table of sizes plays a part: `heads` looks at no velocity of a list. The heads are worked out from the losses as `rate` does
+it, and `office help rate` explains them. How the required head comes about stands below the figures.
 
-The losses of an answer come with what they were worked out from. Where a section has another flow or length or begins elsewhere
-in the house, or where the local losses are others, the answer was made for another house or before a change; there is none then
-(status 2), and the message names the first difference. A readable list and a record say nothing of the house but how many sections
-it has: look yourself that they are of this one. A loss of 0, or one greater than 100 cm and than its pipe is long, gets a warning.
+The loss between two gauges is the difference of their readings less the height by which the section's end lies above its
+beginning, or plus it where the end lies lower. Measured at another flow, a loss goes about with the square of the flow: loss at
+design flow = measured loss x (design flow / measured flow) squared, rounded up to a whole cm. As: readings of 1613 cm and 1270 cm
+differ by 343 cm; where the end lies 300 cm higher the loss is 43 cm; at 300 ml/s, with a design flow of 495 ml/s, it becomes
+43 x (495 / 300) squared = 117.07, so 118 cm.
+
+The losses of an answer come with what they were worked out from. Where the local losses are others, a section begins elsewhere in
+the house or has another length or flow, the answer was made for another house or before a change; where a velocity is over the
+house's limit, `rate` would refuse it. `heads` gives no answer then (status 2), and the message names the first difference. The
+answer's warnings are repeated, and count for --strict; a refusal that was handed on is shown with its places (status 1).
+
+A readable list and a record say nothing of the house but how many sections it has: check yourself that they are of this one. They,
+and answers of `heads`, get warnings: a loss of 0; one over 100 cm and more than the pipe's length; losses that look like running
+sums, since no section loses less than the one it hangs from; losses that look like readings of gauges, since every section that
+rises loses at least its rise. A fault that more than three sections share is one line with their count. Losses that `losses`,
+`rate` or `choose` worked out get none of these.
 
 `office help flow` explains the design flow, and `one tap of` behind it.
 
@@ -171,7 +192,7 @@ free_head_cm).",
         brief: CHOOSES,
         text: "\
 JOB is a readable house or a job record, CAT a readable table or a catalogue. The answer is a cheapest list of sizes that
-suits, rated; which of equally cheap lists comes is left free. Its line `sizes` can be given to `rate` and `draw`.
+suits, rated; which of equally cheap lists comes is left free. Its line `sizes` can be given to `rate`, `losses` and `draw`.
 `office help rate` explains the heads and the dictating section, `office help flow` the design flow and `one tap of` behind it.
 
 --json: as `rate`.",

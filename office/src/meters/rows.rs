@@ -6,7 +6,7 @@ use crate::cells::Cells;
 use crate::commas;
 use crate::echo;
 use crate::header::Columns;
-use crate::measure::{self, Fault};
+use crate::measure;
 use crate::meter::{self, Meter};
 use crate::mistake::{Mistake, Mistakes};
 
@@ -84,27 +84,15 @@ fn advised(row: &Cells, columns: &Columns, column: usize, advice: fn(&str) -> Op
     })
 }
 
-/// What to do about a resistance that the bytes don't hold. A list may state more loss than a meter has, never less.
+/// What to do about a resistance that the bytes don't hold.
 fn of_resistance(text: &str) -> Option<String> {
-    let (measure, kept) = (&measure::RESISTANCE, measure::RESISTANCE.decimals());
-    match measure.number(text, kept) {
-        Err(Fault::TooFine) => {
-            let (whole, part) = text.split_once('.')?;
-            let below = measure.number(&format!("{whole}.{}", part.get(..kept as usize)?), kept).ok()?;
-            let above = Some(below + 1).filter(|above| measure.holds(*above))?;
-            Some(format!("{} is the next that states no less loss", measure.show(above)))
-        }
-        Ok(value) if !measure.holds(value) => {
-            let own = measure.number(text, 0).ok().filter(|own| measure.holds(*own)).map(|own| measure.show(own));
-            Some(match own {
-                Some(own) => {
-                    format!("{text} ten-thousandths are {own}; or are resistance and service flow swapped?")
-                }
-                None => "a meter of more resistance can't be listed".to_string(),
-            })
-        }
-        _ => None,
-    }
+    let measure = &measure::RESISTANCE;
+    measure.number(text, measure.decimals()).ok().filter(|value| !measure.holds(*value))?;
+    let own = measure.number(text, 0).ok().filter(|own| measure.holds(*own)).map(|own| measure.show(own));
+    Some(match own {
+        Some(own) => format!("{text} ten-thousandths are {own}; or are resistance and service flow swapped?"),
+        None => "a meter of more resistance can't be listed".to_string(),
+    })
 }
 
 /// What to write for a service flow with a point, which is likely one in m3/h, and for one that the bytes don't hold.

@@ -44,10 +44,11 @@ fn of_meter(meter: &Meter) -> Vec<String> {
     faults.into_iter().filter(|(wrong, _)| *wrong).map(|(_, why)| why).collect()
 }
 
-/// A house or a table of pipes lent as the list: what else is wrong with it says nothing. The job was accepted, so the two files
-/// are not swapped.
+/// A house, a table of pipes or a list of losses lent as the list: what else is wrong with it says nothing. The job was accepted,
+/// so the two files are not swapped.
 fn another(list: &[u8]) -> Option<String> {
-    shape::stated(list).map(|what| format!("these bytes {what}; a list of meters is expected"))
+    let what = shape::stated(list).or_else(|| shape::of_losses(list))?;
+    Some(format!("these bytes {what}; a list of meters is expected"))
 }
 
 /// 18: for each meter the limits that it breaks, and what would do for the house.

@@ -80,6 +80,11 @@ pub fn stated(bytes: &[u8]) -> Option<&'static str> {
     }
 }
 
+/// What bytes are that are the record of a list of losses.
+pub fn of_losses(bytes: &[u8]) -> Option<&'static str> {
+    loss::is_list(bytes).then_some("are a list of losses")
+}
+
 /// How many bytes the last of equally long parts lacks, in words.
 pub fn missing(given: usize, each: usize) -> String {
     match each - given % each {
@@ -91,8 +96,8 @@ pub fn missing(given: usize, each: usize) -> String {
 /// A catalogue or a list of losses lent as a job: this place is named before the others. The layouts of a job and a catalogue never
 /// have the same length for the same counts, so it is no guess. Only where a job is lent as the catalogue are the two swapped.
 pub fn another(asked: &Asked) -> Option<Place> {
-    if loss::is_list(asked.job) && Record::read(asked.job).is_err() {
-        return Some(Place::new(At::Job, "these bytes are a list of losses; a job record is expected"));
+    if let Some(what) = of_losses(asked.job).filter(|_| Record::read(asked.job).is_err()) {
+        return Some(Place::new(At::Job, format!("these bytes {what}; a job record is expected")));
     }
     let table = Catalogue::read(asked.job).is_ok_and(|table| table.stated as usize == asked.job.len());
     let what = match Record::read(asked.cat).is_ok() {

@@ -1,12 +1,15 @@
 //! Refusals 10 and 11: the catalogue's shape, its sizes and rows.
 
-use super::Place;
+use super::{Place, shape};
 use crate::at::At;
 use crate::catalogue::{Catalogue, HEAD, Row, Size, length};
 use crate::record::Record;
 
 /// 10: length, version and counts.
 pub fn shape(cat: &[u8]) -> Vec<Place> {
+    if let Some(what) = shape::of_losses(cat).filter(|_| Catalogue::read(cat).is_err()) {
+        return vec![Place::new(At::Catalogue, format!("these bytes {what}; a catalogue is expected"))];
+    }
     let given = cat.len();
     if given < HEAD {
         let empty = if given == 0 { "the file is empty: " } else { "" };

@@ -23,7 +23,7 @@ pub const ROWS: &[Row] = &[
         plain: "The record of the house is not whole, or it is another file.",
         causes: &[
             "The record was cut off while it was copied or sent, or it was copied as text, which changes bytes.",
-            "Another file was given: a catalogue, or an empty one.",
+            "Another file was given: a catalogue, a list of losses, or an empty one.",
             "A readable house has a line `stated length`.",
         ],
         remedies: &[
@@ -151,7 +151,7 @@ pub const ROWS: &[Row] = &[
         plain: "The table of pipe sizes is not whole, is another file, or has too many or too few sizes or rows.",
         causes: &[
             "The table has more sizes or more rows than the library takes, or a size with a single row.",
-            "The catalogue was cut off while it was copied or sent, or a job was given in its place.",
+            "The catalogue was cut off while it was copied or sent, or a job or a list of losses was given in its place.",
             "A readable table has a line `stated length` or `version`.",
         ],
         remedies: &[
@@ -249,7 +249,7 @@ pub const ROWS: &[Row] = &[
                (turbine), and its resistance and its service flow are at least 1.",
         plain: "The list of meters is not whole, it has too many, or a meter has a figure that can't be right.",
         causes: &[
-            "Another file was given: a house or a table of pipes.",
+            "Another file was given: a house, a table of pipes or a list of losses.",
             "The list was cut off while it was copied or sent, or it holds the supplier's whole range.",
             "A resistance or a service flow was left out.",
         ],
