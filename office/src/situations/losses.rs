@@ -78,7 +78,8 @@ mod tests {
     /// Document 01's own case with this meter loss and guaranteed head, and of each section parent, elevation and free head;
     /// its 80 fixtures are at each section with a free head.
     fn job(meter: u16, guaranteed: u16, sections: &[(u8, i16, u16)]) -> Vec<u8> {
-        let mut job = vec![0, 0, 0, 40 + 10 * sections.len() as u8, 1, 3, sections.len() as u8, 24];
+        let mut job = (40 + 10 * sections.len() as u32).to_be_bytes().to_vec();
+        job.extend([1, 3, sections.len() as u8, 24]);
         [meter, guaranteed, 1_200, 1_500].iter().for_each(|field| job.extend(field.to_be_bytes()));
         job.extend([0; 12]);
         job.extend([0, 71]);
@@ -171,11 +172,7 @@ mod tests {
     fn long_rows() {
         let row = |count: u8| -> Vec<(u8, i16, u16)> { (0..count).map(|parent| (parent, 0, 1)).collect() };
         let ask = [Given63, GivenGreat];
-        let of = |count: u8, loss: &str| {
-            let mut job = job(0, 0, &row(count));
-            job[2..4].copy_from_slice(&(40 + 10 * u16::from(count)).to_be_bytes());
-            given(&loss.repeat(count.into()), job, ask)
-        };
+        let of = |count: u8, loss: &str| given(&loss.repeat(count.into()), job(0, 0, &row(count)), ask);
         assert_eq!(of(63, "00000000"), [1, 0]);
         assert_eq!(of(63, "0040ffbf"), [1, 1]);
         assert_eq!(of(62, "0040ffbf"), [0, 1]);
