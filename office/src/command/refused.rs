@@ -9,7 +9,7 @@ use office::loss;
 use office::meter;
 use office::places::{Asked, Place, places};
 use office::record::Record;
-use office::warnings::{off_length, off_service, off_velocity, warnings};
+use office::warnings::{off_losses, off_service, off_velocity, warnings};
 
 /// What the refused call was given.
 #[derive(Clone, Copy, Default)]
@@ -80,7 +80,7 @@ impl Given<'_> {
         // the losses come next: nobody has looked at them before.
         let mut found: Vec<Place> = meters.as_deref().map(off_service).unwrap_or_default();
         let losses = self.losses.and_then(|losses| loss::read(&losses.bytes).ok()).unwrap_or_default();
-        found.extend(record.iter().flat_map(|record| off_length(record, &losses)));
+        found.extend(record.iter().flat_map(|record| off_losses(record, &losses)));
         found.extend(record.iter().flat_map(warnings));
         found.extend(catalogue.as_ref().and_then(off_velocity));
         found
