@@ -112,6 +112,10 @@ fn warnings_of_an_answer_are_not_lost() {
             office(&[command, &answer]).error.starts_with(&why) && office(&[command, &answer, "--strict"]).status == 2
         );
     }
+}
+
+#[test]
+fn warnings_of_an_answer_are_said_once() {
     // What this run finds itself is said once: a pipe that is too steep.
     let steep =
         written("steep-answer.txt", put(&read(HOUSE), "length  3.3 m elevation  710", "length 0.3 m elevation 710"));
@@ -124,7 +128,7 @@ fn warnings_of_an_answer_are_not_lost() {
         ran.error
     );
     // An object that `--strict` left without an answer says so.
-    let none = office(&["losses", HOUSE, &table, SIZES, "--json", "--strict"]).output;
+    let none = office(&["losses", &steep, TABLE, SIZES, "--json", "--strict"]).output;
     let ran = office_with(&["heads", HOUSE, "-"], &none);
     assert!(
         ran.status == 2 && ran.error.contains("it has warnings of which `--strict` made a refusal"),
