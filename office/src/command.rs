@@ -10,6 +10,7 @@ mod input;
 mod json;
 mod keep;
 mod kinds;
+mod lent;
 mod losses;
 mod meter;
 mod network;

@@ -1,11 +1,14 @@
 //! What the library takes and what is still nearly always a slip of the pen. The library has no rule for it and judges
 //! alone; a warning stands beside its answer. There are few, so that they are read.
 
+mod losses;
+
 use crate::at::{At, Field};
 use crate::catalogue::{Catalogue, Row};
 use crate::meter::{self, Meter};
 use crate::places::Place;
 use crate::record::{Record, Section};
+pub use losses::off_losses;
 
 /// Lengths are kept in whole dm, so a pipe may be this many cm longer than it says.
 const ROUNDED: i64 = 9;
@@ -100,33 +103,6 @@ pub fn off_velocity(catalogue: &Catalogue) -> Option<Place> {
 fn of_flow(bore: u16, row: &Row) -> Option<u64> {
     let square = u64::from(bore) * u64::from(bore);
     (u64::from(row.flow) * 4_000 * 113).checked_div(355 * square)
-}
-
-/// A loss that a short pipe with a fitting in it may well have, in cm.
-const OF_A_FITTING: u32 = 100;
-
-/// The warnings of a list of losses for a house with as many sections: each loss that no pipe has, and each that is more than its
-/// pipe is long.
-pub fn off_length(record: &Record, losses: &[u32]) -> Vec<Place> {
-    if record.sections.len() != losses.len() {
-        return Vec::new();
-    }
-    let sections = record.sections.iter().zip(losses).zip(1..);
-    sections
-        .filter_map(|((section, loss), number)| Some(Place::new(At::Loss(number), why_loss(section, *loss)?)))
-        .collect()
-}
-
-fn why_loss(section: &Section, loss: u32) -> Option<String> {
-    let length = 10 * u32::from(section.length);
-    match loss {
-        0 => Some("0 cm, but water loses some head in every pipe; is it a loss that was left out?".to_string()),
-        loss if loss > length && loss > OF_A_FITTING => Some(format!(
-            "{loss} cm in a pipe that is {length} cm long; is the unit right, and is it the section's own loss and not that of the \
-             way from the pump?"
-        )),
-        _ => None,
-    }
 }
 
 /// What meters lose at their own service flow, in cm. Source document 001 has 158 to 161 for vane meters and 12 to 159 for turbine

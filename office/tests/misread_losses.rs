@@ -112,5 +112,5 @@ fn an_answer_is_no_list() {
     }
     // Behind a comment it is no answer.
     let ran = office_with(&["heads", OWN, "-"], b"# losses\n{\"schema\":1}\n");
-    assert!(ran.status == 2 && ran.error.contains("is no list of losses: its first line is not"), "{}", ran.error);
+    assert!(ran.status == 2 && ran.error.contains("JSON: text stands before its `{`; one object is"), "{}", ran.error);
 }

@@ -10,7 +10,7 @@ use office::at::{At, Field};
 use office::catalogue::Catalogue;
 use office::meter::{self, Meter};
 use office::record::Record;
-use office::warnings::{off_length, off_service, off_velocity, warnings};
+use office::warnings::{off_losses, off_service, off_velocity, warnings};
 use office::{calls, house, meters, table};
 use run::{office, office_with, read, scratch, top};
 
@@ -312,7 +312,7 @@ fn losses_that_no_pipe_has_are_warned_of() {
     let own = read("examples/own-case.txt");
     let warned = |length: &str, loss: u32| {
         let record = house::pack(&own.replace("length 10.0 m", length)).expect("a house");
-        let found = off_length(&Record::read(&record).expect("a record"), &[loss]);
+        let found = off_losses(&Record::read(&record).expect("a record"), &[loss]);
         assert!(found.iter().all(|place| place.at == At::Loss(1)));
         found.len()
     };
@@ -320,7 +320,7 @@ fn losses_that_no_pipe_has_are_warned_of() {
     assert_eq!([0, 1_001, 7_100].map(|loss| warned("length 10.0 m", loss)), [1; 3]);
     assert_eq!([99, 100, 101].map(|loss| warned("length 0.3 m", loss)), [0, 0, 1]);
     let record = Record::read(&house::pack(&own).expect("a house")).expect("a record");
-    assert_eq!(off_length(&record, &[0, 0]), [], "a list of another length is refused");
+    assert_eq!(off_losses(&record, &[0, 0]), [], "a list of another length is refused");
     let run = |list: &str, words: &[&str]| {
         office_with(&[&["heads", "examples/own-case.txt", "-"], words].concat(), list.as_bytes())
     };
@@ -370,4 +370,166 @@ fn every_meter_that_is_off_is_warned_of() {
         "{}",
         ran.error
     );
+}
+
+/// A house as they are built, and the sections' losses with its cheapest sizes; none where the library finds no sizes for it.
+struct Sized {
+    record: Record,
+    own: Vec<u32>,
+}
+
+impl Sized {
+    fn of(text: &str, cat: &[u8]) -> Option<Sized> {
+        let job = house::pack(text).expect(text);
+        let chosen = calls::choose(&job, cat).ok()?;
+        let own =
+            calls::losses(&job, cat, &chosen.sizes).expect("the library chose them").iter().map(|s| s.loss).collect();
+        Some(Sized { record: Record::read(&job).expect("a record"), own })
+    }
+
+    fn parent(&self, place: usize) -> Option<usize> {
+        usize::from(self.record.sections[place].parent).checked_sub(1)
+    }
+
+    fn rise(&self, place: usize) -> i64 {
+        let end = |place: usize| i64::from(self.record.sections[place].elevation);
+        end(place) - self.parent(place).map_or(0, end)
+    }
+
+    /// What somebody writes who adds up the way from the pump.
+    fn sums(&self) -> Vec<u32> {
+        (0..self.own.len())
+            .map(|end| std::iter::successors(Some(end), |place| self.parent(*place)).map(|place| self.own[place]).sum())
+            .collect()
+    }
+
+    /// What somebody writes who reads a gauge at both ends.
+    fn readings(&self) -> Vec<u32> {
+        (0..self.own.len()).map(|place| (i64::from(self.own[place]) + self.rise(place)).max(0) as u32).collect()
+    }
+
+    /// Sections no longer than the one they hang from, which is no longer than its own.
+    fn in_a_row(&self) -> usize {
+        let short = |place: usize| {
+            let length = |place: usize| self.record.sections[place].length;
+            self.parent(place).filter(|parent| length(place) <= length(*parent))
+        };
+        (0..self.own.len()).filter(|place| short(*place).and_then(short).is_some()).count()
+    }
+
+    /// Sections that rise by 50 cm or more and by half of their length.
+    fn risers(&self) -> usize {
+        let half = |place: &usize| 5 * i64::from(self.record.sections[*place].length);
+        (0..self.own.len()).filter(|place| self.rise(*place) >= half(place).max(50)).count()
+    }
+
+    /// Whether a list is taken for sums, and for gauge readings.
+    fn taken(&self, list: &[u32]) -> [bool; 2] {
+        let found = off_losses(&self.record, list);
+        ["no section loses less than the one it hangs from: ", "every section that rises loses at least its rise: "]
+            .map(|why| {
+                let count = found.iter().filter(|place| place.at == At::Losses && place.why.starts_with(why)).count();
+                assert!(count < 2);
+                count == 1
+            })
+    }
+}
+
+/// Risers on a cellar main, a main with branches, a row on one floor, any tree; lengths, storeys, taps and limits by the dice.
+fn any_house(turn: u64, dice: &mut impl FnMut(u64) -> u64) -> String {
+    // Parent, length in dm, elevation in cm.
+    let mut sections: Vec<(u64, u64, u64)> = vec![(0, 10 + dice(200), 60)];
+    let (storey, branches, levels) = (270 + 10 * dice(6), 1 + dice(6), 1 + dice(8));
+    for number in 2..=(1 + branches * levels).min(60) {
+        let first = (number - 2) % levels == 0;
+        let before = match turn % 4 {
+            0 | 1 if first => 1,
+            3 => 1 + dice(number - 1),
+            _ => number - 1,
+        };
+        let from = sections[before as usize - 1].2;
+        sections.push(match turn % 4 {
+            0 => (before, storey.div_ceil(10), from + storey),
+            1 => (before, 40 + dice(200), from + 100 * dice(4)),
+            2 => (before, 20 + dice(150), from + 10),
+            _ => (before, 34 + dice(150), from + dice(2) * 30 * dice(11)),
+        });
+    }
+    let (fixtures, high) = (1 + dice(10), sections.iter().map(|section| section.2).max().unwrap_or(0));
+    let mut text = format!(
+        "local losses 0.{}\nhours 24\nmeter loss 100 cm\nguaranteed head 500 cm\ndelivered head {} cm\n\
+         velocity limit {} mm/s\nresidents dwelling {}\n",
+        2 + dice(2),
+        (high + 600 + 300 * dice(10)).min(6_000),
+        600 + 300 * dice(6),
+        sections.len() as u64 * (1 + dice(3))
+    );
+    for ((from, length, height), number) in sections.iter().zip(1..) {
+        let from = if *from == 0 { "pump".to_string() } else { from.to_string() };
+        text.push_str(&format!(
+            "section {number} from {from} length {length} dm elevation {height} cm kind dwelling fixtures {fixtures} free 300 cm\n"
+        ));
+    }
+    text
+}
+
+/// Neither warning stands with own losses; each stands wherever the house has enough sections to tell.
+#[test]
+fn sums_and_gauge_readings_are_told_from_own_losses() {
+    let cat = table::pack(&read(TABLE)).expect("a table");
+    let mut state: u64 = 0x9e37_79b9_7f4a_7c15;
+    let mut dice = |of: u64| {
+        state ^= state << 13;
+        state ^= state >> 7;
+        state ^= state << 17;
+        (state >> 11) % of
+    };
+    let mut texts: Vec<String> = [HOUSE, "examples/attic.txt", "examples/mixed.txt"].map(read).to_vec();
+    texts.extend((0..800).map(|turn| any_house(turn, &mut dice)));
+    let (mut seen, mut summed, mut read_off) = (0, 0, 0);
+    for text in texts {
+        let Some(house) = Sized::of(&text, &cat) else { continue };
+        assert_eq!(house.taken(&house.own), [false; 2], "{:?}\n{text}", house.own);
+        let (sums, readings) = (house.in_a_row() >= 4, house.risers() >= 3);
+        assert!(house.taken(&house.sums())[0] == sums, "{text}");
+        assert!(house.taken(&house.readings())[1] == readings, "{text}");
+        (seen, summed, read_off) = (seen + 1, summed + usize::from(sums), read_off + usize::from(readings));
+    }
+    assert!(seen > 400 && summed > 150 && read_off > 150, "{seen} {summed} {read_off}");
+}
+
+/// The example's own list, as sums, as readings, and in cm under a header of m: one line for each fault.
+#[test]
+fn a_whole_list_that_is_off_has_few_lines() {
+    let run = |unit: &str, list: &[u32]| {
+        let rows: String = list.iter().zip(1..).map(|(loss, section)| format!("{section},{loss}\n")).collect();
+        office_with(&["heads", HOUSE, "-"], format!("section,loss {unit}\n{rows}").as_bytes())
+    };
+    let own = [133, 73, 51, 52, 28, 56, 64, 55, 31, 447, 59, 38];
+    assert_eq!(run("cm", &own).error, "");
+    let metres = run("m", &own).error;
+    let why = "warning: standard input line 2, loss of section 1: 13300 cm in a pipe that is 1850 cm long; is the unit right, is it \
+               the section's own loss and not that of the way from the pump, and is the height between its ends left out? The first \
+               of 12 sections with such a loss\n";
+    assert_eq!(metres, why);
+    assert_eq!(run("cm", &[0; 12]).error.lines().count(), 1);
+    assert!(
+        run("cm", &[0; 12]).error.contains("loss of section 1: 0 cm, but ")
+            && run("cm", &[0; 12]).error.contains("The first of 12 ")
+    );
+    // Three have a line each, four have one.
+    let three = [0, 0, 0, 52, 28, 56, 64, 55, 31, 447, 59, 38];
+    assert_eq!(run("cm", &three).error.lines().count(), 3);
+    assert_eq!(run("cm", &[0, 0, 0, 0, 28, 56, 64, 55, 31, 447, 59, 38]).error.lines().count(), 1);
+    let text = read(HOUSE);
+    let house =
+        Sized { record: Record::read(&house::pack(&text).expect("a house")).expect("a record"), own: own.to_vec() };
+    let sums = run("cm", &house.sums());
+    let why = "warning: standard input, list of losses: no section loses less than the one it hangs from: are these the losses of the \
+               way from the pump? each section's own is expected\n";
+    assert!(sums.status == 0 && sums.error.starts_with(why), "{}", sums.error);
+    let readings = run("cm", &house.readings()).error;
+    let why = "warning: standard input, list of losses: every section that rises loses at least its rise: were they read off two \
+               gauges? the height between them is no loss and comes off\n";
+    assert!(readings.contains(why), "{readings}");
 }

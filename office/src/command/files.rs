@@ -2,16 +2,18 @@
 
 use super::arguments::Arguments;
 use super::fields;
-use super::input::{self, ANSWER, Binary, Content, Reading, Source};
+use super::input::{self, Binary, Content, Reading, Source};
 use super::json::Json;
+use super::lent::Lent;
 use super::outcome::{Misuse, Outcome};
+use super::rating::bytes;
 use super::refused::Given;
 use super::report::{self, Fields};
 use office::at::Lines;
 use office::calls::MOST_SECTIONS;
-use office::loss::LOSS;
+use office::loss::{self, LOSS};
 use office::which::Which;
-use office::{Refusal, calls, house, losses, meters, table};
+use office::{Refusal, answer, calls, house, losses, meters, table};
 use std::io::IsTerminal;
 
 /// A readable file as a record's bytes, with the library's refusal beside it.
@@ -28,10 +30,9 @@ pub fn pack(arguments: &Arguments) -> Result<Outcome, Misuse> {
             let why = "it is the record of a list of meters; `office show` shows it";
             return Err(Misuse::Words(format!("{name} is no readable file: {why}")));
         }
-        Content::Answer(_) => {
-            return Err(Misuse::Words(format!("{name} is {ANSWER}; `office heads` takes the losses of one")));
-        }
+        Content::Answer(bytes) => return of_answer(arguments, file.printed(&bytes)?, Form::Record),
     };
+    file.is_no_object(&text)?;
     let which = Which::of(&text);
     let source = match which {
         Which::House => file.house(&text)?,
@@ -40,12 +41,44 @@ pub fn pack(arguments: &Arguments) -> Result<Outcome, Misuse> {
         Which::Losses => file.loss_list(&text)?,
     };
     to_a_terminal(arguments)?;
-    let fields = vec![
+    done(arguments, given(&source, which), which, packed(&source, which), source.bytes.clone())
+}
+
+/// The keys of a record.
+fn packed(source: &Source, which: Which) -> Fields {
+    vec![
         ("kind", Json::text(kind(which))),
         ("bytes", Json::Number(source.bytes.len() as i64)),
         ("record", Json::hex(&source.bytes)),
-    ];
-    done(arguments, &source, which, fields, source.bytes.clone())
+    ]
+}
+
+/// What the losses of an answer are wanted as.
+enum Form {
+    Record,
+    Text,
+}
+
+/// The losses of an answer as their record or as a readable list, which says where they come from.
+fn of_answer(arguments: &Arguments, lent: Lent, form: Form) -> Result<Outcome, Misuse> {
+    let list = match lent {
+        Lent::Losses(list) => list,
+        Lent::Refusal(handed) => return Ok(report::handed_on(arguments, &handed)),
+    };
+    let (source, given) = (&list.source, Given::of_losses(&list));
+    let command = list.answer.as_ref().map_or("", |answer| &answer.command);
+    match form {
+        Form::Record => {
+            to_a_terminal(arguments)?;
+            done(arguments, given, Which::Losses, packed(source, Which::Losses), source.bytes.clone())
+        }
+        Form::Text => {
+            let from = format!("# the losses of {}, an answer of `office {command}`\n", source.name);
+            let text = from + &losses::show(&source.bytes).unwrap_or_default();
+            let fields = shown(Which::Losses, fields::losses(&loss::read(&source.bytes).unwrap_or_default()));
+            done(arguments, given, Which::Losses, fields, text.into_bytes())
+        }
+    }
 }
 
 /// A record has no place on a terminal.
@@ -73,9 +106,13 @@ fn kind(which: Which) -> &'static str {
 pub fn show(arguments: &Arguments) -> Result<Outcome, Misuse> {
     let file = arguments.file(0);
     let name = file.name();
-    let source = Source { name: name.clone(), bytes: file.record()?, lines: Lines::default() };
+    let all = file.bytes()?;
+    if file.reading != Reading::Record && answer::is_answer(&all) {
+        return of_answer(arguments, file.printed(&all)?, Form::Text);
+    }
+    let source = Source { name: name.clone(), bytes: file.record_of(all)?, lines: Lines::default() };
     let bytes = &source.bytes;
-    let (text, mut fields, which) = match input::binary(bytes, file.reading == Reading::Record) {
+    let (text, fields, which) = match input::binary(bytes, file.reading == Reading::Record) {
         Binary::Job(record) => (house::show(bytes).unwrap_or_default(), fields::job(&record), Which::House),
         Binary::Catalogue(catalogue) => {
             (table::show(bytes).unwrap_or_default(), fields::catalogue(&catalogue), Which::Table)
@@ -84,23 +121,31 @@ pub fn show(arguments: &Arguments) -> Result<Outcome, Misuse> {
         Binary::Losses(list) => (losses::show(bytes).unwrap_or_default(), fields::losses(&list), Which::Losses),
         Binary::Neither(why) => return Err(Misuse::Words(format!("{name} can't be shown: {why}"))),
     };
-    fields.insert(0, ("kind", Json::text(kind(which))));
-    done(arguments, &source, which, fields, text.into_bytes())
+    done(arguments, given(&source, which), which, shown(which, fields), text.into_bytes())
+}
+
+/// The keys of a record that is shown.
+fn shown(which: Which, fields: Fields) -> Fields {
+    [vec![("kind", Json::text(kind(which)))], fields].into_iter().flatten().collect()
+}
+
+/// What the library is given of a file.
+fn given(source: &Source, which: Which) -> Given<'_> {
+    match which {
+        Which::House => Given { job: Some(source), ..Given::default() },
+        Which::Table => Given { cat: Some(source), ..Given::default() },
+        Which::Meters => Given { meters: Some(source), ..Given::default() },
+        Which::Losses => Given { losses: Some(source), ..Given::default() },
+    }
 }
 
 /// The work is done, whether the library takes the record or not.
-fn done(
-    arguments: &Arguments,
-    source: &Source,
-    which: Which,
-    fields: Fields,
-    words: Vec<u8>,
-) -> Result<Outcome, Misuse> {
-    let (given, refusal) = match which {
-        Which::House => (Given { job: Some(source), ..Given::default() }, calls::flow(&source.bytes).err()),
-        Which::Table => (Given { cat: Some(source), ..Given::default() }, catalogue_refusal(&source.bytes)),
-        Which::Meters => (Given { meters: Some(source), ..Given::default() }, meters_refusal(&source.bytes)),
-        Which::Losses => (Given { losses: Some(source), ..Given::default() }, losses_refusal(&source.bytes)),
+fn done(arguments: &Arguments, given: Given, which: Which, fields: Fields, words: Vec<u8>) -> Result<Outcome, Misuse> {
+    let refusal = match which {
+        Which::House => calls::flow(bytes(given.job)).err(),
+        Which::Table => catalogue_refusal(bytes(given.cat)),
+        Which::Meters => meters_refusal(bytes(given.meters)),
+        Which::Losses => losses_refusal(bytes(given.losses)),
     };
     match refusal {
         Some(refusal) => Ok(report::all_the_same(arguments, &given, &refusal, fields, words)),

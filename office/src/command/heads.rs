@@ -2,8 +2,8 @@
 
 use super::arguments::Arguments;
 use super::charts::figures;
-use super::input::Losses;
 use super::json::Json;
+use super::lent::{Lent, Losses};
 use super::network::{Demand, house_fields, house_figures, legend};
 use super::outcome::{Misuse, Outcome};
 use super::refused::Given;
@@ -16,19 +16,18 @@ use office::{Heads, calls, loss};
 
 pub fn heads(arguments: &Arguments) -> Result<Outcome, Misuse> {
     let job = arguments.file(0).job()?;
-    let list = arguments.file(1).losses()?;
-    let given = Given { job: Some(&job), losses: Some(&list.source), ..Given::default() };
+    let list = match arguments.file(1).losses()? {
+        Lent::Losses(list) => list,
+        Lent::Refusal(handed) => return Ok(report::handed_on(arguments, &handed)),
+    };
+    let given = Given { job: Some(&job), ..Given::of_losses(&list) };
     let found = calls::heads(&job.bytes, &list.source.bytes).map_err(Unanswered::Refused);
     let headed = match found.and_then(|heads| Headed::of(&job.bytes, &list.source.bytes, heads)) {
         Ok(headed) => headed,
         Err(why) => return report::unanswered(arguments, &why, &given),
     };
     if let Some(why) = headed.is_of_another_house(&list) {
-        return Err(Misuse::Words(format!(
-            "{} is not of this house: {why}; it was made for another house, or for this one before a change; `office losses` works \
-             the losses out again",
-            list.source.name
-        )));
+        return Err(Misuse::AnotherHouse(list.source.name, why));
     }
     report::answer(arguments, &given, || headed.fields(), || headed.chart().into_bytes())
 }

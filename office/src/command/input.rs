@@ -1,7 +1,8 @@
 //! Files as the command reads them: a readable file or a binary record, told apart by the first byte.
 
+use super::lent::LISTED;
 use super::outcome::{Misuse, word};
-use office::answer::{self, Answer};
+use office::answer;
 use office::at::Lines;
 use office::catalogue::Catalogue;
 use office::loss::{self, NoLosses};
@@ -56,12 +57,6 @@ pub struct Meters {
     pub names: Vec<String>,
 }
 
-/// A list of losses; one that the command has printed says what it was worked out from.
-pub struct Losses {
-    pub source: Source,
-    pub answer: Option<Answer>,
-}
-
 /// The bytes of a file, up to the limit; `-` is standard input.
 fn bytes(file: &OsStr) -> Result<Vec<u8>, Misuse> {
     let mut bytes = Vec::new();
@@ -110,7 +105,7 @@ impl File<'_> {
     }
 
     /// What the file is, where another was expected.
-    fn another(&self, found: Which, expected: Which) -> Misuse {
+    pub fn another(&self, found: Which, expected: Which) -> Misuse {
         self.is_instead(found.name(), expected)
     }
 
@@ -119,7 +114,7 @@ impl File<'_> {
     }
 
     /// A record as it is.
-    fn as_it_is(&self, bytes: Vec<u8>) -> Source {
+    pub fn as_it_is(&self, bytes: Vec<u8>) -> Source {
         Source { name: self.name(), bytes, lines: Lines::default() }
     }
 
@@ -134,8 +129,8 @@ impl File<'_> {
     }
 
     /// The bytes of a record for `show`, which has no use for a text.
-    pub fn record(&self) -> Result<Vec<u8>, Misuse> {
-        let (name, bytes) = (self.name(), self.bytes()?);
+    pub fn record_of(&self, bytes: Vec<u8>) -> Result<Vec<u8>, Misuse> {
+        let name = self.name();
         match bytes.first() {
             None => Err(Misuse::Words(format!("{name}: the file is empty"))),
             Some(_) if self.reading == Reading::Record || readable::is_record(&bytes) => Ok(bytes),
@@ -150,6 +145,7 @@ impl File<'_> {
                 "{name} is text in UTF-16 without its mark: saved as UTF-8, `office pack` packs it; `--record` shows it as a \
                  record all the same"
             ))),
+            Some(b'[') => Err(self.no_object(LISTED)),
             Some(first) => Err(Misuse::Words(format!(
                 "{name} is readable already, since its first byte is {first:02X} and a record's is 00, 01 or 02; `office \
                  pack` packs it, and `--record` shows a record that is damaged there"
@@ -227,7 +223,7 @@ impl File<'_> {
 
     /// Whether a text may be the list that is expected. One that is whole as something else is named as that, and one that begins
     /// as no list is told which header it lacks.
-    fn is_list(&self, text: &str, expected: Which, header: String) -> Result<(), Misuse> {
+    pub fn is_list(&self, text: &str, expected: Which, header: String) -> Result<(), Misuse> {
         let found = Which::of(text);
         let whole = match found {
             Which::House => house::read(text).is_ok(),
@@ -238,27 +234,6 @@ impl File<'_> {
             _ if whole => Err(self.another(found, expected)),
             Which::House if readable::lines(text).next().is_some() => Err(self.headless(expected, header)),
             _ => Ok(()),
-        }
-    }
-
-    /// A list of losses: a readable one is packed, a record is taken as it is, and so are the losses of an answer.
-    pub fn losses(&self) -> Result<Losses, Misuse> {
-        match self.content()? {
-            Content::Record(bytes) => Ok(Losses { source: self.as_it_is(bytes), answer: None }),
-            Content::Meters(_) => Err(self.another(Which::Meters, Which::Losses)),
-            Content::Answer(bytes) => {
-                let answer = answer::read(&bytes).map_err(|mistakes| Misuse::Mistakes(self.name(), mistakes))?;
-                Ok(Losses { source: self.as_it_is(loss::bytes(&answer.losses())), answer: Some(answer) })
-            }
-            Content::Text(text) => {
-                let header = losses::FORM.header(',');
-                if is_of_sizes(&text) {
-                    let why = "has nothing but numbers, as a list of sizes has; a list of losses has a header,";
-                    return Err(Misuse::Words(format!("{} {why} `{header}`", self.name())));
-                }
-                self.is_list(&text, Which::Losses, header)?;
-                Ok(Losses { source: self.loss_list(&text)?, answer: None })
-            }
         }
     }
 
@@ -348,7 +323,7 @@ pub fn binary(bytes: &[u8], forced: bool) -> Binary {
 }
 
 /// Whether a text has whole numbers between commas and blanks and nothing else, as a list of sizes has.
-fn is_of_sizes(text: &str) -> bool {
+pub fn is_of_sizes(text: &str) -> bool {
     let plain = |c: char| c.is_ascii_digit() || c == ',' || c.is_whitespace();
     text.chars().all(plain) && text.contains(|c: char| c.is_ascii_digit())
 }

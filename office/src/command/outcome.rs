@@ -9,6 +9,8 @@ pub enum Misuse {
     Words(String),
     /// Mistakes in a readable file, whose name is here.
     Mistakes(String, Mistakes),
+    /// Losses of another house: the name of their file, and how they differ.
+    AnotherHouse(String, String),
     /// Warnings that `--strict` makes a refusal, in words and as JSON.
     Strict(String, String),
 }
@@ -26,6 +28,10 @@ impl Misuse {
                 }
                 text
             }
+            Misuse::AnotherHouse(name, why) => format!(
+                "office: {name} is not of this house: {why}; it was made for another house, or for this one before a change; \
+                 `office losses` works the losses out again\n"
+            ),
             Misuse::Strict(warnings, _) => {
                 format!("{warnings}office: there is no answer, since --strict makes a warning a refusal\n")
             }

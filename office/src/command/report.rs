@@ -3,6 +3,7 @@
 use super::arguments::Arguments;
 use super::input::{behind_at, name};
 use super::json::Json;
+use super::lent::Handed;
 use super::outcome::{Misuse, Outcome};
 use super::refused::{self, Given};
 use office::Refusal;
@@ -85,6 +86,17 @@ pub fn refusal(arguments: &Arguments, refusal: &Refusal, given: &Given) -> Outco
     outcome.with(given.warned())
 }
 
+/// A refusal that a file has in place of losses, as it stands there.
+pub fn handed_on(arguments: &Arguments, handed: &Handed) -> Outcome {
+    let (words, warned) = (handed.words(), handed.warned());
+    let outcome = match arguments.json {
+        true => Outcome::refusal(object(arguments, handed.json(), handed.warned_json(), Vec::new())),
+        false if arguments.is_piped() => Outcome::refusal(String::new()).with(words),
+        false => Outcome::refusal(words),
+    };
+    outcome.with(warned)
+}
+
 /// Work that is done all the same where the library refuses: the refusal stands on standard error, or in the object.
 pub fn all_the_same(
     arguments: &Arguments,
@@ -104,14 +116,20 @@ pub fn all_the_same(
 /// What `--json` says where there is no answer: the mistakes of a text, or nothing.
 pub fn misuse(arguments: &Arguments, misuse: &Misuse) -> String {
     match misuse {
-        Misuse::Mistakes(name, mistakes) if arguments.json => {
-            let rest =
-                vec![("mistakes", listed(name, mistakes)), ("more_mistakes", Json::Number(mistakes.more as i64))];
-            object(arguments, Json::Null, Json::List(Vec::new()), rest)
+        Misuse::Mistakes(name, mistakes) if arguments.json => mistaken(arguments, name, mistakes),
+        Misuse::AnotherHouse(name, why) if arguments.json => {
+            let expected = "losses of this house as it is; `office losses` works them out again";
+            let mistake = Mistake::lacking(format!("it is not of this house: {why}"), expected);
+            mistaken(arguments, name, &mistake.into())
         }
         Misuse::Strict(_, json) => json.clone(),
         _ => String::new(),
     }
+}
+
+fn mistaken(arguments: &Arguments, name: &str, mistakes: &Mistakes) -> String {
+    let rest = vec![("mistakes", listed(name, mistakes)), ("more_mistakes", Json::Number(mistakes.more as i64))];
+    object(arguments, Json::Null, Json::List(Vec::new()), rest)
 }
 
 fn listed(name: &str, mistakes: &Mistakes) -> Json {
