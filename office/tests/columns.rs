@@ -124,7 +124,7 @@ fn a_nearly_right_header_is_told_its_word_or_its_sign() {
         ("section: loss cm", parts("`:` does")),
         ("section/loss cm", parts("`/` does")),
         ("section loss cm", parts("blanks do")),
-        ("section  from  kind  length  flow  loss", parts("blanks do")),
+        ("section  length  loss", parts("blanks do")),
         (
             "section,loss cm,loss m",
             vec!["the column `loss cm` is there twice: both units are there, cm and m".to_string()],

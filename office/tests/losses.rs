@@ -157,7 +157,7 @@ fn mistakes_name_their_line_and_what_is_wrong() {
             "0.73",
             "0.735",
             "`0.735` for `loss m` is finer than the record keeps",
-            "a whole number of cm, 0.00 to 42597.75 m",
+            "0.00 to 42597.75 m, with at most two decimals, as 0.04; 0.74 is the next that states no less loss",
         ),
         ("0.73", "1.735", "`1.735` for `loss m` may be 1.735 or 1735", "fewer decimals"),
         ("0.73", "42949672.96", "is 0.01 more than its bytes can hold", "0.00 to 42597.75 m"),
