@@ -10,7 +10,21 @@ ghost use lib.ListN.{length};
 ghost use Rattle.basis.specs.Slots.{tabulate, slots};
 ghost use Rattle.wire.specs.Wire.{byteAt};
 ghost use Rattle.fields.specs.Fields.{blankSection};
-ghost use Rattle.record.specs.Record.{lengthOf, headerAt, residentsAt, sectionAt, sectionFrom, decode};
+ghost use Rattle.record.specs.Record.{lengthOf, versionAt, serviceAt, headerAt, residentsAt, sectionAt, sectionFrom, decode};
+
+// The service: version 1 means total, and a record that ends before its service byte has none.
+fn service_of(b: &[u8]) -> u8
+    requires { ⌜ 40 ≤ length (now b) ⌝ }
+    ensures { λ r. ⌜ r ≡ serviceAt (now (b .entry)) ⌝ }
+{
+    if b[4] != 2 {
+        return 0;
+    }
+    if b.len() <= record::SERVICE {
+        return 0;
+    }
+    b[record::SERVICE]
+}
 
 // The head fields.
 pub fn header_of(b: &[u8]) -> Header
@@ -18,6 +32,8 @@ pub fn header_of(b: &[u8]) -> Header
     ensures { λ r. ⌜ r ≡ headerAt (now (b .entry)) ⌝ }
 {
     Header {
+        version: b[4],
+        service: service_of(b),
         tenths: b[5],
         sections: b[6],
         hours: b[7],
@@ -59,14 +75,15 @@ fn section_from(b: &[u8], at: usize) -> Section
 
 // Sections 1 to count; the other places are blank.
 fn sections_of(b: &[u8], count: usize) -> [Section; 64]
-    requires { ⌜ (count ≤ 63) × (lengthOf count ≤ length (now b)) ⌝ }
+    requires { ⌜ (count ≤ 63) × (lengthOf (versionAt (now b)) count ≤ length (now b)) ⌝ }
     ensures { λ r. ⌜ r ≡ slots 64 1 (count + 1) blankSection (sectionAt (now (b .entry))) ⌝ }
 {
+    let version = b[4];
     let blank = fields::blank_section();
     let mut sections = [blank; 64];
     let mut i: usize = 1;
     while i <= count {
-        sections[i] = section_from(b, place_of(i));
+        sections[i] = section_from(b, place_of(version, i));
         i += 1;
     }
     sections
@@ -74,7 +91,7 @@ fn sections_of(b: &[u8], count: usize) -> [Section; 64]
 
 // All fields.
 pub fn job_of(b: &[u8]) -> Job
-    requires { ⌜ (byteAt (now b) 6 ≤ 63) × (lengthOf (byteAt (now b) 6) ≤ length (now b)) ⌝ }
+    requires { ⌜ (byteAt (now b) 6 ≤ 63) × (lengthOf (versionAt (now b)) (byteAt (now b) 6) ≤ length (now b)) ⌝ }
     ensures { λ r. ⌜ r ≡ decode (now (b .entry)) ⌝ }
 {
     let head = header_of(b);

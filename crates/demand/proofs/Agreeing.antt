@@ -7,10 +7,10 @@ use native.Mathlib.Omega.{arith}
 use Rattle.basis.proofs.Sum.{sum-ext}
 use Rattle.basis.proofs.Split.{lt-or-ge}
 use Rattle.fields.specs.declared.Job.{Job}
-use Rattle.fields.specs.Fields.{residentsOf}
+use Rattle.fields.specs.Fields.{serviceOf, residentsOf}
 use Rattle.tree.specs.Tree.{houseOf}
 use Rattle.norms.specs.Norms.{normOf}
-use Rattle.demand.specs.Demand.{serviceOf, normAt, shareOf, mOf, fixtureSumOf, averageFlowOf, flowOf, fixturesOf}
+use Rattle.demand.specs.Demand.{normAt, shareOf, mOf, fixtureSumOf, averageFlowOf, flowOf, fixturesOf}
 use Rattle.demand.proofs.Equations.{share-is, m-is, fixture-is, average-is, flow-is}
 use Rattle.demand.proofs.Shares.{share-zero}
 use Rattle.demand.proofs.Taps.{one-tap-agree}

@@ -7,12 +7,12 @@ use lib.Dec.{eqb, ltb}
 use Rattle.basis.specs.Range.{sumTo, mostTo}
 use Rattle.basis.specs.Round.{up}
 use Rattle.fields.specs.declared.Job.{Job}
-use Rattle.fields.specs.Fields.{residentsOf}
+use Rattle.fields.specs.Fields.{serviceOf, residentsOf}
 use Rattle.tree.specs.Tree.{houseOf}
 use Rattle.coefficient.specs.Alpha.{alphaOf}
 use Rattle.norms.specs.declared.Norm.{Norm}
 use Rattle.norms.proofs.Bounds.{NormIn, norm-in}
-use Rattle.demand.specs.Demand.{serviceOf, normAt, shareOf, mOf, fixtureSumOf, averageFlowOf, tapOf, oneTapOf, flowOf, hourShareOf, hourSumOf, hourlySumOf, hourOf}
+use Rattle.demand.specs.Demand.{normAt, shareOf, mOf, fixtureSumOf, averageFlowOf, tapOf, oneTapOf, flowOf, hourShareOf, hourSumOf, hourlySumOf, hourOf}
 
 -- the share by a kind's norms, its residents, and its fixtures, n of the house's: rate × n / (base × house)
 abbrev pub rateBy : Norm → ℕ → ℕ

@@ -5,11 +5,11 @@ use Prim.Native.Nat.{ℕ, _*_, _≤_, _<_}
 use Rattle.basis.proofs.Sum.{sum-ext}
 use Rattle.basis.proofs.Each.{any-ext}
 use Rattle.fields.specs.declared.Job.{Job}
-use Rattle.fields.specs.Fields.{countOf, residentsOf}
+use Rattle.fields.specs.Fields.{serviceOf, countOf, residentsOf}
 use Rattle.tree.specs.Tree.{servedOf, houseOf}
 use Rattle.tree.proofs.Served.{house-same, served-same}
 use Rattle.norms.specs.Norms.{normOf}
-use Rattle.demand.specs.Demand.{serviceOf, normAt, shareOf, mOf, houseFlow, hourShareOf, hourSumOf, dayOf, meanOf, fixturesOf, overSum, overProbability, needsTableOne, demandChecks}
+use Rattle.demand.specs.Demand.{normAt, shareOf, mOf, houseFlow, hourShareOf, hourSumOf, dayOf, meanOf, fixturesOf, overSum, overProbability, needsTableOne, demandChecks}
 use Rattle.demand.proofs.Equations.{share-is, hour-share-is, hour-sum-is}
 use Rattle.demand.proofs.Agreeing.{m-agree, flow-agree}
 

@@ -9,8 +9,9 @@ use Rattle.basis.specs.Range.{mostTo}
 use Rattle.basis.proofs.Most.{Reached, most-bound, most-le, most-ext, most-reached}
 use Rattle.basis.proofs.Split.{lt-or-ge}
 use Rattle.fields.specs.declared.Job.{Job}
+use Rattle.fields.specs.Fields.{serviceOf}
 use Rattle.norms.specs.Norms.{normOf}
-use Rattle.demand.specs.Demand.{serviceOf, normAt, tapOf, oneTapOf}
+use Rattle.demand.specs.Demand.{normAt, tapOf, oneTapOf}
 use Rattle.demand.proofs.Equations.{norm-at, tap-is, one-tap-is}
 
 module _ (job : Job) (n : ℕ → ℕ) (kind : ℕ) where

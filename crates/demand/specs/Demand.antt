@@ -10,16 +10,12 @@ use Rattle.basis.specs.Range.{sumTo, mostTo, anyTo}
 use Rattle.basis.specs.Round.{up}
 use Rattle.answer.specs.Checks.{firstNo}
 use Rattle.fields.specs.declared.Job.{Job}
-use Rattle.fields.specs.Fields.{countOf, residentsOf}
+use Rattle.fields.specs.Fields.{serviceOf, countOf, residentsOf}
 use Rattle.tree.specs.Tree.{servedOf, houseOf}
 use Rattle.rules.specs.Rules.{headerOk, fieldChecks}
 use Rattle.coefficient.specs.Alpha.{alphaOf}
 use Rattle.norms.specs.declared.Norm.{Norm}
 use Rattle.norms.specs.Norms.{normOf}
-
--- the service of a job: total, until L4 gives it a field
-abbrev pub serviceOf : Job → ℕ
-serviceOf job = 0
 
 -- the norms of a kind for the job's service
 abbrev pub normAt : Job → ℕ → Norm

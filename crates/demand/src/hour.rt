@@ -21,11 +21,12 @@ pub fn hour_of(job: Job) -> u32
 pub fn day_of(job: Job) -> u32
     ensures { λ r. ⌜ r ≡ dayOf job ⌝ }
 {
+    let service = job.header.service;
     let mut day: u64 = 0;
     let mut kind: usize = 1;
     while kind <= 12 {
         let c = kind - 1;
-        let norm = norms::norm_of(kind);
+        let norm = norms::norm_of(service, kind);
         day = day + norm.day * long16(job.residents[c]);
         kind += 1;
     }

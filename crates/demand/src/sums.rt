@@ -26,17 +26,17 @@ pub struct HourSums {
     pub weighted: u64,
 }
 
-// A kind's share of n of its fixtures, of which the house has so many. Most sections serve few kinds, and without fixtures nothing is
+// A kind's share of n of its fixtures, of which the house has so many, for a service. Most sections serve few kinds, and without fixtures nothing is
 // divided. Everything is multiplied before it is divided.
-fn share(kind: usize, residents: u64, n: u64, house: u64) -> u64
+fn share(service: u8, kind: usize, residents: u64, n: u64, house: u64) -> u64
     requires { ⌜ (1 ≤ kind) × (kind ≤ 12) × (residents < 65536) × (n ≤ house) × (house ≤ 4128705) ⌝ }
-    ensures { λ r. ⌜ (r ≡ cond (eqb house 0) 0 (up (25000 * normOf 0 kind .hour * residents * n) (9 * normOf 0 kind .fixture * house)))
+    ensures { λ r. ⌜ (r ≡ cond (eqb house 0) 0 (up (25000 * normOf service kind .hour * residents * n) (9 * normOf service kind .fixture * house)))
         × (r ≤ 16105635843750000) ⌝ }
 {
     if n == 0 {
         return 0;
     }
-    let norm = norms::norm_of(kind);
+    let norm = norms::norm_of(service, kind);
     round::divide_up(25000 * norm.hour * residents * n, 9 * norm.fixture * house)
 }
 
@@ -53,6 +53,7 @@ pub fn sums_of(job: Job, counts: &[u32; 768], i: usize) -> Sums
     ensures { λ r. ⌜ (r .m ≡ mOf job (servedOf job i)) × (r .weighted ≡ fixtureSumOf job (servedOf job i))
         × (r .tap ≡ oneTapOf job (servedOf job i)) ⌝ }
 {
+    let service = job.header.service;
     let mut m: u64 = 0;
     let mut weighted: u64 = 0;
     let mut largest: usize = 0;
@@ -62,8 +63,8 @@ pub fn sums_of(job: Job, counts: &[u32; 768], i: usize) -> Sums
         let residents = job.residents;
         let n = long32(counts[i * 12 + c]);
         let house = long32(counts[c]);
-        let part = share(kind, long16(residents[c]), n, house);
-        let norm = norms::norm_of(kind);
+        let part = share(service, kind, long16(residents[c]), n, house);
+        let norm = norms::norm_of(service, kind);
         m = m + part;
         weighted = weighted + part * norm.fixture;
         largest = greater(largest, served_z(n, norm.fixture));
@@ -80,12 +81,13 @@ pub fn sums_of(job: Job, counts: &[u32; 768], i: usize) -> Sums
 pub fn hour_sums(job: Job) -> HourSums
     ensures { λ r. ⌜ (r .shares ≡ hourSumOf job) × (r .weighted ≡ hourlySumOf job) ⌝ }
 {
+    let service = job.header.service;
     let mut shares: u64 = 0;
     let mut weighted: u64 = 0;
     let mut kind: usize = 1;
     while kind <= 12 {
         let c = kind - 1;
-        let norm = norms::norm_of(kind);
+        let norm = norms::norm_of(service, kind);
         let part = round::divide_up(100000 * norm.hour * long16(job.residents[c]), norm.hourly);
         shares = shares + part;
         weighted = weighted + part * norm.hourly;

@@ -10,15 +10,15 @@ ghost use lib.ListN.{length, getD};
 ghost use Rattle.basis.specs.Range.{concatTo};
 ghost use Rattle.basis.specs.Stored.{stored};
 ghost use Rattle.wire.specs.Wire.{bytesOf};
-ghost use Rattle.fields.specs.Fields.{blankSection, countOf};
-ghost use Rattle.record.specs.Record.{sectionsFrom, lengthOf, headerBytes, sectionBytes, encode};
+ghost use Rattle.fields.specs.Fields.{blankSection, versionOf, countOf};
+ghost use Rattle.record.specs.Record.{sectionsFrom, lengthOf, headerBytes, sectionBytes, serviceBytes, encode};
 ghost use Rattle.record.specs.Edited.{edited};
 
 // The head fields.
 fn header_bytes(h: Header) -> [u8; 16]
     ensures { λ r. ⌜ r ≡ headerBytes h ⌝ }
 {
-    let n = wire::bytes32(length_of(h.sections) as u32);
+    let n = wire::bytes32(length_of(h.version, h.sections) as u32);
     let meter = wire::bytes16(h.meter);
     let guaranteed = wire::bytes16(h.guaranteed);
     let delivered = wire::bytes16(h.delivered);
@@ -28,7 +28,7 @@ fn header_bytes(h: Header) -> [u8; 16]
         n[1],
         n[2],
         n[3],
-        1,
+        h.version,
         h.tenths,
         h.sections,
         h.hours,
@@ -78,6 +78,16 @@ fn put_residents(out: &mut [u8], residents: [u16; 12])
     }
 }
 
+// The service byte of version 2.
+fn put_service(out: &mut [u8], h: Header)
+    requires { ⌜ sectionsFrom (h .version) ≤ length (now out) ⌝ }
+    ensures { λ _. ⌜ now (out .exit) ≡ stored (now (out .entry)) 40 (serviceBytes h) ⌝ }
+{
+    if h.version == 2 {
+        out[record::SERVICE] = h.service;
+    }
+}
+
 fn put_section(out: &mut [u8], at: usize, s: Section)
     requires { ⌜ at + 10 ≤ length (now out) ⌝ }
     ensures { λ _. ⌜ now (out .exit) ≡ stored (now (out .entry)) at (sectionBytes s) ⌝ }
@@ -87,13 +97,13 @@ fn put_section(out: &mut [u8], at: usize, s: Section)
 }
 
 // Sections 1 to count, from the first one's place on.
-fn put_sections(out: &mut [u8], sections: [Section; 64], count: usize)
-    requires { ⌜ (count ≤ 63) × (lengthOf count ≤ length (now out)) ⌝ }
-    ensures { λ _. ⌜ now (out .exit) ≡ stored (now (out .entry)) sectionsFrom (concatTo count (λ i. sectionBytes (getD sections i blankSection))) ⌝ }
+fn put_sections(out: &mut [u8], version: u8, sections: [Section; 64], count: usize)
+    requires { ⌜ (count ≤ 63) × (lengthOf version count ≤ length (now out)) ⌝ }
+    ensures { λ _. ⌜ now (out .exit) ≡ stored (now (out .entry)) (sectionsFrom version) (concatTo count (λ i. sectionBytes (getD sections i blankSection))) ⌝ }
 {
     let mut i: usize = 1;
     while i <= count {
-        put_section(out, place_of(i), sections[i]);
+        put_section(out, place_of(version, i), sections[i]);
         i += 1;
     }
 }
@@ -109,14 +119,16 @@ pub fn put_edited(out: &mut [u8], at: usize, b: &[u8], field: usize, n: u16)
 
 // The whole record.
 pub fn put_job(out: &mut [u8], job: Job)
-    requires { ⌜ (countOf job ≤ 63) × (lengthOf (countOf job) ≤ length (now out)) ⌝ }
+    requires { ⌜ (countOf job ≤ 63) × (lengthOf (versionOf job) (countOf job) ≤ length (now out)) ⌝ }
     ensures { λ _. ⌜ now (out .exit) ≡ stored (now (out .entry)) 0 (encode job) ⌝ }
 {
     let residents = job.residents;
     let sections = job.sections;
-    let count = job.header.sections as usize;
-    let head = header_bytes(job.header);
+    let header = job.header;
+    let count = header.sections as usize;
+    let head = header_bytes(header);
     wire::put(out, 0, &head);
     put_residents(out, residents);
-    put_sections(out, sections, count);
+    put_service(out, header);
+    put_sections(out, header.version, sections, count);
 }

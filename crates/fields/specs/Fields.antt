@@ -13,10 +13,19 @@ blankSection = record { parent = 0; kind = 0; fixtures = 0; decimetres = 0; elev
 unfoldable pub blankJob : Job
 blankJob =
     record {
-      header = record { tenths = 0; sections = 0; hours = 0; meter = 0; guaranteed = 0; delivered = 0; limit = 0 };
+      header =
+          record { version = 0; service = 0; tenths = 0; sections = 0; hours = 0; meter = 0; guaranteed = 0; delivered = 0; limit = 0 };
       residents = replicate 12 0;
       sections = replicate 64 blankSection;
     }
+
+-- the version of a job's record
+abbrev pub versionOf : Job → ℕ
+versionOf job = job .header .version
+
+-- the service: total (0), cold (1) or hot (2)
+abbrev pub serviceOf : Job → ℕ
+serviceOf job = job .header .service
 
 -- S
 abbrev pub countOf : Job → ℕ

@@ -12,8 +12,10 @@ pub struct Section {
     pub free: u16,
 }
 
-// The head of a job: k, S, T, meter loss, G, H and velocity limit.
+// The head of a job: the version of its record, the service (0 total, 1 cold, 2 hot), k, S, T, meter loss, G, H and velocity limit.
 pub struct Header {
+    pub version: u8,
+    pub service: u8,
     pub tenths: u8,
     pub sections: u8,
     pub hours: u8,
@@ -49,6 +51,8 @@ pub fn blank_job() -> Job
     ensures { λ r. ⌜ r ≡ blankJob ⌝ }
 {
     let head = Header {
+        version: 0,
+        service: 0,
         tenths: 0,
         sections: 0,
         hours: 0,

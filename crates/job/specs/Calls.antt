@@ -1,4 +1,5 @@
--- Reading and writing a record: the checks in the order of document 01, "Refused orders", and what is given back.
+-- Reading and writing a record: the checks in the order of document 01, "Refused orders", as L4 of document 02 changes them, and what
+-- is given back.
 -- Assumes nothing.
 use Prim.Native.Nat.{ℕ, _≤_, _<_}
 use mathlib.Core.Path.{_≡_}
@@ -10,21 +11,21 @@ use Rattle.basis.specs.Part.{part}
 use Rattle.answer.specs.Checks.{firstNo, tooShort, bufferAfter}
 use Rattle.wire.specs.Wire.{byteAt, beAt}
 use Rattle.fields.specs.declared.Job.{Job}
-use Rattle.fields.specs.Fields.{blankJob, countOf, sectionOf}
-use Rattle.rules.specs.Rules.{headerOk, fieldChecks}
-use Rattle.record.specs.Record.{lengthOf, headerAt, decode, encode, kept}
+use Rattle.fields.specs.Fields.{blankJob, versionOf, countOf, sectionOf}
+use Rattle.rules.specs.Rules.{versionOk, headerOk, fieldChecks}
+use Rattle.record.specs.Record.{lengthOf, versionAt, headerAt, decode, encode, kept}
 
 -- 1: job under 40 bytes, or its length isn't the bytes lent
 unfoldable pub wrongLength : List ℕ → Bool
 wrongLength b = ltb (length b) 40 || not (eqb (beAt 4 b 0) (length b))
 
--- 2: version not 1
+-- 2: version neither 1 nor 2
 unfoldable pub wrongVersion : List ℕ → Bool
-wrongVersion b = not (eqb (byteAt b 4) 1)
+wrongVersion b = not (versionOk (headerAt b))
 
--- 4: length isn't 40 + 10 × S
+-- 4: length isn't 40 + 10 × S, or 41 + 10 × S in version 2
 unfoldable pub wrongCount : List ℕ → Bool
-wrongCount b = not (eqb (length b) (lengthOf (byteAt b 6)))
+wrongCount b = not (eqb (length b) (lengthOf (versionAt b) (byteAt b 6)))
 
 -- 1 to 4, of the record as it stands
 unfoldable pub shapeChecks : List ℕ → List (Bool × ℕ)
@@ -44,9 +45,11 @@ fieldsAfter n job = cond (eqb n 0) job blankJob
 unfoldable pub readJob : List ℕ → Job
 readJob b = fieldsAfter (readNo b) (decode b)
 
--- writing into so many bytes: 3, 5 to 7, and 14 where the result buffer is too short
+-- writing into so many bytes: 2, 3, 5 to 7, and 14 where the result buffer is too short
 unfoldable pub writeChecks : Job → ℕ → List (Bool × ℕ)
-writeChecks job room = (not (headerOk (job .header)), 3) ∷ (fieldChecks job ++ ((tooShort room (lengthOf (countOf job)), 14) ∷ []))
+writeChecks job room =
+    (not (versionOk (job .header)), 2) ∷
+    (not (headerOk (job .header)), 3) ∷ (fieldChecks job ++ ((tooShort room (lengthOf (versionOf job) (countOf job)), 14) ∷ []))
 
 unfoldable pub writeNo : Job → ℕ → ℕ
 writeNo job room = firstNo (writeChecks job room)
@@ -63,7 +66,7 @@ copyNo b room = firstNo (copyChecks b room)
 pub record WrittenRead (job : Job) (out₀ out : List ℕ) (n : ℕ) (again : Job) : Type 0 where
   pub number : n ≡ writeNo job (length out₀)
   pub buffer : out ≡ bufferAfter n (encode job) out₀
-  pub read : n ≡ 0 → again ≡ readJob (part out 0 (lengthOf (countOf job)))
+  pub read : n ≡ 0 → again ≡ readJob (part out 0 (lengthOf (versionOf job) (countOf job)))
   pub fields : again ≡ fieldsAfter n (kept job)
 
 -- two jobs with the same fields: the header, the residents and sections 1 to S

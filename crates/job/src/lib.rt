@@ -49,14 +49,14 @@ fn shape_refusal(b: &[u8]) -> Answer
     if wide32(wire::be32(b, 0)) != b.len() {
         return Answer::JobLength;
     }
-    if b[4] != 1 {
+    let head = decoding::header_of(b);
+    if !rules::version_ok(head) {
         return Answer::JobVersion;
     }
-    let head = decoding::header_of(b);
     if !rules::header_ok(head) {
         return Answer::HeaderRange;
     }
-    if b.len() != record::length_of(head.sections) {
+    if b.len() != record::length_of(head.version, head.sections) {
         return Answer::SectionBytes;
     }
     Answer::Done
@@ -74,10 +74,13 @@ pub fn read(b: &[u8]) -> Reading
     reading_of(rules::broken_rule(job), job)
 }
 
-// 3, 5, 6, 7 and 14, of fields and a buffer.
+// 2, 3, 5, 6, 7 and 14, of fields and a buffer.
 fn write_refusal(job: Job, room: usize) -> Answer
     ensures { λ r. ⌜ numberOf r ≡ writeNo job room ⌝ }
 {
+    if !rules::version_ok(job.header) {
+        return Answer::JobVersion;
+    }
     if !rules::header_ok(job.header) {
         return Answer::HeaderRange;
     }
@@ -85,7 +88,7 @@ fn write_refusal(job: Job, room: usize) -> Answer
     if answer::number(answer) != 0 {
         return answer;
     }
-    if room < record::length_of(job.header.sections) {
+    if room < record::length_of(job.header.version, job.header.sections) {
         return Answer::ResultShort;
     }
     Answer::Done
@@ -125,6 +128,6 @@ pub fn write_read(job: Job, out: &mut [u8]) -> Reading
     if answer::number(answer) != 0 {
         return refused(answer);
     }
-    let end = record::length_of(job.header.sections);
+    let end = record::length_of(job.header.version, job.header.sections);
     read(&out[..end])
 }

@@ -1,32 +1,58 @@
--- Document 01, "Norms and design flows": the norms of the twelve kinds.
+-- Document 01, "Norms and design flows", and document 02, L4: the norms of the twelve kinds for a service, which is total (0), cold (1) or
+-- hot (2).
 -- Assumes nothing.
-use Prim.Native.Nat.{ℕ, _-_}
-use mathlib.Core.List.{List, [], _∷_}
+use Prim.Native.Nat.{ℕ, _+_, _-_, _*_, min}
+use mathlib.Core.List.{List, [], _∷_, _++_}
 use lib.ListN.{getD}
+use Rattle.basis.specs.Slots.{tabulate}
 use Rattle.norms.specs.declared.Norm.{Norm}
 
--- D, litres per resident on the greatest day
+-- a norm for each service, one after another: total, cold, which is total less hot, and hot
+unfoldable pub totalColdHot : List ℕ → List ℕ → List ℕ
+totalColdHot total hot = total ++ (tabulate 12 (λ c. getD total c 0 - getD hot c 0) ++ hot)
+
+-- the same of a fixture's norm, which is one for either line
+unfoldable pub totalEither : List ℕ → List ℕ → List ℕ
+totalEither total line = total ++ (line ++ line)
+
+-- D, litres per resident on the greatest day: total, and hot
 unfoldable pub dayNorms : List ℕ
-dayNorms = 400 ∷ 100 ∷ 160 ∷ 120 ∷ 230 ∷ 200 ∷ 250 ∷ 300 ∷ 115 ∷ 15 ∷ 16 ∷ 20 ∷ []
+dayNorms =
+    totalColdHot
+    (400 ∷ 100 ∷ 160 ∷ 120 ∷ 230 ∷ 200 ∷ 250 ∷ 300 ∷ 115 ∷ 15 ∷ 16 ∷ 20 ∷ [])
+    (130 ∷ 60 ∷ 90 ∷ 70 ∷ 140 ∷ 100 ∷ 150 ∷ 180 ∷ 75 ∷ 6 ∷ 7 ∷ 8 ∷ [])
 
--- Q, tenths of a litre per resident in the greatest hour
+-- Q, tenths of a litre per resident in the greatest hour: total, and hot
 unfoldable pub hourNorms : List ℕ
-hourNorms = 200 ∷ 104 ∷ 120 ∷ 125 ∷ 190 ∷ 224 ∷ 280 ∷ 300 ∷ 84 ∷ 26 ∷ 40 ∷ 27 ∷ []
+hourNorms =
+    totalColdHot
+    (200 ∷ 104 ∷ 120 ∷ 125 ∷ 190 ∷ 224 ∷ 280 ∷ 300 ∷ 84 ∷ 26 ∷ 40 ∷ 27 ∷ [])
+    (109 ∷ 63 ∷ 75 ∷ 82 ∷ 120 ∷ 104 ∷ 150 ∷ 160 ∷ 54 ∷ 12 ∷ 20 ∷ 12 ∷ [])
 
--- Z, hundredths of a litre a second of a fixture
+-- Z, hundredths of a litre a second of a fixture: total, and of either line
 unfoldable pub fixtureNorms : List ℕ
-fixtureNorms = 30 ∷ 20 ∷ 20 ∷ 30 ∷ 20 ∷ 30 ∷ 30 ∷ 30 ∷ 20 ∷ 20 ∷ 14 ∷ 14 ∷ []
+fixtureNorms =
+    totalEither
+    (30 ∷ 20 ∷ 20 ∷ 30 ∷ 20 ∷ 30 ∷ 30 ∷ 30 ∷ 20 ∷ 20 ∷ 14 ∷ 14 ∷ [])
+    (20 ∷ 14 ∷ 14 ∷ 20 ∷ 14 ∷ 20 ∷ 20 ∷ 20 ∷ 14 ∷ 14 ∷ 10 ∷ 10 ∷ [])
 
--- O, litres an hour of a fixture
+-- O, litres an hour of a fixture: total, and of either line
 unfoldable pub hourlyNorms : List ℕ
-hourlyNorms = 300 ∷ 100 ∷ 100 ∷ 300 ∷ 115 ∷ 250 ∷ 280 ∷ 300 ∷ 100 ∷ 80 ∷ 80 ∷ 100 ∷ []
+hourlyNorms =
+    totalEither
+    (300 ∷ 100 ∷ 100 ∷ 300 ∷ 115 ∷ 250 ∷ 280 ∷ 300 ∷ 100 ∷ 80 ∷ 80 ∷ 100 ∷ [])
+    (200 ∷ 60 ∷ 60 ∷ 200 ∷ 80 ∷ 180 ∷ 190 ∷ 200 ∷ 60 ∷ 60 ∷ 60 ∷ 60 ∷ [])
 
--- the norms of a kind, total (cold plus hot) whatever the service; L4 brings other services
+-- the place of a kind's norm; refusal 3 lets no service over 2 pass, and here it counts as 2
+abbrev pub normPlace : ℕ → ℕ → ℕ
+normPlace service kind = 12 * min service 2 + (kind - 1)
+
+-- the norms of a kind for a service
 unfoldable pub normOf : ℕ → ℕ → Norm
 normOf service kind =
     record {
-      day = getD dayNorms (kind - 1) 0;
-      hour = getD hourNorms (kind - 1) 0;
-      fixture = getD fixtureNorms (kind - 1) 0;
-      hourly = getD hourlyNorms (kind - 1) 0;
+      day = getD dayNorms (normPlace service kind) 0;
+      hour = getD hourNorms (normPlace service kind) 0;
+      fixture = getD fixtureNorms (normPlace service kind) 0;
+      hourly = getD hourlyNorms (normPlace service kind) 0;
     }

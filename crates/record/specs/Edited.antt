@@ -11,18 +11,18 @@ use Rattle.fields.specs.declared.Section.{Section}
 use Rattle.fields.specs.declared.Job.{Job}
 use Rattle.record.specs.Record.{placeOf}
 
--- where a field stands: meter loss, the residents of a kind, and the fixtures and free head of section i
+-- where a field stands: meter loss, the residents of a kind, and by the record's version the fixtures and free head of section i
 abbrev pub meterPlace : ℕ
 meterPlace = 8
 
 abbrev pub residentsPlace : ℕ → ℕ
 residentsPlace kind = 16 + 2 * (kind - 1)
 
-abbrev pub fixturesPlace : ℕ → ℕ
-fixturesPlace i = placeOf i + 2
+abbrev pub fixturesPlace : ℕ → ℕ → ℕ
+fixturesPlace version i = placeOf version i + 2
 
-abbrev pub freePlace : ℕ → ℕ
-freePlace i = placeOf i + 8
+abbrev pub freePlace : ℕ → ℕ → ℕ
+freePlace version i = placeOf version i + 8
 
 -- the record with n in the `width` bytes from a place on
 abbrev pub edited : ℕ → List ℕ → ℕ → ℕ → List ℕ
@@ -39,6 +39,8 @@ withMeter job n =
     record {
       header =
           record {
+            version = job .header .version;
+            service = job .header .service;
             tenths = job .header .tenths;
             sections = job .header .sections;
             hours = job .header .hours;

@@ -1,9 +1,11 @@
--- Document 01, "The job record": the fields in the bytes, and the bytes of the fields.
+-- Document 01, "The job record", and document 02, L4, its version 2: the fields in the bytes, and the bytes of the fields.
 -- Assumes nothing.
 use Prim.Native.Nat.{ℕ, _+_, _-_, _*_, _≤_, _<_}
 use mathlib.Core.Path.{_≡_}
+use mathlib.Core.Bool.{cond}
 use mathlib.Core.List.{List, [], _∷_, _++_}
 use lib.ListN.{length, getD}
+use lib.Dec.{eqb}
 use lib.Signed.{mag}
 use Rattle.basis.specs.Range.{concatTo}
 use Rattle.basis.specs.Slots.{tabulate, slots}
@@ -13,21 +15,31 @@ use Rattle.fields.specs.declared.Header.{Header}
 use Rattle.fields.specs.declared.Job.{Job}
 use Rattle.fields.specs.Fields.{blankSection, countOf, sectionOf, residentsOf}
 
--- where the sections begin
-abbrev pub sectionsFrom : ℕ
-sectionsFrom = 40
+-- where the sections begin: version 2 has a service byte before them
+unfoldable pub sectionsFrom : ℕ → ℕ
+sectionsFrom version = cond (eqb version 2) 41 40
 
 -- the length of a record of S sections
-abbrev pub lengthOf : ℕ → ℕ
-lengthOf count = sectionsFrom + 10 * count
+abbrev pub lengthOf : ℕ → ℕ → ℕ
+lengthOf version count = sectionsFrom version + 10 * count
 
 -- where section i begins, from 1
-abbrev pub placeOf : ℕ → ℕ
-placeOf i = sectionsFrom + 10 * (i - 1)
+abbrev pub placeOf : ℕ → ℕ → ℕ
+placeOf version i = sectionsFrom version + 10 * (i - 1)
+
+-- the version
+abbrev pub versionAt : List ℕ → ℕ
+versionAt b = byteAt b 4
+
+-- the service: byte 40 in version 2; version 1 means total
+unfoldable pub serviceAt : List ℕ → ℕ
+serviceAt b = cond (eqb (versionAt b) 2) (byteAt b 40) 0
 
 unfoldable pub headerAt : List ℕ → Header
 headerAt b =
     record {
+      version = versionAt b;
+      service = serviceAt b;
       tenths = byteAt b 5;
       sections = byteAt b 6;
       hours = byteAt b 7;
@@ -54,7 +66,7 @@ sectionFrom b at =
     }
 
 abbrev pub sectionAt : List ℕ → ℕ → Section
-sectionAt b i = sectionFrom b (placeOf i)
+sectionAt b i = sectionFrom b (placeOf (versionAt b) i)
 
 -- the fields in the bytes; the slots past S are blank
 unfoldable pub decode : List ℕ → Job
@@ -67,8 +79,8 @@ decode b =
 
 unfoldable pub headerBytes : Header → List ℕ
 headerBytes h =
-    bytesOf 4 (lengthOf (h .sections)) ++
-    ((1 ∷ h .tenths ∷ h .sections ∷ h .hours ∷ []) ++
+    bytesOf 4 (lengthOf (h .version) (h .sections)) ++
+    ((h .version ∷ h .tenths ∷ h .sections ∷ h .hours ∷ []) ++
     (bytesOf 2 (h .meter) ++ (bytesOf 2 (h .guaranteed) ++ (bytesOf 2 (h .delivered) ++ bytesOf 2 (h .limit)))))
 
 unfoldable pub sectionBytes : Section → List ℕ
@@ -84,9 +96,13 @@ residentsBytes job = concatTo 12 (λ kind. bytesOf 2 (residentsOf job kind))
 unfoldable pub sectionsBytes : Job → List ℕ
 sectionsBytes job = concatTo (countOf job) (λ i. sectionBytes (sectionOf job i))
 
+-- the service byte, which version 2 alone has
+unfoldable pub serviceBytes : Header → List ℕ
+serviceBytes h = cond (eqb (h .version) 2) (h .service ∷ []) []
+
 -- the bytes of the fields
 unfoldable pub encode : Job → List ℕ
-encode job = headerBytes (job .header) ++ (residentsBytes job ++ sectionsBytes job)
+encode job = headerBytes (job .header) ++ (residentsBytes job ++ (serviceBytes (job .header) ++ sectionsBytes job))
 
 -- the fields that a record keeps: the head, the residents and the first S sections
 unfoldable pub kept : Job → Job
@@ -101,6 +117,7 @@ pub record SectionFits (s : Section) : Type 0 where
   pub free : s .free < 65536
 
 pub record HeadFits (h : Header) : Type 0 where
+  pub total : (h .version ≡ 2 → ⊥) → h .service ≡ 0
   pub meter : h .meter < 65536
   pub guaranteed : h .guaranteed < 65536
   pub delivered : h .delivered < 65536

@@ -1,4 +1,4 @@
--- Document 01, "Refused orders" 3, 5, 6 and 7, as conditions on the fields.
+-- Document 01, "Refused orders" 2, 3, 5, 6 and 7, and document 02, L4, as conditions on the fields.
 -- Assumes nothing.
 use Prim.Native.Nat.{ℕ}
 use mathlib.Core.Bool.{Bool, not, _&&_, _||_, cond}
@@ -13,12 +13,21 @@ use Rattle.fields.specs.declared.Job.{Job}
 use Rattle.fields.specs.Fields.{countOf, sectionOf, residentsOf}
 use Rattle.tree.specs.Tree.{houseOf}
 
--- 3 finds nothing: k, S, T, meter loss, G, H and limit are in range
+-- 2 finds nothing: the version is 1 or 2
+unfoldable pub versionOk : Header → Bool
+versionOk h = within 1 2 (h .version)
+
+-- the service is 0, 1 or 2; with version 1 it is 0
+unfoldable pub serviceOk : Header → Bool
+serviceOk h = cond (eqb (h .version) 1) (eqb (h .service) 0) (leb (h .service) 2)
+
+-- 3 finds nothing: service, k, S, T, meter loss, G, H and limit are in range
 unfoldable pub headerOk : Header → Bool
 headerOk h =
-    within 2 3 (h .tenths) &&
+    serviceOk h &&
+    (within 2 3 (h .tenths) &&
     (within 1 63 (h .sections) &&
-    (within 1 24 (h .hours) && (leb (h .meter) 1000 && (leb (h .guaranteed) 6000 && (leb (h .delivered) 6000 && within 1 3000 (h .limit))))))
+    (within 1 24 (h .hours) && (leb (h .meter) 1000 && (leb (h .guaranteed) 6000 && (leb (h .delivered) 6000 && within 1 3000 (h .limit)))))))
 
 -- kind is 0 to 12; kind 0 goes with no fixtures and free head 0, other kinds with at least one fixture
 unfoldable pub kindOk : Section → Bool

@@ -1,4 +1,4 @@
-// Refusals 3, 5, 6 and 7: the rules that the fields of a job keep.
+// Refusals 2, 3, 5, 6 and 7: the rules that the fields of a job keep.
 use answer::Answer;
 use fields::Header;
 use fields::Job;
@@ -12,12 +12,37 @@ ghost use Rattle.answer.specs.Checks.{firstNo};
 ghost use Rattle.fields.specs.Fields.{countOf};
 ghost use Rattle.tree.specs.Tree.{Rooted};
 ghost use Rattle.tree.specs.Rows.{Kinds};
-ghost use Rattle.rules.specs.Rules.{headerOk, kindOk, elevationOk, sectionOk, sectionsOk, childlessZero, unmatched, fieldChecks};
+ghost use Rattle.rules.specs.Rules.{versionOk, serviceOk, headerOk, kindOk, elevationOk, sectionOk, sectionsOk, childlessZero, unmatched, fieldChecks};
+
+// 2: the version is 1 or 2.
+pub fn version_ok(h: Header) -> bool
+    ensures { λ r. ⌜ r ≡ versionOk h ⌝ }
+{
+    let version = h.version;
+    match version {
+        1..=2 => true,
+        _ => false,
+    }
+}
+
+// The service is total, cold or hot; with version 1 it is total.
+fn service_ok(h: Header) -> bool
+    ensures { λ r. ⌜ r ≡ serviceOk h ⌝ }
+{
+    if h.version == 1 {
+        h.service == 0
+    } else {
+        h.service <= 2
+    }
+}
 
 // 3: each head field is in its range.
 pub fn header_ok(h: Header) -> bool
     ensures { λ r. ⌜ r ≡ headerOk h ⌝ }
 {
+    if !service_ok(h) {
+        return false;
+    }
     let tenths = h.tenths;
     let sections = h.sections;
     let hours = h.hours;

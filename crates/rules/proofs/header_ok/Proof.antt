@@ -1,15 +1,25 @@
--- `rules::header_ok` meets its contract: eleven ways out that refuse, and one that does not.
+-- `rules::header_ok` meets its contract: twelve ways out that refuse, and one that does not.
 -- Assumes nothing.
-use mathlib.Core.Path.{sym}
+use mathlib.Core.Path.{sym, _∙_}
 use native.Mathlib.Omega.{arith}
-use Rattle.rules.proofs.HeaderBounds.{in-head, head-refused}
+use borrow.Author.Needs.{needs}
+use borrow.Author.Tests.{not-true, not-false}
+use Rattle.rules.proofs.HeaderBounds.{ServiceIn, service-in, service-refused, in-head, head-refused}
 use Rattle.rules.proofs.header_ok.Statement.{statement}
 use Rattle.rules.proofs.header_ok.Tie as tie
+
+returns : tie.Need-returns
+returns c = service-refused _ (sym (c .before .service-ok .ensures) ∙ not-true (c .before .service-ok .result) (c .if1 .taken))
+
+served : (c : tie.Else1) → ServiceIn (c .before .before .args .h .version) (c .before .before .args .h .service)
+served c = service-in _ (sym (c .before .service-ok .ensures) ∙ not-false (c .before .service-ok .result) (c .if1 .left))
 
 pub header-ok-spec : {M : Type 1} → statement M
 header-ok-spec =
     tie.close
     (tie.spec
+    (λ c κs. search needs)
+    returns
     (λ c. head-refused _ (λ b. omega arith))
     (λ c. head-refused _ (λ b. omega arith))
     (λ c. head-refused _ (λ b. omega arith))
@@ -23,6 +33,7 @@ header-ok-spec =
     sym
     (in-head _
     (record {
+      service = served (c .before .before .before .before .before .before .before .before .before .before .before);
       tenths = omega arith;
       sections = omega arith;
       hours = omega arith;
