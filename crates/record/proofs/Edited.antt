@@ -1,20 +1,22 @@
 -- A record in which one field's bytes are replaced has the same length, every other byte as it was, and the same fields but that one.
 -- Assumes nothing.
-use mathlib.Core.Path.{_≡_, refl, sym, _∙_}
-use mathlib.Core.Logic.{⊎-elim}
+use mathlib.Core.Path.{_≡_, refl, sym, ap, _∙_}
+use mathlib.Core.Logic.{_⊎_, inl, inr, ⊎-elim}
 use mathlib.Core.List.{List, [], append-nil}
 use Prim.Native.Nat.{ℕ, _+_, _-_, _*_, _%_, _^_, _≤_, _<_}
 use native.Mathlib.Omega.{arith}
 use lib.ListN.{length, set}
 use lib.Seq.{getD-set-same, set-set, ext-getD}
 use Rattle.basis.specs.Slots.{tabulate, slots}
-use Rattle.basis.proofs.Split.{lt-or-ge}
+use Rattle.basis.proofs.Split.{lt-or-ge, eq-or-ne}
 use Rattle.basis.proofs.Stored.{stored-length, stored-in, stored-before, stored-after}
 use Rattle.basis.proofs.Slots.{tabulate-ext, slots-length, slots-in, slots-full, slots-ext, slots-set}
 use Rattle.wire.specs.Wire.{byteAt, beAt, bytesOf}
 use Rattle.wire.proofs.Fields.{be-same, be-bytes, bytes-length}
 use Rattle.fields.specs.Fields.{blankSection, sectionOf}
-use Rattle.record.specs.Record.{sectionsFrom, placeOf, headerAt, residentsAt, sectionFrom, sectionAt, decode}
+use Rattle.record.specs.Record.{sectionsFrom, placeOf, versionAt, serviceAt, headerAt, residentsAt, sectionFrom, sectionAt, decode}
+use Rattle.record.proofs.Service.{service-two, service-other}
+use Rattle.record.proofs.Lengths.{from-in, from-two}
 use Rattle.record.specs.Edited.{meterPlace, residentsPlace, fixturesPlace, freePlace, edited, SameBut, withMeter, withResidents, withSection, fitted}
 
 -- any field: its own value, and every other byte as it was
@@ -66,10 +68,29 @@ module _ {at width : ℕ} {b e : List ℕ} (same : SameBut at width b e) where
       (lt-or-ge j (at + width)))
       (lt-or-ge j at))
 
-  head-kept : 16 ≤ at → headerAt e ≡ headerAt b
+  version-kept : 5 ≤ at → versionAt e ≡ versionAt b
+  version-kept h = same .bytes 4 (λ c d. omega arith)
+
+  -- the service byte lies before the sections
+  service-kept : 5 ≤ at → (at + width ≤ 40) ⊎ (sectionsFrom (versionAt b) ≤ at) → serviceAt e ≡ serviceAt b
+  service-kept h apart =
+      ⊎-elim
+      (λ (two : versionAt b ≡ 2).
+      service-two e (version-kept h ∙ two) ∙
+      ⊎-elim
+      (λ (before : at + width ≤ 40). same .bytes 40 (λ c d. omega arith))
+      (λ (behind : sectionsFrom (versionAt b) ≤ at). same .bytes 40 (λ c d. omega (arith, from-two two)))
+      apart ∙
+      sym (service-two b two))
+      (λ (other : versionAt b ≡ 2 → ⊥). service-other e (λ two. other (sym (version-kept h) ∙ two)) ∙ sym (service-other b other))
+      (eq-or-ne (versionAt b) 2)
+
+  head-kept : 16 ≤ at → (at + width ≤ 40) ⊎ (sectionsFrom (versionAt b) ≤ at) → headerAt e ≡ headerAt b
   unfolding headerAt
-  head-kept h =
+  head-kept h apart =
       rw (
+        version-kept (omega arith),
+        service-kept (omega arith) apart,
         same .bytes 5 (λ c d. omega arith),
         same .bytes 6 (λ c d. omega arith),
         same .bytes 7 (λ c d. omega arith),
@@ -97,22 +118,30 @@ module _ {at width : ℕ} {b e : List ℕ} (same : SameBut at width b e) where
         field-kept 2 (from + 8) (λ k l. apart (from + 8 + k) (omega arith) (omega arith)),
       )
 
-  sections-kept : at + width ≤ sectionsFrom → slots 64 1 (byteAt b 6 + 1) blankSection (sectionAt e) ≡ slots 64 1 (byteAt b 6 + 1) blankSection (sectionAt b)
-  sections-kept h =
-      slots-ext 64 1 (byteAt b 6 + 1) blankSection (sectionAt e) (sectionAt b)
-      (λ i a c d. section-kept (placeOf i) (λ k l m n o. omega arith))
+  -- a section that shares no byte with what was replaced
+  slot-kept : 5 ≤ at → (i : ℕ) → ((k : ℕ) → placeOf (versionAt b) i ≤ k → k < placeOf (versionAt b) i + 10 → at ≤ k → k < at + width → ⊥) →
+      sectionAt e i ≡ sectionAt b i
+  slot-kept h i apart = ap (λ v. sectionFrom e (placeOf v i)) (version-kept h) ∙ section-kept (placeOf (versionAt b) i) apart
+
+  sections-kept : 5 ≤ at → at + width ≤ 40 →
+      slots 64 1 (byteAt b 6 + 1) blankSection (sectionAt e) ≡ slots 64 1 (byteAt b 6 + 1) blankSection (sectionAt b)
+  sections-kept from h =
+      let start = from-in (versionAt b) in
+      slots-ext 64 1 (byteAt b 6 + 1) blankSection (sectionAt e) (sectionAt b) (λ i a c d. slot-kept from i (λ k l m n o. omega arith))
 
   -- bytes replaced inside section i change that section alone
-  pub section-changed : (i : ℕ) → 0 < i → i ≤ byteAt b 6 → byteAt b 6 ≤ 63 → placeOf i ≤ at → at + width ≤ placeOf i + 10 →
+  pub section-changed : (i : ℕ) → 0 < i → i ≤ byteAt b 6 → byteAt b 6 ≤ 63 → placeOf (versionAt b) i ≤ at →
+      at + width ≤ placeOf (versionAt b) i + 10 →
       decode e ≡ withSection (decode b) i (sectionAt e i)
   unfolding decode withSection
   section-changed i low high few from to =
+      let start = from-in (versionAt b) in
       rw (
-        head-kept (omega arith),
+        head-kept (omega arith) (inr (omega arith)),
         residents-kept (λ k l m n o. omega arith),
         same .bytes 6 (λ c d. omega arith),
         slots-set 64 1 (byteAt b 6 + 1) blankSection (sectionAt b) (sectionAt e) i (omega arith) (omega arith) (omega arith)
-            (λ j c d ne. section-kept (placeOf j) (λ k l m n o. ne (omega arith))),
+            (λ j c d ne. slot-kept (omega arith) j (λ k l m n o. ne (omega arith))),
       )
 
 -- the meter loss
@@ -120,6 +149,8 @@ pub meter-changed : {b e : List ℕ} → SameBut meterPlace 2 b e → decode e �
 unfolding decode withMeter headerAt
 meter-changed same =
     rw (
+      version-kept same (omega arith),
+      service-kept same (omega arith) (inl (omega arith)),
       same .bytes 5 (λ c d. omega arith),
       same .bytes 6 (λ c d. omega arith),
       same .bytes 7 (λ c d. omega arith),
@@ -127,7 +158,7 @@ meter-changed same =
       field-kept same 2 12 (λ k l c d. omega arith),
       field-kept same 2 14 (λ k l c d. omega arith),
       residents-kept same (λ k l m o p. omega arith),
-      sections-kept same (omega arith),
+      sections-kept same (omega arith) (omega arith),
     )
 
 pub edited-meter : (b : List ℕ) (n : ℕ) → meterPlace + 2 ≤ length b → n < 65536 → decode (edited 2 b meterPlace n) ≡ withMeter (decode b) n
@@ -146,10 +177,10 @@ edited-residents b kind n low high fits h =
     (λ c l m ne. field-kept same 2 (16 + 2 * c) (λ k o p q. ne (omega arith))) ∙
     rw (slots-full 12 0 (residentsAt b), edited-field 2 b (residentsPlace kind) n fits h) in
     rw (
-      head-kept same (omega arith),
+      head-kept same (omega arith) (inl (omega arith)),
       changed,
       same .bytes 6 (λ c d. omega arith),
-      sections-kept same (omega arith),
+      sections-kept same (omega arith) (omega arith),
     )
 
 within : (b : List ℕ) (i : ℕ) → i ≤ 63 → i < length (decode b .sections)
@@ -163,45 +194,50 @@ module _ (b : List ℕ) (i : ℕ) (low : 0 < i) (high : i ≤ byteAt b 6) (few :
   section-in = slots-in 64 1 (byteAt b 6 + 1) blankSection (sectionAt b) i blankSection (omega arith) (omega arith) (omega arith)
 
   -- bytes replaced at offset 2 or 8 of section i leave its other fields
-  fitted-changed : {o : ℕ} {e : List ℕ} → SameBut (placeOf i + o) 2 b e → o % 6 ≡ 2 → o ≤ 8 →
-      decode e ≡ withSection (decode b) i (fitted (sectionOf (decode b) i) (beAt 2 e (fixturesPlace i)) (beAt 2 e (freePlace i)))
+  fitted-changed : {o : ℕ} {e : List ℕ} → SameBut (placeOf (versionAt b) i + o) 2 b e → o % 6 ≡ 2 → o ≤ 8 →
+      decode e ≡ withSection (decode b) i (fitted (sectionOf (decode b) i) (beAt 2 e (fixturesPlace (versionAt b) i)) (beAt 2 e (freePlace (versionAt b) i)))
   unfolding fitted sectionFrom
   fitted-changed same two most =
+      let start = from-in (versionAt b) in
       section-changed same i low high few (omega arith) (omega arith) ∙
       rw (
         section-in,
-        same .bytes (placeOf i) (λ c d. omega arith),
-        same .bytes (placeOf i + 1) (λ c d. omega arith),
-        field-kept same 2 (placeOf i + 4) (λ k l c d. omega arith),
-        field-kept same 2 (placeOf i + 6) (λ k l c d. omega arith),
+        version-kept same (omega arith),
+        same .bytes (placeOf (versionAt b) i) (λ c d. omega arith),
+        same .bytes (placeOf (versionAt b) i + 1) (λ c d. omega arith),
+        field-kept same 2 (placeOf (versionAt b) i + 4) (λ k l c d. omega arith),
+        field-kept same 2 (placeOf (versionAt b) i + 6) (λ k l c d. omega arith),
       )
 
-  pub edited-fixtures : (n : ℕ) → fixturesPlace i + 2 ≤ length b → n < 65536 →
-      decode (edited 2 b (fixturesPlace i) n) ≡ withSection (decode b) i (fitted (sectionOf (decode b) i) n (sectionOf (decode b) i .free))
+  pub edited-fixtures : (n : ℕ) → fixturesPlace (versionAt b) i + 2 ≤ length b → n < 65536 →
+      decode (edited 2 b (fixturesPlace (versionAt b) i) n) ≡ withSection (decode b) i (fitted (sectionOf (decode b) i) n (sectionOf (decode b) i .free))
   unfolding sectionFrom
   edited-fixtures n fits h =
-      let same = edited-same 2 b (fixturesPlace i) n fits in
+      let same = edited-same 2 b (fixturesPlace (versionAt b) i) n fits in
       fitted-changed same refl (omega arith) ∙
-      rw (edited-field 2 b (fixturesPlace i) n fits h, field-kept same 2 (freePlace i) (λ k l c d. omega arith), section-in)
+      rw (edited-field 2 b (fixturesPlace (versionAt b) i) n fits h, field-kept same 2 (freePlace (versionAt b) i) (λ k l c d. omega arith), section-in)
 
-  pub edited-free : (n : ℕ) → freePlace i + 2 ≤ length b → n < 65536 →
-      decode (edited 2 b (freePlace i) n) ≡ withSection (decode b) i (fitted (sectionOf (decode b) i) (sectionOf (decode b) i .fixtures) n)
+  pub edited-free : (n : ℕ) → freePlace (versionAt b) i + 2 ≤ length b → n < 65536 →
+      decode (edited 2 b (freePlace (versionAt b) i) n) ≡ withSection (decode b) i (fitted (sectionOf (decode b) i) (sectionOf (decode b) i .fixtures) n)
   unfolding sectionFrom
   edited-free n fits h =
-      let same = edited-same 2 b (freePlace i) n fits in
+      let same = edited-same 2 b (freePlace (versionAt b) i) n fits in
       fitted-changed same refl (omega arith) ∙
-      rw (edited-field 2 b (freePlace i) n fits h, field-kept same 2 (fixturesPlace i) (λ k l c d. omega arith), section-in)
+      rw (edited-field 2 b (freePlace (versionAt b) i) n fits h, field-kept same 2 (fixturesPlace (versionAt b) i) (λ k l c d. omega arith), section-in)
 
 -- both, one after the other
 pub edited-end : (b : List ℕ) (i : ℕ) → 0 < i → i ≤ byteAt b 6 → byteAt b 6 ≤ 63 → (fixtures free : ℕ) →
-    freePlace i + 2 ≤ length b → fixtures < 65536 → free < 65536 →
-    decode (edited 2 (edited 2 b (fixturesPlace i) fixtures) (freePlace i) free) ≡ withSection (decode b) i (fitted (sectionOf (decode b) i) fixtures free)
+    freePlace (versionAt b) i + 2 ≤ length b → fixtures < 65536 → free < 65536 →
+    decode (edited 2 (edited 2 b (fixturesPlace (versionAt b) i) fixtures) (freePlace (versionAt b) i) free) ≡ withSection (decode b) i (fitted (sectionOf (decode b) i) fixtures free)
 unfolding withSection fitted
 edited-end b i low high few fixtures free fits h k =
-    let first = edited-same 2 b (fixturesPlace i) fixtures (omega arith) in
+    let start = from-in (versionAt b) in
+    let first = edited-same 2 b (fixturesPlace (versionAt b) i) fixtures (omega arith) in
     let count = first .bytes 6 (λ c d. omega arith) in
+    let version = first .bytes 4 (λ c d. omega arith) in
     let job = decode b in
-    edited-free (edited 2 b (fixturesPlace i) fixtures) i low (rw count high) (rw count few) free (rw (first .long) fits) k ∙
+    (rw version at
+    (edited-free (edited 2 b (fixturesPlace (versionAt b) i) fixtures) i low (rw count high) (rw count few) free (rw (version, first .long) fits) k)) ∙
     rw (
       edited-fixtures b i low high few fixtures (omega arith) h,
       getD-set-same (job .sections) i (fitted (sectionOf job i) fixtures (sectionOf job i .free)) blankSection (within b i (omega arith)),

@@ -1,3 +1,4 @@
 pub mod Lengths
+pub mod Service
 pub mod RoundTrip
 pub mod Edited

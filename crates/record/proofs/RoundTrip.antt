@@ -1,15 +1,19 @@
 -- A record read and written again has the same bytes, and fields written and read again are the same fields.
 -- Assumes nothing.
-use mathlib.Core.Path.{_≡_, sym, ap, _∙_}
+use mathlib.Core.Path.{_≡_, refl, sym, ap, _∙_}
+use mathlib.Core.Logic.{⊎-elim}
 use mathlib.Core.List.{List, [], _∷_, _++_, append-assoc, append-nil}
 use Prim.Native.Nat.{ℕ, _+_, _-_, _*_, _≤_, _<_}
 use native.Mathlib.Omega.{arith}
 use native.Mathlib.Nat.{add-zero}
-use lib.ListN.{length, getD, length-append}
+use lib.ListN.{length, getD}
+use lib.Seq.{getD-append-add}
+use borrow.Author.Tests.{eq-eqb, ne-eqb}
 use Rattle.basis.specs.Range.{concatTo}
 use Rattle.basis.specs.Slots.{tabulate}
 use Rattle.basis.specs.Part.{part}
-use Rattle.basis.proofs.Part.{part-cons, part-next, part-then, part-all, part-at}
+use Rattle.basis.proofs.Split.{eq-or-ne}
+use Rattle.basis.proofs.Part.{part-cons, part-next, part-then, part-all, part-at, part-right}
 use Rattle.basis.proofs.Concat.{concat-ext, concat-within, parts-concat}
 use Rattle.basis.proofs.Slots.{tabulate-at, tabulated, slots-in, slots-ext}
 use Rattle.wire.specs.Wire.{byteAt, beAt, bytesOf, bitsOf}
@@ -18,23 +22,24 @@ use Rattle.wire.proofs.Signed.{bits-signed, signed-bits, bits-lt}
 use Rattle.fields.specs.declared.Section.{Section}
 use Rattle.fields.specs.declared.Header.{Header}
 use Rattle.fields.specs.declared.Job.{Job}
-use Rattle.fields.specs.Fields.{countOf, blankSection, sectionOf, residentsOf}
-use Rattle.record.specs.Record.{lengthOf, placeOf, headerAt, residentsAt, sectionFrom, sectionAt, decode, headerBytes, sectionBytes, residentsBytes, sectionsBytes, encode, kept, SectionFits, HeadFits, JobFits}
-use Rattle.record.proofs.Lengths.{head-length, section-length, residents-length}
+use Rattle.fields.specs.Fields.{versionOf, countOf, blankSection, sectionOf, residentsOf}
+use Rattle.record.specs.Record.{sectionsFrom, lengthOf, placeOf, versionAt, serviceAt, headerAt, residentsAt, sectionFrom, sectionAt, decode, headerBytes, sectionBytes, residentsBytes, serviceBytes, sectionsBytes, encode, kept, SectionFits, HeadFits, JobFits}
+use Rattle.record.proofs.Service.{service-two, service-other}
+use Rattle.record.proofs.Lengths.{from-in, from-two, from-other, head-length, section-length, front, front-length, before, before-length, encode-front, encode-parts}
 
 module _ (b : List ℕ) (byte : (k : ℕ) → byteAt b k < 256) where
-  -- the bytes of the fields that were read are the bytes read: the head, a section, the residents and the sections
-  head-again : beAt 4 b 0 ≡ length b → byteAt b 4 ≡ 1 → length b ≡ lengthOf (byteAt b 6) → headerBytes (headerAt b) ≡ part b 0 16
+  -- the bytes of the fields that were read are the bytes read: the head, a section, the residents, the service and the sections
+  head-again : beAt 4 b 0 ≡ length b → length b ≡ lengthOf (versionAt b) (byteAt b 6) → headerBytes (headerAt b) ≡ part b 0 16
   unfolding headerBytes headerAt
-  head-again long one size =
-      let n : lengthOf (byteAt b 6) ≡ beAt 4 b 0 = sym (long ∙ size) in
-      let four : part b 4 12 ≡ 1 ∷ byteAt b 5 ∷ byteAt b 6 ∷ byteAt b 7 ∷ part b 8 8 =
+  head-again long size =
+      let from = from-in (versionAt b) in
+      let n : lengthOf (versionAt b) (byteAt b 6) ≡ beAt 4 b 0 = sym (long ∙ size) in
+      let four : part b 4 12 ≡ versionAt b ∷ byteAt b 5 ∷ byteAt b 6 ∷ byteAt b 7 ∷ part b 8 8 =
       rw (
         part-cons b 4 11 (omega arith),
         part-cons b 5 10 (omega arith),
         part-cons b 6 9 (omega arith),
         part-cons b 7 8 (omega arith),
-        one,
       ) in
       rw (
         n,
@@ -75,38 +80,58 @@ module _ (b : List ℕ) (byte : (k : ℕ) → byteAt b k < 256) where
       bytes-be 2 b (16 + 2 * (kind - 1)) byte (omega arith)) ∙
       parts-concat b 16 2 12
 
-  sections-again : byteAt b 6 ≤ 63 → length b ≡ lengthOf (byteAt b 6) → sectionsBytes (decode b) ≡ part b 40 (10 * byteAt b 6)
+  service-again : sectionsFrom (versionAt b) ≤ length b → serviceBytes (headerAt b) ≡ part b 40 (sectionsFrom (versionAt b) - 40)
+  unfolding serviceBytes headerAt serviceAt
+  service-again long =
+      ⊎-elim
+      (λ (e : versionAt b ≡ 2).
+      let from = from-two e in
+      let one : sectionsFrom (versionAt b) - 40 ≡ 1 = omega arith in
+      rw (eq-eqb (versionAt b) 2 e, one) (sym (part-cons b 40 0 (omega arith))))
+      (λ (n : versionAt b ≡ 2 → ⊥).
+      let from = from-other n in
+      let none : sectionsFrom (versionAt b) - 40 ≡ 0 = omega arith in
+      rw (ne-eqb (versionAt b) 2 n, none))
+      (eq-or-ne (versionAt b) 2)
+
+  sections-again : byteAt b 6 ≤ 63 → length b ≡ lengthOf (versionAt b) (byteAt b 6) →
+      sectionsBytes (decode b) ≡ part b (sectionsFrom (versionAt b)) (10 * byteAt b 6)
   unfolding sectionsBytes decode headerAt
   sections-again few size =
-      concat-ext (byteAt b 6) (λ i. sectionBytes (sectionOf (decode b) i)) (λ i. part b (placeOf i) 10)
+      concat-ext (byteAt b 6) (λ i. sectionBytes (sectionOf (decode b) i)) (λ i. part b (placeOf (versionAt b) i) 10)
       (λ i a c. ap sectionBytes (slots-in 64 1 (byteAt b 6 + 1) blankSection (sectionAt b) i blankSection (omega arith) (omega arith) (omega arith)) ∙
-      section-again (placeOf i) (omega arith)) ∙
-      parts-concat b 40 10 (byteAt b 6)
+      section-again (placeOf (versionAt b) i) (omega arith)) ∙
+      parts-concat b (sectionsFrom (versionAt b)) 10 (byteAt b 6)
 
 -- read and written again
-pub encode-decode : (b : List ℕ) → ((k : ℕ) → byteAt b k < 256) → byteAt b 6 ≤ 63 → beAt 4 b 0 ≡ length b → byteAt b 4 ≡ 1 →
-    length b ≡ lengthOf (byteAt b 6) → encode (decode b) ≡ b
+pub encode-decode : (b : List ℕ) → ((k : ℕ) → byteAt b k < 256) → byteAt b 6 ≤ 63 → beAt 4 b 0 ≡ length b →
+    length b ≡ lengthOf (versionAt b) (byteAt b 6) → encode (decode b) ≡ b
 unfolding encode decode
-encode-decode b byte few long one size =
-    let all : 16 + (24 + 10 * byteAt b 6) ≡ length b = omega arith in
+encode-decode b byte few long size =
+    let from = from-in (versionAt b) in
+    let service = sectionsFrom (versionAt b) - 40 in
+    let sections = 10 * byteAt b 6 in
+    let all : 16 + (24 + (service + sections)) ≡ length b = omega arith in
     rw (
-      head-again b byte long one size,
+      head-again b byte long size,
       residents-again b byte (omega arith),
+      service-again b byte (omega arith),
       sections-again b byte few size,
-      part-next b 16 24 (10 * byteAt b 6),
-      part-next b 0 16 (24 + 10 * byteAt b 6),
+      part-then b 40 service (sectionsFrom (versionAt b)) sections (omega arith),
+      part-next b 16 24 (service + sections),
+      part-next b 0 16 (24 + (service + sections)),
       all,
     ) (part-all b)
 
--- the head's fields, read from the front of a record
-head-read : (h : Header) (rest : List ℕ) → HeadFits h → headerAt (headerBytes h ++ rest) ≡ h
+-- the head's fields, read from the front of a record; the service stands further on
+head-read : (h : Header) (rest : List ℕ) → HeadFits h → serviceAt (headerBytes h ++ rest) ≡ h .service → headerAt (headerBytes h ++ rest) ≡ h
 unfolding headerAt headerBytes bytesOf beAt
-head-read h rest t =
+head-read h rest t service =
     let meter : beAt 2 (headerBytes h ++ rest) 8 ≡ h .meter = omega arith in
     let guaranteed : beAt 2 (headerBytes h ++ rest) 10 ≡ h .guaranteed = omega arith in
     let delivered : beAt 2 (headerBytes h ++ rest) 12 ≡ h .delivered = omega arith in
     let limit : beAt 2 (headerBytes h ++ rest) 14 ≡ h .limit = omega arith in
-    rw (meter, guaranteed, delivered, limit)
+    rw (service, meter, guaranteed, delivered, limit)
 
 -- a section's fields, read from its ten bytes
 section-read : (s : Section) → SectionFits s → sectionFrom (sectionBytes s) 0 ≡ s
@@ -140,7 +165,7 @@ residents-part job c h =
     let e : c + 1 - 1 ≡ c = omega arith in
     rw e at
     (concat-within 2 (λ kind. bytesOf 2 (residentsOf job kind)) (λ kind. bytes-length 2 (residentsOf job kind)) 12 (c + 1)
-    (headerBytes (job .header)) (sectionsBytes job) 16 (head-length (job .header)) (omega arith) (omega arith))
+    (headerBytes (job .header)) (serviceBytes (job .header) ++ sectionsBytes job) 16 (head-length (job .header)) (omega arith) (omega arith))
 
 residents-read : (job : Job) → JobFits job → tabulate 12 (residentsAt (encode job)) ≡ job .residents
 unfolding residentsAt
@@ -148,26 +173,45 @@ residents-read job t =
     sym (tabulated 12 (residentsAt (encode job)) (job .residents) 0 (t .kinds)
     (λ c h. sym (be-written 2 (encode job) (16 + 2 * c) (getD (job .residents) c 0) (t .residents c h) (residents-part job c h))))
 
-sections-part : (job : Job) (i : ℕ) → 0 < i → i ≤ countOf job → part (encode job) (placeOf i) 10 ≡ sectionBytes (sectionOf job i)
-unfolding encode sectionsBytes
+sections-part : (job : Job) (i : ℕ) → 0 < i → i ≤ countOf job →
+    part (encode job) (placeOf (versionOf job) i) 10 ≡ sectionBytes (sectionOf job i)
+unfolding sectionsBytes
 sections-part job i a h =
-    let before : List ℕ = headerBytes (job .header) ++ residentsBytes job in
-    let wide : length before ≡ 40 =
-    rw (length-append (headerBytes (job .header)) (residentsBytes job), head-length (job .header), residents-length job) in
     let row : List ℕ = concatTo (countOf job) (λ j. sectionBytes (sectionOf job j)) in
-    let split : headerBytes (job .header) ++ (residentsBytes job ++ row) ≡ before ++ (row ++ []) =
-    rw (append-nil row) (sym (append-assoc (headerBytes (job .header)) (residentsBytes job) row)) in
+    let split : encode job ≡ before job ++ (row ++ []) = rw (append-nil row) (encode-parts job) in
     rw split
     (concat-within 10 (λ j. sectionBytes (sectionOf job j)) (λ j. section-length (sectionOf job j)) (countOf job) i
-    before [] 40 wide a h)
+    (before job) [] (sectionsFrom (versionOf job)) (before-length job) a h)
+
+version-read : (job : Job) → versionAt (encode job) ≡ versionOf job
+unfolding encode headerBytes bytesOf
+version-read job = refl
 
 sections-read : (job : Job) → JobFits job → (i : ℕ) → 0 < i → i ≤ countOf job → sectionAt (encode job) i ≡ sectionOf job i
 sections-read job t i a h =
-    sym (section-part (encode job) (placeOf i)) ∙ rw (sections-part job i a h) (section-read (sectionOf job i) (t .sections i a h))
+    ap (λ v. sectionFrom (encode job) (placeOf v i)) (version-read job) ∙
+    sym (section-part (encode job) (placeOf (versionOf job) i)) ∙
+    rw (sections-part job i a h) (section-read (sectionOf job i) (t .sections i a h))
+
+-- byte 40 is the service in version 2
+service-byte : (job : Job) → versionOf job ≡ 2 → byteAt (encode job) 40 ≡ job .header .service
+unfolding serviceBytes
+service-byte job e =
+    let rest : List ℕ = serviceBytes (job .header) ++ sectionsBytes job in
+    let first : byteAt (front job ++ rest) 40 ≡ byteAt rest 0 = rw (front-length job) at (getD-append-add (front job) rest 0 0) in
+    rw (encode-front job) (first ∙ rw (eq-eqb (versionOf job) 2 e))
+
+service-read : (job : Job) → JobFits job → serviceAt (encode job) ≡ job .header .service
+service-read job t =
+    ⊎-elim
+    (λ (e : versionOf job ≡ 2). service-two (encode job) (version-read job ∙ e) ∙ service-byte job e)
+    (λ (n : versionOf job ≡ 2 → ⊥). service-other (encode job) (λ e. n (sym (version-read job) ∙ e)) ∙ sym (t .header .total n))
+    (eq-or-ne (versionOf job) 2)
 
 head-whole : (job : Job) → JobFits job → headerAt (encode job) ≡ job .header
 unfolding encode
-head-whole job t = head-read (job .header) (residentsBytes job ++ sectionsBytes job) (t .header)
+head-whole job t =
+    head-read (job .header) (residentsBytes job ++ (serviceBytes (job .header) ++ sectionsBytes job)) (t .header) (service-read job t)
 
 count-read : (job : Job) → JobFits job → byteAt (encode job) 6 ≡ countOf job
 unfolding headerAt

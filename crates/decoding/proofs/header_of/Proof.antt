@@ -1,4 +1,4 @@
--- `decoding::header_of` meets its contract.
+-- `decoding::header_of` meets its contract: each field at its place in the layout.
 -- Assumes nothing.
 use Rattle.record.specs.Record.{headerAt}
 use borrow.Author.Needs.{needs}
@@ -12,5 +12,5 @@ returns c = cc
 pub header-of-spec : {M : Type 1} → statement M
 header-of-spec =
     tie.close
-    (tie.spec (λ c. search needs) (λ c. search needs) (λ c. search needs) (λ c κs. search needs) (λ c κs. search needs)
-    (λ c κs. search needs) (λ c κs. search needs) returns)
+    (tie.spec (λ c. search needs) (λ c κs. search needs) (λ c. search needs) (λ c. search needs) (λ c. search needs) (λ c κs. search needs)
+    (λ c κs. search needs) (λ c κs. search needs) (λ c κs. search needs) returns)
