@@ -23,6 +23,8 @@ use Rattle.answer.specs.declared.Answer.the-variants.{
   MeterList,
   NoMeter,
   LossList,
+  NotHot,
+  HeatRange,
 }
 
 abbrev pub numberOf : Answer → ℕ
@@ -30,11 +32,11 @@ abbrev pub numberOf : Answer → ℕ
 numberOf Done = 0
 -- job under 40 bytes, or its length isn't the bytes lent
 numberOf JobLength = 1
--- version not 1
+-- version neither 1 nor 2
 numberOf JobVersion = 2
--- k, S, T, meter loss, G, H or limit out of range
+-- service, k, S, T, meter loss, G, H or limit out of range
 numberOf HeaderRange = 3
--- length isn't 40 + 10 × S
+-- length isn't 40 + 10 × S, or 41 + 10 × S in version 2
 numberOf SectionBytes = 4
 -- a section breaks its own fields' rules
 numberOf SectionRules = 5
@@ -66,3 +68,7 @@ numberOf MeterList = 17
 numberOf NoMeter = 18
 -- the losses aren't S long, or one is over 4,259,775 cm
 numberOf LossList = 19
+-- heat asked for a job that isn't hot
+numberOf NotHot = 20
+-- temperature or loss out of range
+numberOf HeatRange = 21

@@ -24,6 +24,8 @@ pub enum Answer {
     MeterList,
     NoMeter,
     LossList,
+    NotHot,
+    HeatRange,
 }
 
 // The number of the table; 0 for a result.
@@ -51,5 +53,7 @@ pub fn number(a: Answer) -> u32
         Answer::MeterList => 17,
         Answer::NoMeter => 18,
         Answer::LossList => 19,
+        Answer::NotHot => 20,
+        Answer::HeatRange => 21,
     }
 }

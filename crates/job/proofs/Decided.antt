@@ -12,8 +12,8 @@ use borrow.Author.Tests.{ltb-false, not-false}
 use Rattle.answer.specs.Checks.{firstNo, tooShort}
 use Rattle.answer.proofs.First.{Numbered, first-none, first-found, first-next, short-found, short-next, first-clear, first-after, first-before, first-split, numbered-append}
 use Rattle.fields.specs.declared.Job.{Job}
-use Rattle.fields.specs.Fields.{countOf}
-use Rattle.rules.specs.Rules.{headerOk, fieldChecks}
+use Rattle.fields.specs.Fields.{versionOf, countOf}
+use Rattle.rules.specs.Rules.{versionOk, headerOk, fieldChecks}
 use Rattle.record.specs.Record.{lengthOf, decode}
 use Rattle.job.proofs.Stages.{stage-first, stage-second, fields-given}
 use Rattle.job.specs.Calls.{shapeChecks, readChecks, readNo, fieldsAfter, readJob, writeChecks, writeNo, copyChecks, copyNo}
@@ -65,42 +65,50 @@ module _ (b : List ℕ) (room : ℕ) where
   unfolding copyNo copyChecks readNo
   copy-room e = first-after (readChecks b) ((tooShort room (length b), 14) ∷ []) (read-numbered b) e
 
--- writing: 3, else 5 to 7, else 14
+-- writing: 2, else 3, else 5 to 7, else 14
 module _ (job : Job) (room : ℕ) where
-  pub write-range : headerOk (job .header) ≡ false → writeNo job room ≡ 3
+  pub write-version : versionOk (job .header) ≡ false → writeNo job room ≡ 2
   unfolding writeNo writeChecks
-  write-range e = first-found 3 _ (rw e)
+  write-version e = first-found 2 _ (rw e)
 
-  module _ (head : headerOk (job .header) ≡ true) where
-    pub write-fields : (firstNo (fieldChecks job) ≡ 0 → ⊥) → writeNo job room ≡ firstNo (fieldChecks job)
+  module _ (version : versionOk (job .header) ≡ true) where
+    pub write-range : headerOk (job .header) ≡ false → writeNo job room ≡ 3
     unfolding writeNo writeChecks
-    write-fields n = first-next 3 _ (rw head) ∙ first-before (fieldChecks job) _ (fields-numbered job) n
+    write-range e = first-next 2 _ (rw version) ∙ first-found 3 _ (rw e)
 
-    module _ (fields : firstNo (fieldChecks job) ≡ 0) where
-      pub write-room : writeNo job room ≡ firstNo ((tooShort room (lengthOf (countOf job)), 14) ∷ [])
+    module _ (head : headerOk (job .header) ≡ true) where
+      pub write-fields : (firstNo (fieldChecks job) ≡ 0 → ⊥) → writeNo job room ≡ firstNo (fieldChecks job)
       unfolding writeNo writeChecks
-      write-room = first-next 3 _ (rw head) ∙ first-after (fieldChecks job) _ (fields-numbered job) fields
+      write-fields n = first-next 2 _ (rw version) ∙ first-next 3 _ (rw head) ∙ first-before (fieldChecks job) _ (fields-numbered job) n
 
-      pub write-short : room < lengthOf (countOf job) → writeNo job room ≡ 14
-      write-short h = write-room ∙ short-found room (lengthOf (countOf job)) [] h
+      module _ (fields : firstNo (fieldChecks job) ≡ 0) where
+        pub write-room : writeNo job room ≡ firstNo ((tooShort room (lengthOf (versionOf job) (countOf job)), 14) ∷ [])
+        unfolding writeNo writeChecks
+        write-room = first-next 2 _ (rw version) ∙ first-next 3 _ (rw head) ∙ first-after (fieldChecks job) _ (fields-numbered job) fields
 
-      pub write-done : lengthOf (countOf job) ≤ room → writeNo job room ≡ 0
-      write-done h = write-room ∙ short-next room (lengthOf (countOf job)) [] h ∙ first-none
+        pub write-short : room < lengthOf (versionOf job) (countOf job) → writeNo job room ≡ 14
+        write-short h = write-room ∙ short-found room (lengthOf (versionOf job) (countOf job)) [] h
+
+        pub write-done : lengthOf (versionOf job) (countOf job) ≤ room → writeNo job room ≡ 0
+        write-done h = write-room ∙ short-next room (lengthOf (versionOf job) (countOf job)) [] h ∙ first-none
 
 -- what holds where the writer finds nothing
 pub record Writable (job : Job) (room : ℕ) : Type 0 where
+  pub version : versionOk (job .header) ≡ true
   pub header : headerOk (job .header) ≡ true
   pub fields : firstNo (fieldChecks job) ≡ 0
-  pub fits : lengthOf (countOf job) ≤ room
+  pub fits : lengthOf (versionOf job) (countOf job) ≤ room
 
 pub writable : (job : Job) (room : ℕ) → writeNo job room ≡ 0 → Writable job room
 unfolding writeNo writeChecks
 writable job room e =
-    let three = first-clear (not (headerOk (job .header))) 3 _ (omega arith) e in
+    let two = first-clear (not (versionOk (job .header))) 2 _ (omega arith) e in
+    let three = first-clear (not (headerOk (job .header))) 3 _ (omega arith) (two .1) in
     let rest = first-split (fieldChecks job) _ (fields-numbered job) (three .1) in
-    let last = first-clear (ltb room (lengthOf (countOf job))) 14 [] (omega arith) (rest .1) in
+    let last = first-clear (ltb room (lengthOf (versionOf job) (countOf job))) 14 [] (omega arith) (rest .1) in
     record {
+      version = not-false (versionOk (job .header)) (two .0);
       header = not-false (headerOk (job .header)) (three .0);
       fields = rest .0;
-      fits = ltb-false room (lengthOf (countOf job)) (last .0);
+      fits = ltb-false room (lengthOf (versionOf job) (countOf job)) (last .0);
     }

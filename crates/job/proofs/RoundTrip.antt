@@ -13,15 +13,15 @@ use Rattle.answer.proofs.First.{first-none, short-next}
 use Rattle.wire.specs.Wire.{byteAt, beAt, bytesOf}
 use Rattle.wire.proofs.Fields.{be-bytes}
 use Rattle.fields.specs.declared.Job.{Job}
-use Rattle.fields.specs.Fields.{blankSection, countOf, sectionOf}
-use Rattle.rules.specs.Rules.{headerOk, fieldChecks}
-use Rattle.rules.proofs.HeaderBounds.{HeaderIn, header-in}
+use Rattle.fields.specs.Fields.{blankSection, versionOf, countOf, sectionOf}
+use Rattle.rules.specs.Rules.{versionOk, headerOk, fieldChecks}
+use Rattle.rules.proofs.HeaderBounds.{version-in, HeaderIn, header-in}
 use Rattle.rules.proofs.SectionBounds.{SectionIn}
 use Rattle.rules.proofs.Elevation.{elevation-small}
 use Rattle.rules.proofs.Kept.{sections-in, kept-of}
 use Rattle.rules.proofs.Same.{checks-same}
-use Rattle.record.specs.Record.{lengthOf, headerAt, headerBytes, decode, encode, kept, SectionFits, JobFits}
-use Rattle.record.proofs.Lengths.{encode-length}
+use Rattle.record.specs.Record.{lengthOf, versionAt, headerAt, headerBytes, decode, encode, kept, SectionFits, JobFits}
+use Rattle.record.proofs.Lengths.{from-in, encode-length}
 use Rattle.record.proofs.RoundTrip.{encode-decode, decode-encode}
 use Rattle.job.specs.Calls.{readNo, readJob, writeNo, copyNo, WrittenRead, SameFields}
 use Rattle.job.proofs.Shape.{Shaped, shaped, few, well-formed}
@@ -32,11 +32,15 @@ module _ (b : List ℕ) (accepted : readNo b ≡ 0) where
   read-shaped : Shaped b
   read-shaped = shaped b (readable b accepted .shape)
 
+  pub read-version : versionOk (decode b .header) ≡ true
+  unfolding decode
+  read-version = read-shaped .version
+
   pub read-header : headerOk (decode b .header) ≡ true
   unfolding decode
   read-header = read-shaped .header
 
-  read-length : lengthOf (countOf (decode b)) ≡ length b
+  read-length : lengthOf (versionOf (decode b)) (countOf (decode b)) ≡ length b
   unfolding decode headerAt
   read-length = sym (read-shaped .whole)
 
@@ -46,11 +50,11 @@ module _ (b : List ℕ) (accepted : readNo b ≡ 0) where
   -- it has the same bytes
   pub same-bytes : ((k : ℕ) → byteAt b k < 256) → encode (readJob b) ≡ b
   same-bytes byte =
-      let s : Shaped b = read-shaped in rw fields-read (encode-decode b byte (few s) (s .stated) (s .version) (s .whole))
+      let s : Shaped b = read-shaped in rw fields-read (encode-decode b byte (few s) (s .stated) (s .whole))
 
   -- the writer gives 14 or nothing, as the room is
   pub rewritten : (room : ℕ) → writeNo (readJob b) room ≡ firstNo ((tooShort room (length b), 14) ∷ [])
-  rewritten room = rw fields-read (write-room (decode b) room read-header (readable b accepted .fields) ∙ rw read-length)
+  rewritten room = rw fields-read (write-room (decode b) room read-version read-header (readable b accepted .fields) ∙ rw read-length)
 
   -- and copying gives what the writer gives
   pub copied : (room : ℕ) → copyNo b room ≡ writeNo (readJob b) room
@@ -107,8 +111,10 @@ module _ (job : Job) (room : ℕ) (done : writeNo job room ≡ 0) where
     fits : JobFits job
     fits =
         let h : HeaderIn (job .header) = bounds in
+        let v = version-in (job .header) (may .version) in
+        let total : (versionOf job ≡ 2 → ⊥) → job .header .service ≡ 0 = λ n. h .service .total (omega arith) in
         record {
-          header = record { meter = omega arith; guaranteed = omega arith; delivered = omega arith; limit = omega arith };
+          header = record { total = total; meter = omega arith; guaranteed = omega arith; delivered = omega arith; limit = omega arith };
           kinds = sixteen .kinds;
           residents = sixteen .residents;
           sections = section-fits;
@@ -128,19 +134,21 @@ module _ (job : Job) (room : ℕ) (done : writeNo job room ≡ 0) where
     unfolding encode headerBytes
     stated-again =
         let few : countOf job ≤ 63 = few-again in
-        rw (encode-length job, append-assoc (bytesOf 4 (lengthOf (countOf job))) _ _) (be-bytes 4 (lengthOf (countOf job)) _ (omega arith))
+        let from = from-in (versionOf job) in
+        rw (encode-length job, append-assoc (bytesOf 4 (lengthOf (versionOf job) (countOf job))) _ _)
+        (be-bytes 4 (lengthOf (versionOf job) (countOf job)) _ (omega arith))
 
-    version-again : byteAt (encode job) 4 ≡ 1
-    unfolding encode headerBytes bytesOf
-    version-again = refl
+    version-again : versionOk (headerAt (encode job)) ≡ true
+    version-again = rw head-again (may .version)
 
-    shape-again : length (encode job) ≡ lengthOf (byteAt (encode job) 6)
+    shape-again : length (encode job) ≡ lengthOf (versionAt (encode job)) (byteAt (encode job) 6)
     unfolding encode headerBytes bytesOf
     shape-again = encode-length job
 
     -- it is accepted, with the fields that a record keeps
     pub accepted-again : readNo (encode job) ≡ 0
     accepted-again =
+        let from = from-in (versionOf job) in
         let long : 40 ≤ length (encode job) = rw (encode-length job) (omega arith) in
         let head : headerOk (headerAt (encode job)) ≡ true = rw head-again (may .header) in
         read-fields (encode job) (well-formed (encode job) long stated-again version-again head shape-again) .0 ∙ fields-again

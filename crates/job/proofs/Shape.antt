@@ -11,9 +11,9 @@ use borrow.Author.Tests.{lt-ltb, le-ltb, ltb-false, eq-eqb, ne-eqb, eqb-true, no
 use Rattle.answer.specs.Checks.{firstNo}
 use Rattle.answer.proofs.First.{first-clear}
 use Rattle.wire.specs.Wire.{byteAt, beAt}
-use Rattle.rules.specs.Rules.{headerOk}
+use Rattle.rules.specs.Rules.{versionOk, headerOk}
 use Rattle.rules.proofs.HeaderBounds.{header-in}
-use Rattle.record.specs.Record.{lengthOf, headerAt}
+use Rattle.record.specs.Record.{lengthOf, versionAt, headerAt}
 use Rattle.job.specs.Calls.{wrongLength, wrongVersion, wrongCount, shapeChecks}
 
 -- the number that the code gives, each test after those before it
@@ -32,35 +32,35 @@ module _ (b : List ℕ) where
       unfolding wrongLength
       right-length = rw (le-ltb (length b) 40 long, eq-eqb (beAt 4 b 0) (length b) stated)
 
-      pub other-version : (byteAt b 4 ≡ 1 → ⊥) → firstNo (shapeChecks b) ≡ 2
+      pub other-version : versionOk (headerAt b) ≡ false → firstNo (shapeChecks b) ≡ 2
       unfolding shapeChecks firstNo wrongVersion
-      other-version n = rw (right-length, ne-eqb (byteAt b 4) 1 n)
+      other-version e = rw (right-length, e)
 
-      module _ (version : byteAt b 4 ≡ 1) where
+      module _ (version : versionOk (headerAt b) ≡ true) where
         right-version : wrongVersion b ≡ false
         unfolding wrongVersion
-        right-version = rw (eq-eqb (byteAt b 4) 1 version)
+        right-version = rw version
 
         pub out-of-range : headerOk (headerAt b) ≡ false → firstNo (shapeChecks b) ≡ 3
         unfolding shapeChecks firstNo
         out-of-range e = rw (right-length, right-version, e)
 
         module _ (head : headerOk (headerAt b) ≡ true) where
-          pub other-count : (length b ≡ lengthOf (byteAt b 6) → ⊥) → firstNo (shapeChecks b) ≡ 4
+          pub other-count : (length b ≡ lengthOf (versionAt b) (byteAt b 6) → ⊥) → firstNo (shapeChecks b) ≡ 4
           unfolding shapeChecks firstNo wrongCount
-          other-count n = rw (right-length, right-version, head, ne-eqb (length b) (lengthOf (byteAt b 6)) n)
+          other-count n = rw (right-length, right-version, head, ne-eqb (length b) (lengthOf (versionAt b) (byteAt b 6)) n)
 
-          pub well-formed : length b ≡ lengthOf (byteAt b 6) → firstNo (shapeChecks b) ≡ 0
+          pub well-formed : length b ≡ lengthOf (versionAt b) (byteAt b 6) → firstNo (shapeChecks b) ≡ 0
           unfolding shapeChecks firstNo wrongCount
-          well-formed e = rw (right-length, right-version, head, eq-eqb (length b) (lengthOf (byteAt b 6)) e)
+          well-formed e = rw (right-length, right-version, head, eq-eqb (length b) (lengthOf (versionAt b) (byteAt b 6)) e)
 
 -- a record that 1 to 4 let pass
 pub record Shaped (b : List ℕ) : Type 0 where
   pub long : 40 ≤ length b
   pub stated : beAt 4 b 0 ≡ length b
-  pub version : byteAt b 4 ≡ 1
+  pub version : versionOk (headerAt b) ≡ true
   pub header : headerOk (headerAt b) ≡ true
-  pub whole : length b ≡ lengthOf (byteAt b 6)
+  pub whole : length b ≡ lengthOf (versionAt b) (byteAt b 6)
 
 neither : (s t : Bool) → (s || not t) ≡ false → (s ≡ false) × (t ≡ true)
 neither false t e = (refl, not-false t e)
@@ -77,9 +77,9 @@ shaped b e =
     record {
       long = ltb-false (length b) 40 (lengths .0);
       stated = eqb-true (beAt 4 b 0) (length b) (lengths .1);
-      version = eqb-true (byteAt b 4) 1 (not-false _ (two .0));
+      version = not-false (versionOk (headerAt b)) (two .0);
       header = not-false (headerOk (headerAt b)) (three .0);
-      whole = eqb-true (length b) (lengthOf (byteAt b 6)) (not-false _ (four .0));
+      whole = eqb-true (length b) (lengthOf (versionAt b) (byteAt b 6)) (not-false _ (four .0));
     }
 
 pub few : {b : List ℕ} → Shaped b → byteAt b 6 ≤ 63

@@ -11,7 +11,7 @@ use Rattle.basis.specs.Stored.{stored}
 use Rattle.basis.proofs.Stored.{stored-front, stored-length}
 use Rattle.answer.specs.Checks.{bufferAfter}
 use Rattle.fields.specs.declared.Job.{Job}
-use Rattle.fields.specs.Fields.{blankJob, countOf}
+use Rattle.fields.specs.Fields.{blankJob, versionOf, countOf}
 use Rattle.record.specs.Record.{lengthOf, encode, kept}
 use Rattle.record.proofs.Lengths.{encode-length}
 use Rattle.job.specs.Calls.{readNo, readJob, writeNo, WrittenRead}
@@ -31,17 +31,17 @@ module _ (job : Job) (out₀ : List ℕ) {out : List ℕ} {n : ℕ} (number : n 
     whole : out ≡ stored out₀ 0 (encode job)
     whole = buffer ∙ rw (eq-eqb n 0 taken)
 
-    pub long : lengthOf (countOf job) ≤ length out
+    pub long : lengthOf (versionOf job) (countOf job) ≤ length out
     long =
-        let room : lengthOf (countOf job) ≤ length out₀ = writable job (length out₀) done .fits in
+        let room : lengthOf (versionOf job) (countOf job) ≤ length out₀ = writable job (length out₀) done .fits in
         rw (whole, stored-length out₀ 0 (encode job) (rw (encode-length job) (omega (arith, room)))) room
 
-    front : take (lengthOf (countOf job)) out ≡ encode job
-    front = rw (whole, stored-front out₀ (encode job)) (take-at (encode job) _ (lengthOf (countOf job)) (encode-length job))
+    front : take (lengthOf (versionOf job) (countOf job)) out ≡ encode job
+    front = rw (whole, stored-front out₀ (encode job)) (take-at (encode job) _ (lengthOf (versionOf job) (countOf job)) (encode-length job))
 
     -- the record at the front, read
-    pub read-again : {m : ℕ} {again : Job} → SixteenBits job → m ≡ readNo (take (lengthOf (countOf job)) out) →
-        again ≡ readJob (take (lengthOf (countOf job)) out) → WrittenRead job out₀ out m again
+    pub read-again : {m : ℕ} {again : Job} → SixteenBits job → m ≡ readNo (take (lengthOf (versionOf job) (countOf job)) out) →
+        again ≡ readJob (take (lengthOf (versionOf job) (countOf job)) out) → WrittenRead job out₀ out m again
     read-again {m} {again} held a b =
         let none : m ≡ 0 = a ∙ rw front (accepted-again job (length out₀) done held) in
         let fields : again ≡ kept job = b ∙ rw front (same-fields job (length out₀) done held) in
