@@ -15,12 +15,13 @@ use Rattle.demand.specs.Demand.{demandChecks}
 use Rattle.catalogue.specs.Rules.{catChecks}
 use Rattle.acceptance.specs.Acceptance.{jobChecks, inputChecks}
 use Rattle.flow.specs.Calls.{flowNo, dutyNo}
+use Rattle.heating.specs.Calls.{heatNo}
 use Rattle.metering.specs.Calls.{meterNo}
 use Rattle.rating.specs.Calls.{sizedChecks, sizedNo}
 use Rattle.lent_losses.specs.Calls.{headsNo}
 use Rattle.choosing.specs.Calls.{chooseChecks, chooseNo, Chosen}
 use Rattle.order.specs.Promises.{Gives}
-use Rattle.demands.specs.Demand1.{Call, Read, Write, Copy, Flow, Duty, Meter, Rate, Losses, Heads, Choose, numbersOf, Among, Called, read, written, copied, flow-given, duty-given, meter-given, rated, losses-given, heads-given, chosen, Answered, Demand1}
+use Rattle.demands.specs.Demand1.{Call, Read, Write, Copy, Flow, Duty, Heat, Meter, Rate, Losses, Heads, Choose, numbersOf, Among, Called, read, written, copied, flow-given, duty-given, heat-given, meter-given, rated, losses-given, heads-given, chosen, Answered, Demand1}
 
 -- the numbers of a list of checks
 numbers : List (Bool × ℕ) → List ℕ
@@ -79,13 +80,14 @@ chosen-answered {b} {cat} {out₀} {work₀} {out} {work} {n} c =
 
 answered : {call : Call} {out₀ out work₀ work : List ℕ} {n : ℕ} → Called call out₀ out work₀ work n → Answered call out₀ out work₀ work n
 unfolding
-    numbers readNo writeNo writeChecks copyNo copyChecks flowNo dutyNo meterNo sizedNo sizedChecks headsNo
+    numbers readNo writeNo writeChecks copyNo copyChecks flowNo dutyNo heatNo meterNo sizedNo sizedChecks headsNo
     inputChecks jobChecks readChecks shapeChecks fieldChecks demandChecks catChecks
 answered (read b e) = checked Read (readChecks b) refl e (λ other. refl)
 answered (written job g) = gives-answered Write _ refl g
 answered (copied job g) = gives-answered Copy _ refl g
 answered (flow-given job g) = gives-answered Flow _ refl g
 answered (duty-given job g) = gives-answered Duty _ refl g
+answered (heat-given job t loss g) = gives-answered Heat _ refl g
 answered (meter-given job meters g) = gives-answered Meter _ refl g
 answered (rated job cat sizes g) = gives-answered Rate _ refl g
 answered (losses-given job cat sizes g) = gives-answered Losses _ refl g

@@ -12,19 +12,20 @@ use Rattle.fields.specs.declared.Job.{Job}
 use Rattle.record.specs.Record.{encode}
 use Rattle.job.specs.Calls.{readNo, writeNo}
 use Rattle.choosing.specs.Calls.{Chosen}
-use Rattle.order.specs.Promises.{Gives, Copied, FlowGiven, DutyGiven, MeterGiven, Rated, LossesGiven, HeadsGiven}
+use Rattle.order.specs.Promises.{Gives, Copied, FlowGiven, DutyGiven, HeatGiven, MeterGiven, Rated, LossesGiven, HeadsGiven}
 
 -- the reader and the writer of a record, and the exported calls
 pub data Call : Type 0 where
-  Read Write Copy Flow Duty Meter Rate Losses Heads Choose : Call
+  Read Write Copy Flow Duty Heat Meter Rate Losses Heads Choose : Call
 
 -- the numbers of the table, 17 and on of document 02, that a call can give, in the order of its checks
 abbrev pub numbersOf : Call → List ℕ
 numbersOf Read = 1 ∷ 2 ∷ 3 ∷ 4 ∷ 5 ∷ 6 ∷ 7 ∷ []
-numbersOf Write = 3 ∷ 5 ∷ 6 ∷ 7 ∷ 14 ∷ []
+numbersOf Write = 2 ∷ 3 ∷ 5 ∷ 6 ∷ 7 ∷ 14 ∷ []
 numbersOf Copy = 1 ∷ 2 ∷ 3 ∷ 4 ∷ 5 ∷ 6 ∷ 7 ∷ 14 ∷ []
 numbersOf Flow = 1 ∷ 2 ∷ 3 ∷ 4 ∷ 5 ∷ 6 ∷ 7 ∷ 8 ∷ 9 ∷ 14 ∷ []
 numbersOf Duty = 1 ∷ 2 ∷ 3 ∷ 4 ∷ 5 ∷ 6 ∷ 7 ∷ 8 ∷ 9 ∷ 14 ∷ []
+numbersOf Heat = 1 ∷ 2 ∷ 3 ∷ 4 ∷ 5 ∷ 6 ∷ 7 ∷ 8 ∷ 9 ∷ 20 ∷ 21 ∷ 14 ∷ []
 numbersOf Meter = 1 ∷ 2 ∷ 3 ∷ 4 ∷ 5 ∷ 6 ∷ 7 ∷ 8 ∷ 9 ∷ 17 ∷ 14 ∷ 18 ∷ []
 numbersOf Rate = 1 ∷ 2 ∷ 3 ∷ 4 ∷ 5 ∷ 6 ∷ 7 ∷ 8 ∷ 9 ∷ 10 ∷ 11 ∷ 12 ∷ 14 ∷ 13 ∷ []
 numbersOf Losses = 1 ∷ 2 ∷ 3 ∷ 4 ∷ 5 ∷ 6 ∷ 7 ∷ 8 ∷ 9 ∷ 10 ∷ 11 ∷ 12 ∷ 14 ∷ 13 ∷ []
@@ -43,6 +44,7 @@ pub data Called : Call → List ℕ → List ℕ → List ℕ → List ℕ → �
   copied : {out₀ out : List ℕ} {n : ℕ} (job : List ℕ) → Copied job out₀ out n → Called Copy out₀ out [] [] n
   flow-given : {out₀ out : List ℕ} {n : ℕ} (job : List ℕ) → FlowGiven job out₀ out n → Called Flow out₀ out [] [] n
   duty-given : {out₀ out : List ℕ} {n : ℕ} (job : List ℕ) → DutyGiven job out₀ out n → Called Duty out₀ out [] [] n
+  heat-given : {out₀ out : List ℕ} {n : ℕ} (job : List ℕ) (t loss : ℕ) → HeatGiven job t loss out₀ out n → Called Heat out₀ out [] [] n
   meter-given : {out₀ out : List ℕ} {n : ℕ} (job meters : List ℕ) → MeterGiven job meters out₀ out n → Called Meter out₀ out [] [] n
   rated : {out₀ out : List ℕ} {n : ℕ} (job cat sizes : List ℕ) → Rated job cat sizes out₀ out n → Called Rate out₀ out [] [] n
   losses-given : {out₀ out : List ℕ} {n : ℕ} (job cat sizes : List ℕ) → LossesGiven job cat sizes out₀ out n → Called Losses out₀ out [] [] n

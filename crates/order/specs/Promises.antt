@@ -8,6 +8,7 @@ use Rattle.answer.specs.Checks.{bufferAfter}
 use Rattle.record.specs.Record.{decode}
 use Rattle.job.specs.Calls.{copyNo}
 use Rattle.flow.specs.Calls.{flowNo, flowBytes, dutyNo, dutyBytes}
+use Rattle.heating.specs.Calls.{heatNo, heatBytes}
 use Rattle.metering.specs.Calls.{meterNo, meterBytes}
 use Rattle.rating.specs.Calls.{rateNo, rateBytes, lossesNo, lossesBytes}
 use Rattle.lent_losses.specs.Calls.{headsNo, lentBytes}
@@ -28,6 +29,10 @@ FlowGiven job out₀ out n = Gives (flowNo job (length out₀)) (flowBytes (deco
 -- duty: 1 to 9, 14, or the house's design flow
 abbrev pub DutyGiven : List ℕ → List ℕ → List ℕ → ℕ → Type 0
 DutyGiven job out₀ out n = Gives (dutyNo job (length out₀)) (dutyBytes (decode job)) out₀ out n
+
+-- heat: 1 to 9, 20, 21, 14, or the mean hour's and the greatest hour's heat flow
+abbrev pub HeatGiven : List ℕ → ℕ → ℕ → List ℕ → List ℕ → ℕ → Type 0
+HeatGiven job t loss out₀ out n = Gives (heatNo job t loss (length out₀)) (heatBytes (decode job) t loss) out₀ out n
 
 -- the meter: 1 to 9, 17, 14, 18, or the place of the meter that wins and the record with its loss
 abbrev pub MeterGiven : List ℕ → List ℕ → List ℕ → List ℕ → ℕ → Type 0

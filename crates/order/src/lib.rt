@@ -1,7 +1,7 @@
 // The exported calls, for the order office's Rust program: numbers and byte slices, each slice a pointer and then a length.
 // A result gives back 0, a refusal its number.
 ghost use Rattle.choosing.specs.Calls.{Chosen};
-ghost use Rattle.order.specs.Promises.{Copied, FlowGiven, DutyGiven, MeterGiven, Rated, LossesGiven, HeadsGiven};
+ghost use Rattle.order.specs.Promises.{Copied, FlowGiven, DutyGiven, HeatGiven, MeterGiven, Rated, LossesGiven, HeadsGiven};
 
 // Reads a record and writes it again: 1 to 7, 14, or the record's bytes.
 #[no_mangle]
@@ -25,6 +25,14 @@ pub extern "C" fn order_duty(job: &[u8], out: &mut [u8]) -> u32
     ensures { λ r. ⌜ DutyGiven (now (job .entry)) (now (out .entry)) (now (out .exit)) r ⌝ }
 {
     answer::number(flow::duty(job, out))
+}
+
+// The heat flows of a hot line, from cold water of t °C and with a loss in W: 1 to 9, 20, 21, 14, or eight bytes.
+#[no_mangle]
+pub extern "C" fn order_heat(job: &[u8], t: u32, loss: u32, out: &mut [u8]) -> u32
+    ensures { λ r. ⌜ HeatGiven (now (job .entry)) t loss (now (out .entry)) (now (out .exit)) r ⌝ }
+{
+    answer::number(heating::heat(job, t, loss, out))
 }
 
 // The meter that wins, and the job with its loss: 1 to 9, 17, 14, 18, or the place and the record.

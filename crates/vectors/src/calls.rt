@@ -60,6 +60,7 @@ fn call(
         b'a' => alpha(job),
         b'f' => flow(job, out),
         b'd' => duty(job, out),
+        b't' => heat(job, second, out),
         b'm' => meter(job, second, out),
         b'p' => rate(job, second, list, out),
         b'e' => losses(job, second, list, out),
@@ -91,6 +92,14 @@ fn flow(record: &[u8], out: &mut [u8]) {
 fn duty(record: &[u8], out: &mut [u8]) {
     let answer = flow::duty(record, out);
     print::given(answer, out);
+}
+
+// The temperature and the loss are four bytes each.
+fn heat(record: &[u8], asked: &[u8], out: &mut [u8]) {
+    if asked.len() == 8 {
+        let answer = heating::heat(record, wire::be32(asked, 0), wire::be32(asked, 4), out);
+        print::given(answer, out);
+    }
 }
 
 fn meter(record: &[u8], meters: &[u8], out: &mut [u8]) {

@@ -25,24 +25,37 @@ pub fn read(record: &[u8], out: &mut [u8]) {
 
 // Fields are written.
 pub fn write(raw: &[u8], out: &mut [u8]) {
-    if raw.len() <= 665 {
+    if 2 <= raw.len() && raw.len() <= 667 {
         written(job_of(raw), out);
     }
 }
 
-// The fields stand as in a record from byte 5 on, with up to 63 slots. All 63 are taken, whatever the number of sections says.
+// Version and service, and then the fields as in a record of version 1 from byte 5 on, with up to 63 slots. All 63 are taken, whatever
+// the number of sections says.
 fn job_of(raw: &[u8]) -> Job
-    requires { ⌜ length (now raw) ≤ 665 ⌝ }
+    requires { ⌜ (2 ≤ length (now raw)) × (length (now raw) ≤ 667) ⌝ }
 {
     let mut record = [0u8; 670];
-    wire::put(&mut record, 5, raw);
+    record[4] = 1;
+    wire::put(&mut record, 5, &raw[2..]);
     let head = decoding::header_of(&record);
     record[6] = 63;
     let all = decoding::job_of(&record);
     let residents = all.residents;
     let sections = all.sections;
+    let header = Header {
+        version: raw[0],
+        service: raw[1],
+        tenths: head.tenths,
+        sections: head.sections,
+        hours: head.hours,
+        meter: head.meter,
+        guaranteed: head.guaranteed,
+        delivered: head.delivered,
+        limit: head.limit,
+    };
     Job {
-        header: head,
+        header,
         residents,
         sections,
     }
@@ -63,6 +76,8 @@ fn fields(job: Job) {
 }
 
 fn head(h: Header) {
+    print::one(h.version);
+    print::one(h.service);
     print::one(h.tenths);
     print::one(h.sections);
     print::one(h.hours);
