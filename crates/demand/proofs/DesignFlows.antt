@@ -11,7 +11,7 @@ use Rattle.coefficient.specs.Alpha.{alphaOf}
 use Rattle.coefficient.proofs.Coefficient.{alpha-ceiling}
 use Rattle.demand.specs.Demand.{mOf, fixtureSumOf, averageFlowOf, flowOf, houseFlow, hourSumOf, hourlySumOf, hourOf, Valid}
 use Rattle.demand.proofs.Equations.{average-is, flow-is, hour-is}
-use Rattle.demand.proofs.Totals.{fixture-sum-le, hourly-sum-le, house-m-pos}
+use Rattle.demand.proofs.Totals.{fixture-sum-le, hourly-sum-le, house-m-pos, hour-sum-pos}
 use Rattle.demand.proofs.Taps.{one-tap-top}
 
 -- a sum of at most b times α
@@ -42,3 +42,6 @@ module _ (job : Job) where
 
   pub hour-product : (m : ℕ) → hourSumOf job ≤ 400000000 → hourlySumOf job * alphaOf m ≤ 11028000000000000000
   hour-product m h = alpha-product (hourlySumOf job) 120000000000 m (omega (arith, hourly-sum-le job))
+
+pub house-hour-top : {job : Job} → Valid job → hourOf job ≤ 137850
+house-hour-top {job} valid = hour-top job (hour-sum-pos valid)

@@ -1,4 +1,4 @@
--- Bounds of m, of the hour's sum of shares, and of the sums of share × Z and share × O.
+-- Bounds of m, of the hour's sum of shares, of the sums of share × Z and share × O, and of the day.
 -- Assumes nothing.
 use mathlib.Core.Path.{_≡_}
 use mathlib.Core.Bool.{false}
@@ -13,10 +13,11 @@ use Rattle.basis.proofs.Bools.{neither}
 use Rattle.basis.proofs.Sum.{sum-mono, sum-scale, sum-at}
 use Rattle.answer.proofs.First.{first-clear}
 use Rattle.fields.specs.declared.Job.{Job}
-use Rattle.fields.specs.Fields.{countOf}
+use Rattle.fields.specs.Fields.{serviceOf, countOf, residentsOf}
 use Rattle.tree.specs.Tree.{servedOf, houseOf}
 use Rattle.tree.proofs.Served.{served-le}
-use Rattle.demand.specs.Demand.{normAt, shareOf, mOf, fixtureSumOf, hourShareOf, hourSumOf, hourlySumOf}
+use Rattle.norms.proofs.Lines.{hot-days}
+use Rattle.demand.specs.Demand.{normAt, shareOf, mOf, fixtureSumOf, hourShareOf, hourSumOf, hourlySumOf, dayOf}
 use Rattle.demand.specs.Demand.{overSum, overProbability, demandChecks, Valid, Accepted}
 use Rattle.demand.proofs.Validity.{valid-rooted, residents-match}
 use Rattle.demand.proofs.Serving.{Serves, serves, house-serves}
@@ -42,6 +43,17 @@ module _ (job : Job) where
   hourly-sum-le =
       rw (hourly-is job, hour-sum-is job)
       (weighed 300 (hourShareOf job) (λ kind. normAt job kind .hourly) (λ kind p q. norm-at job kind p q .hourly .high))
+
+-- residents are of 16 bits
+module _ (job : Job) (r : (kind : ℕ) → 0 < kind → kind ≤ 12 → residentsOf job kind < 65536) where
+  pub day-le : dayOf job ≤ 65535 * sumTo 12 (λ kind. normAt job kind .day)
+  unfolding dayOf
+  day-le = weighed 65535 (λ kind. normAt job kind .day) (residentsOf job) (λ kind p q. omega (arith, r kind p q))
+
+  pub hot-day-top : serviceOf job ≡ 2 → dayOf job ≤ 66583560
+  hot-day-top hot =
+      let days : sumTo 12 (λ kind. normAt job kind .day) ≡ 1016 = rw hot hot-days in
+      omega (arith, day-le)
 
 module _ {job : Job} (r : Valid job) where
   pub section-m-le : (i : ℕ) → mOf job (servedOf job i) ≤ mOf job (houseOf job)

@@ -26,12 +26,12 @@ pub struct HourSums {
     pub weighted: u64,
 }
 
-// A kind's share of n of its fixtures, of which the house has so many, for a service. Most sections serve few kinds, and without fixtures nothing is
-// divided. Everything is multiplied before it is divided.
+// A kind's share of n of its fixtures, of which the house has so many, for a service. Most sections serve few kinds, and without
+// fixtures nothing is divided. Everything is multiplied before it is divided.
 fn share(service: u8, kind: usize, residents: u64, n: u64, house: u64) -> u64
     requires { ⌜ (1 ≤ kind) × (kind ≤ 12) × (residents < 65536) × (n ≤ house) × (house ≤ 4128705) ⌝ }
     ensures { λ r. ⌜ (r ≡ cond (eqb house 0) 0 (up (25000 * normOf service kind .hour * residents * n) (9 * normOf service kind .fixture * house)))
-        × (r ≤ 16105635843750000) ⌝ }
+        × (r ≤ 22547890181250000) ⌝ }
 {
     if n == 0 {
         return 0;

@@ -3,22 +3,23 @@
 use Prim.Native.Nat.{_-_, _*_, _≤_}
 use native.Mathlib.Omega.{arith}
 use Rattle.basis.proofs.Within.{Within}
-use Rattle.fields.specs.Fields.{residentsOf}
+use Rattle.fields.specs.Fields.{serviceOf, residentsOf}
 use Rattle.demand.specs.Demand.{normAt, dayOf}
 use Rattle.demand.proofs.Partial.{SoFar, sum-start, sum-turn, sum-end}
-use Rattle.demand.proofs.Tops.{day-top}
+use Rattle.demand.proofs.Tops.{norm-known, day-top}
 use borrow.Author.Needs.{needs}
 use Rattle.demand.proofs.hour.day_of.Statement.{statement}
 use Rattle.demand.proofs.hour.day_of.Tie as tie
 
 abbrev Inv-loop : tie.InvT-loop
-Inv-loop job day₀ kind₀ day kind = Within 1 13 kind × SoFar (λ k. normAt job k .day * residentsOf job k) 26214000 kind day
+Inv-loop job service day₀ kind₀ day kind = Within 1 13 kind × SoFar (λ k. normAt job k .day * residentsOf job k) 26214000 kind day
 
 abbrev μ-loop : tie.MeasureT-loop
-μ-loop job day₀ kind₀ day kind = 13 - kind
+μ-loop job service day₀ kind₀ day kind = 13 - kind
 
 top : (c : tie.After-long16 Inv-loop μ-loop) → c .before .before .norm-of .result .day * c .long16 .result ≤ 26214000
-top c = day-top (c .before .before .norm-of .ensures) (omega arith) (omega arith)
+top c =
+    day-top (norm-known (serviceOf (c .before .before .before .before .before .args .t1)) (c .before .before .norm-of .ensures) (omega arith)) (omega arith)
 
 loop-again : tie.Need-loop-again Inv-loop μ-loop
 loop-again c = (

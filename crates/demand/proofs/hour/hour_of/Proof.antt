@@ -7,7 +7,7 @@ use borrow.Author.Needs.{needs}
 use Rattle.demand.specs.Demand.{hourOf}
 use Rattle.demand.proofs.Totals.{hour-sum-pos, hour-sum-top}
 use Rattle.demand.proofs.Equations.{hour-is}
-use Rattle.demand.proofs.DesignFlows.{hour-product, hour-top}
+use Rattle.demand.proofs.DesignFlows.{hour-product, house-hour-top}
 use Rattle.demand.proofs.hour.hour_of.Statement.{statement}
 use Rattle.demand.proofs.hour.hour_of.Tie as tie
 
@@ -35,7 +35,7 @@ returns c = whole c
 cast-result : tie.Need-cast-result
 cast-result c =
     let start = c .before .before .before .before .before .before in
-    omega (arith, rw (← whole c) at (hour-top (start .args .job) (hour-sum-pos (start .pre .valid))))
+    omega (arith, rw (← whole c) at (house-hour-top (start .pre .valid)))
 
 pub hour-of-spec : {M : Type 1} → statement M
 hour-of-spec = tie.close (tie.spec (λ c κs. search needs) (λ c κs. search needs) (λ c. omega (arith, high (c .before))) (λ c κs. search needs) (λ c. search needs) (λ c. omega (arith, product (c .before))) (λ c. omega (arith, high (c .before .before .before))) (λ c κs. (omega (arith, low (c .before .before .before)), omega (arith, product (c .before), high (c .before .before .before)))) cast-result returns)

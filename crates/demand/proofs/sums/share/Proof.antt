@@ -7,17 +7,17 @@ use borrow.Author.Needs.{needs}
 use Rattle.norms.specs.Norms.{normOf}
 use Rattle.demand.proofs.Equations.{shareBy}
 use Rattle.demand.proofs.Shares.{by-zero}
-use Rattle.demand.proofs.Tops.{ShareFits, share-fits, share-top}
+use Rattle.demand.proofs.Tops.{norm-known, ShareFits, share-fits, share-top}
 use Rattle.demand.proofs.sums.share.Statement.{statement}
 use Rattle.demand.proofs.sums.share.Tie as tie
 
 fits : (c : tie.After-norm-of) →
     ShareFits (c .norm-of .result) (c .before .before .args .residents) (c .before .before .args .n) (c .before .before .args .house)
-fits c = share-fits (c .norm-of .ensures) (omega arith) (omega arith) (omega arith) (omega arith) (omega arith)
+fits c = share-fits (norm-known (c .before .before .args .service) (c .norm-of .ensures) (omega arith)) (omega arith) (omega arith) (omega arith) (omega arith)
 
 returns : tie.Need-returns
 unfolding shareBy
-returns c = let a = c .before .args in (rw (c .if1 .taken) (sym (by-zero (normOf 0 (a .kind)) (a .residents) (a .house))), omega arith)
+returns c = let a = c .before .args in (rw (c .if1 .taken) (sym (by-zero (normOf (a .service) (a .kind)) (a .residents) (a .house))), omega arith)
 
 -- the house has some where a section has some
 some : (c : tie.Else1) → c .before .args .house ≡ 0 → ⊥

@@ -8,11 +8,12 @@ use lib.Dec.{ltb}
 use Rattle.basis.specs.Range.{mostTo}
 use Rattle.basis.proofs.Within.{Within}
 use Rattle.basis.proofs.Most.{most-none}
+use Rattle.fields.specs.Fields.{serviceOf}
 use Rattle.tree.specs.Tree.{servedOf}
 use Rattle.demand.specs.Demand.{normAt, shareOf, mOf, fixtureSumOf, tapOf}
 use Rattle.demand.proofs.Cells.{KindCounts, kind-counts}
 use Rattle.demand.proofs.Partial.{SoFar, sum-start, sum-turn, sum-end, most-turn}
-use Rattle.demand.proofs.Tops.{fixture-top}
+use Rattle.demand.proofs.Tops.{norm-known, fixture-top}
 use Rattle.demand.proofs.Equations.{tap-is, one-tap-is}
 use Rattle.demand.proofs.Taps.{most-tap-top}
 use borrow.Author.Needs.{needs}
@@ -20,14 +21,14 @@ use Rattle.demand.proofs.sums.sums_of.Statement.{statement}
 use Rattle.demand.proofs.sums.sums_of.Tie as tie
 
 abbrev Inv-loop : tie.InvT-loop
-Inv-loop job counts i m₀ weighted₀ largest₀ kind₀ m weighted largest kind =
+Inv-loop job counts i service m₀ weighted₀ largest₀ kind₀ m weighted largest kind =
     Within 1 13 kind ×
-    SoFar (λ k. shareOf job (servedOf job i) k) 16105635843750000 kind m ×
-    SoFar (λ k. shareOf job (servedOf job i) k * normAt job k .fixture) 483169075312500000 kind weighted ×
+    SoFar (λ k. shareOf job (servedOf job i) k) 22547890181250000 kind m ×
+    SoFar (λ k. shareOf job (servedOf job i) k * normAt job k .fixture) 676436705437500000 kind weighted ×
     (largest ≡ mostTo (kind - 1) (tapOf job (servedOf job i)))
 
 abbrev μ-loop : tie.MeasureT-loop
-μ-loop job counts i m₀ weighted₀ largest₀ kind₀ m weighted largest kind = 13 - kind
+μ-loop job counts i service m₀ weighted₀ largest₀ kind₀ m weighted largest kind = 13 - kind
 
 known : (c : tie.In-loop Inv-loop μ-loop) →
     KindCounts (c .before .before .args .job) (c .before .before .args .counts .now) (c .before .before .args .i) (c .before .loop .kind)
@@ -44,8 +45,10 @@ is c =
     rw (← c .before .long16 .ensures .0, ← k .served, ← k .house, ← house .before .before .long32 .ensures .0, ← house .long322 .ensures .0)
     (c .share .ensures .0)
 
-fixture : (c : tie.After-norm-of Inv-loop μ-loop) → c .before .share .result * c .norm-of .result .fixture ≤ 483169075312500000
-fixture c = fixture-top (c .norm-of .ensures) (omega arith) (omega arith)
+fixture : (c : tie.After-norm-of Inv-loop μ-loop) → c .before .share .result * c .norm-of .result .fixture ≤ 676436705437500000
+fixture c =
+    let d = c .before .before .before .before .before .before .before .before in
+    fixture-top (norm-known (serviceOf (d .before .before .args .job)) (c .norm-of .ensures) (omega arith)) (omega arith)
 
 -- Z of this kind, where the section serves it
 tap-here : (c : tie.After-served-z Inv-loop μ-loop) →
