@@ -47,6 +47,7 @@ module _ (job : Job) (n : ℕ) where
       let i = header-in (job .header) ok in
       in-head (withMeter job n .header)
       (record {
+        service = i .service;
         tenths = i .tenths;
         sections = i .sections;
         hours = i .hours;
