@@ -1,12 +1,13 @@
 -- The numbers of the heat call, each check after those before it.
 -- Assumes nothing.
-use mathlib.Core.Path.{_≡_, _∙_}
+use mathlib.Core.Path.{_≡_, sym, _∙_}
 use mathlib.Core.Bool.{true, false}
 use mathlib.Core.List.{List, []}
 use Prim.Native.Nat.{ℕ, _≤_, _<_}
 use native.Mathlib.Omega.{arith}
+use lib.Dec.{leb}
 use borrow.Author.Tests.{leb-true, le-leb, eqb-true, eq-eqb, ne-eqb, not-false, ltb-false}
-use Rattle.basis.proofs.Bools.{left, right}
+use Rattle.basis.proofs.Bools.{left, right, never}
 use Rattle.answer.proofs.First.{first-none, first-found, first-next, short-found, short-next, first-clear, first-split}
 use Rattle.fields.specs.Fields.{serviceOf}
 use Rattle.record.specs.Record.{decode}
@@ -22,11 +23,15 @@ pub record HeatIn (t loss : ℕ) : Type 0 where
 
 pub heat-in : (t loss : ℕ) → heatOk t loss ≡ true → HeatIn t loss
 unfolding heatOk
-heat-in t loss e = record { cold = leb-true t 30 (left _ _ e); lost = leb-true loss 1000000 (right _ _ e) }
+heat-in t loss e =
+    record { cold = leb-true t 30 (left (leb t 30) (leb loss 1000000) e); lost = leb-true loss 1000000 (right (leb t 30) (leb loss 1000000) e) }
 
 pub in-heat : (t loss : ℕ) → HeatIn t loss → heatOk t loss ≡ true
 unfolding heatOk
 in-heat t loss h = rw (le-leb t 30 (h .cold), le-leb loss 1000000 (h .lost))
+
+pub heat-out : (t loss : ℕ) → (HeatIn t loss → ⊥) → false ≡ heatOk t loss
+heat-out t loss n = sym (never (heatOk t loss) (λ e. n (heat-in t loss e)))
 
 -- what holds where the call finds nothing
 pub record Clear (b : List ℕ) (t loss room : ℕ) : Type 0 where
