@@ -88,7 +88,7 @@ def services():
         refused("own case, version 2, total", 20, record=OWN_TOTAL),
         refused("own case, cold", 20, record=OWN_COLD),
         heated("own case, hot", 26_952, 153_392),
-        refused("own case, service 3", 3, record=serving(OWN, 3)),
+        heating("own case, service 3", 3, record=serving(OWN, 3), holds={3, 20}),
         # There byte 40 is a parent.
         heating("own case, version 1 with byte 40 = 2", 5, record=section(OWN, 1, parent=2),
                 holds={5, 20}),
