@@ -7,6 +7,7 @@ houses have no list was read from the model.
 """
 
 import functools
+import itertools
 import random
 
 import catalogue as catalogues
@@ -14,13 +15,13 @@ import choosing
 import heads
 import job
 import rating_vectors
-from edit import OWN, head, house, people, put, section
+from edit import OWN, head, house, kind_of, people, put, section, serving
 from flow_vectors import (BATHS_OVER_BASINS, CHILD_ABOVE, TAP_OVER_256, chain_of_kinds,
                           comb_of_kinds, end, flow_broken, halving_of_kinds, star_of_kinds)
-from houses import greedy, star
+from houses import OWN_COLD, OWN_HOT, OWN_TOTAL, SERVICES, greedy, star
 from rating_vectors import (ENDS_AT_299, ENDS_AT_300, GREEDY_SIZES, LEVEL, SIZE_1, SIZE_2, SIZES,
                             TAPPED, catalogue, low, pair, tree)
-from vector import Call, Parts, Vector, buffer_after, listed, room_of
+from vector import Call, Parts, Vector, buffer_after, in_total, listed, room_of
 
 FILL = 0x5a
 MOST_WORK = 1_792_256
@@ -457,6 +458,68 @@ def one_tap():
     ]
 
 
+# Hot and cold lines
+
+# Of the own case, as rating_vectors.py derives: hot size 1 requires head 938 at velocity 965 and
+# size 2 878, cold 922 at 890 and 873. By the total norms size 1 is over the limit.
+
+def services():
+    taps = {"record": serving(BATHS_OVER_BASINS, 2)}
+    return [
+        chosen("own case, total in version 2", 130_000, [2], record=OWN_TOTAL),
+        chosen("own case, total in version 2, H 921", 130_000, [2], record=head(OWN_TOTAL, H=921)),
+        refused("own case, total in version 2, H 920", 16, record=head(OWN_TOTAL, H=920)),
+        chosen("own case, cold", 90_000, [1], record=OWN_COLD),
+        chosen("own case, cold, H 922", 90_000, [1], record=head(OWN_COLD, H=922)),
+        chosen("own case, cold, H 921", 130_000, [2], record=head(OWN_COLD, H=921)),
+        chosen("own case, cold, H 873", 130_000, [2], record=head(OWN_COLD, H=873)),
+        refused("own case, cold, H 872", 16, record=head(OWN_COLD, H=872)),
+        chosen("own case, hot", 90_000, [1], record=OWN_HOT),
+        chosen("own case, hot, H 938", 90_000, [1], record=head(OWN_HOT, H=938)),
+        chosen("own case, hot, H 937", 130_000, [2], record=head(OWN_HOT, H=937)),
+        chosen("own case, hot, H 878", 130_000, [2], record=head(OWN_HOT, H=878)),
+        refused("own case, hot, H 877", 16, record=head(OWN_HOT, H=877)),
+        chosen("own case, hot, limit 965", 90_000, [1], record=head(OWN_HOT, limit=965)),
+        chosen("own case, hot, limit 964", 130_000, [2], record=head(OWN_HOT, limit=964)),
+        refused("own case, hot, limit 602", 16, record=head(OWN_HOT, limit=602)),
+        # Flows 200 and 100 ml/s.
+        chosen("one tap, hot: size 1 ends at 199", 40_000, [2, 1], sizes=ending_at(199), **taps),
+        chosen("one tap, hot: size 1 ends at 200", 20_000, [1, 1], sizes=ending_at(200), **taps),
+        chosen("one tap, hot: size 1 ends at 99", 60_000, [2, 2], sizes=ending_at(99), **taps),
+    ]
+
+
+def line_rooms():
+    """Room and workspace go by S and H: 8 x 2,201 is 17,608."""
+    return [
+        chosen("own case, hot, room 5", 90_000, [1], record=OWN_HOT, room=5),
+        chosen("own case, hot, room 9", 90_000, [1], record=OWN_HOT, room=9),
+        refused("own case, hot, room 4", 14, record=OWN_HOT, room=4),
+        chosen("own case, hot, 17608 bytes of workspace", 90_000, [1], record=OWN_HOT, work=17_608),
+        refused("own case, hot, 17607 bytes of workspace", 15, record=OWN_HOT, work=17_607),
+    ] + [each for fill in FILLS for each in [
+        chosen(f"own case, hot, filled with {fill}", 90_000, [1], record=OWN_HOT, room=9,
+               fill=fill),
+        refused(f"own case, hot, H 877, filled with {fill}", 16, record=head(OWN_HOT, H=877),
+                room=9, fill=fill),
+    ]]
+
+
+def totals():
+    """The same in version 2, of the vectors above: the same cost, and the same list where one alone
+    is cheapest."""
+    return in_total(own_case() + rooms() + no_list() + just_enough() + low_ends() + high_ends()
+                    + three_sections() + two_in_a_row() + three_ends() + small_trees() + one_tap()
+                    + equal_costs(), place=2)
+
+
+def line_houses():
+    """The house where widening ends dearer, as lines; its flows are less."""
+    return [found(f"three sections, H {H}, {SERVICES[service]}", sizes=GREEDY_SIZES,
+                  record=head(serving(greedy(), service), H=H))
+            for service in (1, 2) for H in (1250, 1400, 1500, 1800, 2386)]
+
+
 # Catalogues
 
 TWELVE = [(10 * i, 100 * i, 900, 130 - 10 * i) for i in range(1, 13)]
@@ -593,7 +656,7 @@ FEW_ROWS = catalogue(*[pipe(bore, price, 2) for bore, price in zip(BORES, PRICES
 def measured(record, H, lift=0):
     """Lengths and heights in turn, so that few lists cost the same."""
     for i in range(1, record[6] + 1):
-        kind = record[31 + 10 * i]
+        kind = kind_of(record, i)
         record = section(record, i, length=20 + 13 * i % 67, elevation=lift - 200 + 37 * i % 400,
                          free=200 if kind else 0)
     return head(record, H=H, limit=2500)
@@ -630,6 +693,14 @@ def long_houses():
     ]
 
 
+def long_lines():
+    """The lines of the most bytes, in version 2."""
+    return [found(f"{shape} of 63, 12 sizes of 64 rows, H {H}, {SERVICES[service]}", sizes=PIPES,
+                  record=measured(serving(TREES[shape](63), service), H))
+            for shape, H, service in [("chain", 1200, 1), ("star", 800, 2), ("comb", 6000, 0),
+                                      ("comb", 1200, 2)]]
+
+
 def long_houses_few_rows():
     """The same sizes with two rows each."""
     shapes = dict(TREES, halving=halving_of_kinds)
@@ -645,11 +716,11 @@ def long_houses_few_rows():
 
 # Order
 
-def order_parts(numbers):
+def order_parts(numbers, service=None):
     """Parts for which exactly these numbers' conditions hold. 16 is not to be
     had beside 1 to 11."""
     sizes = put(SIZES, 4, 1, 2) if 10 in numbers else SIZES
-    record = flow_broken(numbers)
+    record = flow_broken(numbers, service)
     return {
         "record": head(record, limit=1) if 16 in numbers else record,
         "sizes": put(sizes, 29, 2, 0) if 11 in numbers else sizes,
@@ -683,6 +754,19 @@ def order():
                 record=people(section(OWN, 1, fixtures=65_535), {7: 65_535})),
         refused("kind 11 in ends of 50 and 200", 9,
                 record=house([end(11, 50), end(11, 200)], {11: 3200})),
+    ]
+
+
+def line_order():
+    sets = [each for each in ORDER if 2 not in each]
+    return [refusal(f"{listed(each)}, {SERVICES[service]}", min(each), holds=each,
+                    **order_parts(each, service))
+            for each, service in zip(sets, itertools.cycle(SERVICES))] + [
+        refused("service 3", 3, record=serving(OWN, 3)),
+        refusal("version 2 in 50 bytes", 4, record=head(OWN, version=2)),
+        refused("own case, 70 fixtures, version 2", 9, record=section(OWN_TOTAL, 1, fixtures=70)),
+        chosen("own case, 70 fixtures, hot", 90_000, [1], record=section(OWN_HOT, 1, fixtures=70)),
+        refused("own case, 56 fixtures, hot", 9, record=section(OWN_HOT, 1, fixtures=56)),
     ]
 
 
@@ -728,11 +812,11 @@ def span(record, sizes):
             for pick in (min, max)]
 
 
-def random_parts(rng, sections, sizes):
+def random_parts(rng, sections, sizes, service=None):
     """A record of so many sections and a catalogue of so many sizes, with an H
-    that most often matters."""
+    that most often matters; in version 2 where a service is given."""
     found_sizes = random_sizes(rng, sizes)
-    record = rating_vectors.random_parts(rng, sections)["record"]
+    record = rating_vectors.random_parts(rng, sections, service)["record"]
     record = head(record, meter=rng.randint(0, 300), limit=rng.choice([1800, 2000, 3000]))
     least, greatest = span(record, found_sizes)
     some = rng.randint(least, least + (greatest - least) // 4)
@@ -748,6 +832,23 @@ def random_houses():
     rng = random.Random(6)
     counts = [1, 2, 3, 4, 5, 6] * 3 + [rng.randint(7, 40) for _ in range(22)]
     return [random_vector(rng, i, count) for i, count in enumerate(counts, start=1)]
+
+
+def random_lines():
+    rng = random.Random(7)
+    counts = [1, 2, 3, 4, 5, 6] + [rng.randint(7, 40) for _ in range(12)]
+    return [random_line(rng, i, count, service)
+            for i, (count, service) in enumerate(zip(counts, itertools.cycle(SERVICES)), start=1)]
+
+
+# Those of the lines that no list suits.
+NO_LINE = {9}
+
+
+def random_line(rng, i, count, service):
+    parts = random_parts(rng, count, rng.choice([2, 3, 4, 6, 8, 12]), service)
+    name = f"random house {i}, {count} sections, {parts['sizes'][5]} sizes, {SERVICES[service]}"
+    return refused(name, 16, **parts) if i in NO_LINE else found(name, **parts)
 
 
 def random_vector(rng, i, count):
@@ -766,12 +867,17 @@ GROUPS = [
     ("choosing, low ends", low_ends), ("choosing, high ends", high_ends),
     ("choosing, three sections", three_sections), ("choosing, two in a row", two_in_a_row),
     ("choosing, three ends", three_ends), ("choosing, small trees", small_trees),
-    ("choosing, one tap", one_tap),
+    ("choosing, one tap", one_tap), ("choosing, services", services),
+    ("choosing, version 2, room and workspace", line_rooms),
+    ("choosing, total in version 2", totals), ("choosing, houses of lines", line_houses),
     ("choosing, sizes and prices", sizes_and_prices), ("choosing, equal costs", equal_costs),
-    ("choosing, order", order), ("choosing, damaged catalogues", damaged_catalogues),
-    ("choosing, random houses", random_houses), ("choosing, long houses by hand", long_by_hand),
+    ("choosing, order", order), ("choosing, version 2, order", line_order),
+    ("choosing, damaged catalogues", damaged_catalogues),
+    ("choosing, random houses", random_houses), ("choosing, random houses of lines", random_lines),
+    ("choosing, long houses by hand", long_by_hand),
     ("choosing, long houses", long_houses_few_rows),
     ("choosing, long houses and many rows", long_houses),
+    ("choosing, long houses of lines", long_lines),
 ]
 
 

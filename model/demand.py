@@ -1,5 +1,5 @@
-"""A model of norms and design flows, written from document 01 and document 02's
-request L2, without the code.
+"""A model of design flows, written from document 01 and document 02's requests L2 and
+L4, without the code. Every figure is that of the job's service, by its norms.
 
     alpha(m)          the coefficient, in millionths
     flow(data, room)  gives (0, result), or (number, None) with 1 to 9 or 14
@@ -15,9 +15,9 @@ import csv
 import pathlib
 import struct
 from fractions import Fraction
-from typing import NamedTuple
 
 import job
+from norms import NORMS
 
 MILLION = 10 ** 6
 
@@ -26,36 +26,6 @@ def up(value):
     """To "the next whole number if not whole"."""
     whole, rest = divmod(value.numerator, value.denominator)
     return whole if rest == 0 else whole + 1
-
-
-# The norms
-
-class Norm(NamedTuple):
-    day: int          # litres per resident on the greatest day
-    hour: Fraction    # litres per resident in the greatest hour
-    second: Fraction  # l/s of a fixture
-    hourly: int       # l/h of a fixture
-
-
-def norm(D, Q, Z, O):
-    """The columns of document 01: Q in tenths of a litre, Z in hundredths of l/s."""
-    return Norm(D, Fraction(Q, 10), Fraction(Z, 100), O)
-
-
-NORMS = {
-    1: norm(400, 200, 30, 300),
-    2: norm(100, 104, 20, 100),
-    3: norm(160, 120, 20, 100),
-    4: norm(120, 125, 30, 300),
-    5: norm(230, 190, 20, 115),
-    6: norm(200, 224, 30, 250),
-    7: norm(250, 280, 30, 280),
-    8: norm(300, 300, 30, 300),
-    9: norm(115, 84, 20, 100),
-    10: norm(15, 26, 20, 80),
-    11: norm(16, 40, 14, 80),
-    12: norm(20, 27, 14, 100),
-}
 
 
 # Table 2 and the coefficient
@@ -128,11 +98,17 @@ def residents(kind, house):
     return house.residents[kind - 1]
 
 
+def norm(kind, house):
+    """The kind's norm for the house's service; it has no part in residents and fixtures."""
+    return NORMS[house.service][kind]
+
+
 def probability(kind, house):
     """P of formula 3: what the kind's residents draw in the greatest hour over
     what its fixtures could give in an hour. It is one for the whole house."""
-    drawn = NORMS[kind].hour * residents(kind, house)
-    return drawn / (NORMS[kind].second * 3600 * fixtures_of(kind, everything(house), house))
+    drawn = norm(kind, house).hour * residents(kind, house)
+    could = norm(kind, house).second * 3600 * fixtures_of(kind, everything(house), house)
+    return drawn / could
 
 
 def shares(numbers, house):
@@ -150,8 +126,8 @@ def m_of(numbers, house):
 def hour_shares(house):
     """Of each kind of the house N x P_hr of formula 7, in millionths, up:
     what its residents draw in the greatest hour over what one fixture gives."""
-    return {kind: up(MILLION * NORMS[kind].hour * residents(kind, house) / NORMS[kind].hourly)
-            for kind in kinds_of(house)}
+    return {kind: up(MILLION * norm(kind, house).hour * residents(kind, house)
+                     / norm(kind, house).hourly) for kind in kinds_of(house)}
 
 
 def weighed(shared, rates):
@@ -166,14 +142,14 @@ def five_rates(shared, rates):
 
 def average_flow(numbers, house):
     """Document 01's value for a pipe that serves these sections, in ml/s."""
-    rates = {kind: NORMS[kind].second for kind in NORMS}
+    rates = {kind: norm(kind, house).second for kind in job.KINDS}
     return up(1000 * five_rates(shares(numbers, house), rates))
 
 
 def one_tap(numbers, house):
     """What one fixture draws, of "the largest Z among the kinds it serves", in ml/s:
     a whole number, for Z is in hundredths of l/s."""
-    return up(1000 * max(NORMS[kind].second for kind in kinds_served(numbers, house)))
+    return up(1000 * max(norm(kind, house).second for kind in kinds_served(numbers, house)))
 
 
 def design_flow(numbers, house):
@@ -184,11 +160,13 @@ def design_flow(numbers, house):
 
 def hour(house):
     """The greatest hour's flow, in l/h."""
-    return up(five_rates(hour_shares(house), {kind: NORMS[kind].hourly for kind in NORMS}))
+    rates = {kind: norm(kind, house).hourly for kind in job.KINDS}
+    return up(five_rates(hour_shares(house), rates))
 
 
 def day(house):
-    return sum(NORMS[kind].day * residents(kind, house) for kind in NORMS)
+    """In litres, a whole number: the norms of a day are."""
+    return up(sum(norm(kind, house).day * residents(kind, house) for kind in job.KINDS))
 
 
 def mean_hour(house):

@@ -1,4 +1,4 @@
-"""Edits of job records, by the offsets of document 01."""
+"""Edits of job records, by the offsets of document 01 and of document 02's request L4."""
 
 # Document 01's own case: k 3, S 1, T 24, meter 50, G 500, H 1,200,
 # limit 1,500, 71 of kind 7; one section.
@@ -33,12 +33,23 @@ def head(record, **values):
     return record
 
 
+def sections_from(record):
+    """Where the sections begin; version 2 has its service at 40."""
+    return 41 if record[4] == 2 else 40
+
+
 def section(record, number, **values):
     """The record with fields of one section set, and nothing else."""
+    start = sections_from(record) + 10 * (number - 1)
     for name, value in values.items():
         offset, size = SECTION_FIELDS[name]
-        record = put(record, 30 + 10 * number + offset, size, value)
+        record = put(record, start + offset, size, value)
     return record
+
+
+def kind_of(record, number):
+    """The kind of one section."""
+    return record[sections_from(record) + 10 * (number - 1) + 1]
 
 
 def people(record, residents):
@@ -63,7 +74,14 @@ def house(sections, residents):
     return stating(record)
 
 
+def serving(record, service):
+    """The record of version 2 with this service, of one of version 1."""
+    return stating(head(record[:40] + bytes([service]) + record[40:], version=2))
+
+
 def fields(record, room, more=b""):
-    """The writer's raw fields: the room, then the record from k on, then
-    bytes of further slots."""
-    return room.to_bytes(2, "big") + record[5:] + more
+    """The writer's raw fields: the room, version and service, then the record
+    from k to its residents, its sections, and bytes of further slots."""
+    start = sections_from(record)
+    service = record[40:start] or b"\0"
+    return room.to_bytes(2, "big") + record[4:5] + service + record[5:40] + record[start:] + more

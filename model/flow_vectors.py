@@ -5,6 +5,7 @@ import random
 
 import demand
 import job
+import norms
 from edit import OWN, head, house, people, section
 from houses import INNER, TWO_ENDS, broken, chain, comb, greedy, star, twelve_kinds, under
 from vector import (Call, Parts, Vector, buffer_bytes, buffer_line, listed, room_of, roomed,
@@ -379,14 +380,16 @@ def crowded_taps():
 
 # Order
 
-def flow_broken(numbers):
+def flow_broken(numbers, service=None):
     """Two ends, edited so that exactly these numbers' conditions hold, leaving
-    14 to the room. 9 holds beside 8 where the fixtures are few."""
-    record = broken(numbers)
+    14 to the room; in version 2 where a service is given. 9 holds beside 8 where
+    the fixtures are few. 160 fixtures are too few for 161 residents, and as a cold
+    line for 234: 234 x 130 / 190 is 160.1."""
+    record = broken(numbers, service)
     if 8 in numbers:
         record = people(record, {7: 65535})
     elif 9 in numbers:
-        record = people(record, {7: 170})
+        record = people(record, {7: 170 if service is None else 240})
     many = 8 in numbers and 9 not in numbers
     return section(record, 1, fixtures=65535) if many else record
 
@@ -558,15 +561,15 @@ def random_parts(rng, count):
             for number, parent in enumerate(parents, start=1)]
 
 
-def random_house(rng, count):
-    """Residents up to those that make P_hr 0.1, or 0.2 where the fixtures are
-    too many for the house to be refused."""
-    parts = random_parts(rng, count)
+def random_house(rng, count, service=job.TOTAL):
+    """Residents up to those that make P_hr 0.1 by the norms of this service, or 0.2
+    where the fixtures are too many for the house to be refused."""
+    parts, own = random_parts(rng, count), norms.NORMS[service]
     totals = collections.Counter()
     for _, kind, fixtures, *_ in parts:
         totals[kind] += fixtures
     tenths = 2 if sum(totals.values()) > 200 else 1
-    most = {kind: int(tenths * n * demand.NORMS[kind].hourly / demand.NORMS[kind].hour / 10)
+    most = {kind: int(tenths * n * own[kind].hourly / own[kind].hour / 10)
             for kind, n in totals.items() if kind}
     people_in = {kind: 1 + rng.randrange(max(1, bound)) for kind, bound in most.items()}
     return head(house(parts, people_in), T=1 + rng.randrange(24))

@@ -1,17 +1,19 @@
 """Vectors for the heads call, the second of document 02's request L3; vectors.py tells their
 lines."""
 
+import itertools
 import random
 
 import heads
 import job
 import losses
-from edit import OWN, head, house, people, section
+from edit import OWN, head, house, people, section, serving
 from flow_vectors import end, flow_broken, random_house
-from houses import INNER, TWO_ENDS, chain, greedy, star, under
+from houses import (INNER, OWN_COLD, OWN_HOT, OWN_TOTAL, SERVICES, TWO_ENDS, chain, greedy, star,
+                    under)
 from losses_vectors import OWN_BYTES
 from rating_vectors import ends, low, random_measures, random_parts, tree
-from vector import Call, Vector, buffer_line, lent, listed, room_of, stored_by, words
+from vector import Call, Vector, buffer_line, in_total, lent, listed, room_of, stored_by, words
 
 # "one is over 4,259,775 cm"
 MOST = 4_259_775
@@ -335,6 +337,52 @@ def refusals():
     ]
 
 
+# Hot and cold lines: the service has a part in 8 and 9 alone
+
+def services():
+    """Losses of the lines, 28 and 23 cm, as rating_vectors.py derives them."""
+    hot = serving(tree((0, 600), (1, 600), (2, 600)), 2)
+    return [
+        headed("own case, total in version 2, loss 71", (921, 421, 1), 71, record=OWN_TOTAL),
+        headed("own case, cold, loss 23", (873, 373, 1), 23, record=OWN_COLD),
+        headed("own case, hot, loss 28", (878, 378, 1), 28, record=OWN_HOT),
+        headed("own case, hot, loss 71", (921, 421, 1), 71, record=OWN_HOT),
+        heading("own case, hot, loss 28, in bytes", 0, given(28), record=OWN_HOT, holds=set(),
+                lines=["heads 0 " "0000036e" "0000017a" "01"]),
+        headed("row of three, hot, losses 100, 50, 20", (1020, 520, 3), 100, 50, 20, record=hot),
+        headed("own case, hot, loss 4259775", (4_260_625, 4_260_125, 1), MOST, record=OWN_HOT),
+        refused("own case, hot, loss 4259776", 19, given(MOST + 1), record=OWN_HOT),
+        refused("own case, hot, two losses", 19, given(28, 28), record=OWN_HOT),
+        refused("own case, hot, no losses", 19, b"", record=OWN_HOT),
+        refused("own case, hot, room 8", 14, given(28), record=OWN_HOT, room=8),
+        headed("chain of 63, cold, losses 1 to 63", (2866, 2366, 63), *range(1, 64),
+               record=serving(chain(63), 1)),
+        refused("own case, 70 fixtures, version 2", 9, given(71),
+                record=section(OWN_TOTAL, 1, fixtures=70)),
+        headed("own case, 70 fixtures, cold", (921, 421, 1), 71,
+               record=section(OWN_COLD, 1, fixtures=70)),
+        headed("own case, 70 fixtures, hot", (921, 421, 1), 71,
+               record=section(OWN_HOT, 1, fixtures=70)),
+        refused("own case, 56 fixtures, hot", 9, given(71),
+                record=section(OWN_HOT, 1, fixtures=56)),
+        refused("service 3", 3, given(71), record=serving(OWN, 3)),
+        heading("version 2 in 50 bytes", 4, given(71), record=head(OWN, version=2)),
+    ]
+
+
+def totals():
+    """The same in version 2, of the vectors above."""
+    return in_total(own_case() + rooms() + required_heads() + pump_heads() + own_losses()
+                    + dictating())
+
+
+def line_order():
+    sets = [(expect, each) for expect, found in ORDER.items() for each in found if 2 not in each]
+    return [heading(f"{listed(each)}, {SERVICES[service]}", expect, order_losses(each), holds=each,
+                    record=flow_broken(each, service), room=8 if 14 in each else 9)
+            for (expect, each), service in zip(sets, itertools.cycle(SERVICES))]
+
+
 # Random houses
 
 def random_losses(rng, count):
@@ -356,6 +404,16 @@ def random_houses():
                 lost_by(**parts), record=parts["record"], holds=set()) for parts in rated]
 
 
+def random_lines():
+    rng = random.Random(9)
+    counts = [1, 2, 3] + [rng.randint(4, 40) for _ in range(6)]
+    records = [random_measures(rng, serving(random_house(rng, count, service), service))
+               for count, service in zip(counts, itertools.cycle(SERVICES))]
+    return [heading(f"random house {i}, {record[6]} sections, {SERVICES[record[40]]}", 0,
+                    random_losses(rng, record[6]), record=record, holds=set())
+            for i, record in enumerate(records, start=1)]
+
+
 def lost_by(record, sizes, numbers):
     """What the losses call gives, gathered."""
     _, result = losses.losses(record, sizes, numbers, 10 * len(numbers))
@@ -367,7 +425,10 @@ GROUPS = [
     ("heads, lengths of lists", list_lengths), ("heads, the most loss", bounds),
     ("heads, required heads", required_heads), ("heads, pump heads", pump_heads),
     ("heads, own losses", own_losses), ("heads, dictating sections", dictating),
-    ("heads, order", order), ("heads, refusals", refusals), ("heads, random houses", random_houses),
+    ("heads, services", services), ("heads, total in version 2", totals),
+    ("heads, order", order), ("heads, version 2, order", line_order),
+    ("heads, refusals", refusals), ("heads, random houses", random_houses),
+    ("heads, random houses of lines", random_lines),
 ]
 
 

@@ -1,6 +1,10 @@
 """Houses that the vectors have in common, as records."""
 
-from edit import head, house, people, section, stating
+from edit import OWN, head, house, people, section, serving, stating
+
+# The services, and document 01's own case as a record of version 2 with each of them.
+SERVICES = {0: "total", 1: "cold", 2: "hot"}
+OWN_TOTAL, OWN_COLD, OWN_HOT = (serving(OWN, service) for service in SERVICES)
 
 # Parts of houses: parent, kind, fixtures, length, elevation, free head.
 END = (0, 7, 80, 100, 600, 200)
@@ -26,14 +30,16 @@ BREAKS = [
     (5, lambda record: section(record, 1, length=0)),
     (4, lambda record: stating(record + b"\0")),
     (3, lambda record: head(record, k=4)),
-    (2, lambda record: head(record, version=2)),
+    (2, lambda record: head(record, version=3)),
     (1, lambda record: head(record, stated=len(record) + 1)),
 ]
 
 
-def broken(numbers):
-    """Two ends, edited so that exactly these numbers' conditions hold."""
-    record = TWO_ENDS
+def broken(numbers, service=None):
+    """Two ends, edited so that exactly these numbers' conditions hold; in version 2 where a service
+    is given. 2 has no part in that: the sections of another version stand as those of version 1."""
+    assert service is None or 2 not in numbers
+    record = TWO_ENDS if service is None else serving(TWO_ENDS, service)
     for number, edit in BREAKS:
         record = edit(record) if number in numbers else record
     return record

@@ -1,11 +1,12 @@
-"""A model of the job record, written from document 01, without the code (copy: docs/DECISIONS.md, 15).
+"""A model of the job record, written from document 01 and document 02's request L4, without the
+code (copy: docs/DECISIONS.md, 15).
 
     read(data)        gives (0, job), or (number, None) with a number from 1 to 7
-    write(job, room)  gives (0, record), or (number, None) with 3, 5, 6, 7 or 14
+    write(job, room)  gives (0, record), or (number, None) with 2, 3, 5, 6, 7 or 14
     copy(data, room)  gives (0, data), or (number, None) with 1 to 7 or 14
 
 The layout knows offsets and no rules. The rules know fields and no offsets.
-The quoted sentences are those of "The job record" and "Refused orders".
+The quoted sentences are those of "The job record", "Refused orders" and L4.
 """
 
 import struct
@@ -22,6 +23,8 @@ class Section(NamedTuple):
 
 
 class Job(NamedTuple):
+    version: int
+    service: int
     k: int
     S: int
     T: int
@@ -36,6 +39,9 @@ class Job(NamedTuple):
 SLOTS = 63
 KINDS = range(1, 13)
 EMPTY = Section(0, 0, 0, 0, 0, 0)
+
+# "0 total, 1 cold, 2 hot"
+TOTAL, COLD, HOT = SERVICES = range(3)
 
 
 def sections(job):
@@ -53,45 +59,64 @@ HEAD = struct.Struct(">I4B4H12H")
 # complement"), free head (2 each).
 SECTION = struct.Struct(">BBHHhH")
 
-VERSION = 1
+# Where a version has its sections: "From 40 come S sections", and version 2 has "its sections from
+# 41". The byte between head and sections is the service.
+SECTIONS_FROM = {1: HEAD.size, 2: HEAD.size + 1}
 
 
-def record_length(count):
-    """The length of a record of so many sections: 40 + 10 x S."""
-    return HEAD.size + SECTION.size * count
+def record_length(version, count):
+    """The length of a record of so many sections: 40 + 10 x S, and "41 + 10 x S" in version 2."""
+    return SECTIONS_FROM[version] + SECTION.size * count
 
 
 def stated_length(data):
     return HEAD.unpack_from(data)[0]
 
 
-def version(data):
-    return HEAD.unpack_from(data)[1]
+def service_in(data):
+    """The byte between head and sections of version 2; "version 1 still means total". A record that
+    ends before that byte, which 4 refuses, has no service that could be wrong."""
+    version = HEAD.unpack_from(data)[1]
+    return data[HEAD.size] if version == 2 and len(data) > HEAD.size else TOTAL
 
 
 def decode_head(data):
-    """The job of the first 40 bytes, all its slots empty."""
-    fields = HEAD.unpack_from(data)[2:]
-    return Job(*fields[:7], residents=fields[7:], slots=(EMPTY,) * SLOTS)
+    """The job of what stands before the sections, all its slots empty."""
+    _, version, *fields = HEAD.unpack_from(data)
+    return Job(version, service_in(data), *fields[:7], residents=tuple(fields[7:]),
+               slots=(EMPTY,) * SLOTS)
 
 
 def decode(data):
     """The job of a record that has S sections; the slots past S are empty."""
     head = decode_head(data)
-    found = [Section(*each) for each in SECTION.iter_unpack(data[HEAD.size:])]
+    after = data[SECTIONS_FROM[head.version]:]
+    found = [Section(*each) for each in SECTION.iter_unpack(after)]
     return head._replace(slots=tuple(found) + head.slots[len(found):])
 
 
 def encode(job):
-    """The record of a job: its head and its first S sections."""
-    fields = job[:7] + tuple(job.residents)
-    head = HEAD.pack(record_length(job.S), VERSION, *fields)
-    return head + b"".join(SECTION.pack(*each) for each in sections(job))
+    """The record of a job: its head, in version 2 its service, and its first S sections."""
+    fields = job[2:9] + tuple(job.residents)
+    head = HEAD.pack(record_length(job.version, job.S), job.version, *fields)
+    service = bytes([job.service]) if job.version == 2 else b""
+    return head + service + b"".join(SECTION.pack(*each) for each in sections(job))
 
 
 # The rules
 
-def head_in_range(job):
+def version_known(job):
+    """Else 2: "A wrong version is still 2, now from the writer too"."""
+    return job.version in SECTIONS_FROM
+
+
+def service_fits(job):
+    """Else 3, as is "a wrong service": "0 total, 1 cold, 2 hot", and "with version 1 service must
+    be 0"."""
+    return job.service in SERVICES and (job.version != 1 or job.service == TOTAL)
+
+
+def fields_in_range(job):
     """Else 3: "k, S, T, meter loss, G, H or limit out of range"."""
     return (
         job.k in (2, 3)
@@ -102,6 +127,10 @@ def head_in_range(job):
         and job.H <= 6000
         and 1 <= job.limit <= 3000
     )
+
+
+def head_in_range(job):
+    return fields_in_range(job) and service_fits(job)
 
 
 def kind_fits(section):
@@ -178,25 +207,27 @@ def reading_number(data):
     """The least that applies, or 0. "Reading a job gives 1 to 7." """
     if len(data) < HEAD.size or stated_length(data) != len(data):
         return 1
-    if version(data) != VERSION:
-        return 2
     head = decode_head(data)
+    if not version_known(head):
+        return 2
     if not head_in_range(head):
         return 3
-    if len(data) != record_length(head.S):
+    if len(data) != record_length(head.version, head.S):
         return 4
     return sections_number(decode(data))
 
 
 def writing_number(job, room):
     """The least that applies, or 0. "The writer takes the same fields and
-    gives 3, 5, 6, 7, 14." No section is looked at when S is out of range."""
+    gives 3, 5, 6, 7, 14", and 2. No section is looked at when S is out of range."""
+    if not version_known(job):
+        return 2
     if not head_in_range(job):
         return 3
     number = sections_number(job)
     if number != 0:
         return number
-    return 14 if room < record_length(job.S) else 0
+    return 14 if room < record_length(job.version, job.S) else 0
 
 
 def copying_number(data, room):

@@ -1,18 +1,20 @@
 """Vectors for the losses call, the first of document 02's request L3; vectors.py tells their
 lines."""
 
+import itertools
 import random
 
 import catalogue as catalogues
 import job
 import losses
-from edit import OWN, head, house, put, section
+from edit import OWN, head, house, put, section, serving
 from flow_vectors import BASINS_OVER_BATHS, BATHS_OVER_BASINS, bath_and, end
-from houses import INNER_AND_END, TWO_ENDS, chain, greedy, halving, star
+from houses import (INNER_AND_END, OWN_COLD, OWN_HOT, OWN_TOTAL, SERVICES, TWO_ENDS, chain, greedy,
+                    halving, star)
 from rating_vectors import (ENDS_AT_299, ENDS_AT_300, GREEDY_SIZES, LEVEL, ORDER, SIZE_1, SIZES,
                             TAPPED, TWELVE, catalogue, low, many_rows, order_parts, pair,
                             random_parts, rating_of, tree)
-from vector import Call, buffer_line, lent, listed, room_of, stored_by, words
+from vector import Call, buffer_line, in_total, lent, listed, room_of, stored_by, words
 
 
 def exact_room(record):
@@ -242,6 +244,55 @@ def halving_house():
     return record
 
 
+# Hot and cold lines, as rating_vectors.py reads the sizes at their flows
+
+def services():
+    taps = {"record": serving(BATHS_OVER_BASINS, 2)}
+    return [
+        lost("own case, total in version 2, size 2", OWN_SECTION, record=OWN_TOTAL),
+        refused("own case, total in version 2, size 1", 13, record=OWN_TOTAL, numbers=[1]),
+        lost("own case, cold, size 2", (1112, 556, 23), record=OWN_COLD),
+        lost("own case, cold, size 1", (1112, 890, 72), record=OWN_COLD, numbers=[1]),
+        lost("own case, hot, size 2", (1206, 603, 28), record=OWN_HOT),
+        lost("own case, hot, size 1", (1206, 965, 88), record=OWN_HOT, numbers=[1]),
+        losing("own case, hot, size 2, in bytes", 0, record=OWN_HOT, holds=set(),
+               lines=["losses 0 " "000004b6" "025b" "0000001c"]),
+        refused("own case, hot, size 1, limit 964", 13, record=head(OWN_HOT, limit=964),
+                numbers=[1]),
+        lost("one tap, hot", (200, 500, 26), (100, 500, 26), sizes=catalogue(TAPPED),
+             numbers=[1, 1], **taps),
+        lost("one tap, cold", (200, 500, 26), (100, 500, 26), sizes=catalogue(TAPPED),
+             numbers=[1, 1], record=serving(BATHS_OVER_BASINS, 1)),
+        lost("own case, hot, room 10", (1206, 603, 28), record=OWN_HOT, room=10),
+        refused("own case, hot, room 9", 14, record=OWN_HOT, room=9),
+        losing("chain of 63, hot, room 630", 0, room=630, holds=set(), sizes=LEVEL,
+               record=serving(chain(63), 2), numbers=[1] * 63),
+        refused("chain of 63, hot, room 629", 14, room=629, sizes=LEVEL,
+                record=serving(chain(63), 2), numbers=[1] * 63),
+    ]
+
+
+def totals():
+    """The same in version 2, of the vectors above."""
+    return in_total(own_case() + rooms() + flows_at_rows() + one_tap() + ranges() + own_losses())
+
+
+def line_order():
+    def parts(numbers, service):
+        return dict(order_parts(numbers, service), room=19 if 14 in numbers else 20)
+    sets = [each for each in ORDER if 2 not in each]
+    return [losing(f"{listed(each)}, {SERVICES[service]}", min(each), holds=each,
+                   **parts(each, service))
+            for each, service in zip(sets, itertools.cycle(SERVICES))] + [
+        losing("13 and 14, hot", 14, holds={13, 14}, **parts({13, 14}, 2)),
+        refused("service 3", 3, record=serving(OWN, 3)),
+        losing("version 2 in 50 bytes", 4, record=head(OWN, version=2)),
+        refused("own case, 70 fixtures, version 2", 9, record=section(OWN_TOTAL, 1, fixtures=70)),
+        lost("own case, 70 fixtures, hot", (1206, 603, 28),
+             record=section(OWN_HOT, 1, fixtures=70)),
+    ]
+
+
 # Order
 
 def order():
@@ -271,11 +322,21 @@ def random_houses():
             for i, count in enumerate(counts, start=1)]
 
 
+def random_lines():
+    rng = random.Random(5)
+    counts = [1, 2, 3] + [rng.randint(4, 40) for _ in range(6)]
+    return [losing(f"random house {i}, {count} sections, {SERVICES[service]}", 0, holds=set(),
+                   **random_parts(rng, count, service))
+            for i, (count, service) in enumerate(zip(counts, itertools.cycle(SERVICES)), start=1)]
+
+
 GROUPS = [
     ("losses, own case", own_case), ("losses, room", rooms), ("losses, lists", lists),
     ("losses, catalogues", catalogues_refused), ("losses, flows at rows", flows_at_rows),
     ("losses, one tap", one_tap), ("losses, ranges", ranges), ("losses, own losses", own_losses),
-    ("losses, order", order), ("losses, random houses", random_houses),
+    ("losses, services", services), ("losses, total in version 2", totals),
+    ("losses, order", order), ("losses, version 2, order", line_order),
+    ("losses, random houses", random_houses), ("losses, random houses of lines", random_lines),
 ]
 
 

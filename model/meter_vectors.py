@@ -1,14 +1,15 @@
 """Vectors for the meter call; vectors.py tells their lines."""
 
+import itertools
 import random
 
 import demand
 import job
 import meter
-from edit import OWN, head, house, people, section
+from edit import OWN, head, house, people, section, serving
 from flow_vectors import (BATHS_BESIDE_BASINS, BATHS_OVER_BASINS, bath_and, end, flow_broken, inner,
                           random_house)
-from houses import TWO_ENDS, chain, star
+from houses import OWN_COLD, OWN_HOT, OWN_TOTAL, SERVICES, TWO_ENDS, chain, star
 from vector import Call, Vector, buffer_line, lent, listed, room_of, stored_by, words
 
 # Types of meters.
@@ -486,6 +487,85 @@ def refusals():
     ]
 
 
+# Hot and cold lines
+
+# The own case's lines, as line_vectors.py derives them: hot q 1,206 ml/s, whose square is
+# 1,454,436, and mean hour 444 l/h; cold 1,112, 1,236,544 and 296. By the total norms 2,052 and 740.
+
+def line_record(service, loss):
+    """The own case in version 2 with another meter loss, in hex."""
+    return ("0000003302030118" f"{loss:04x}" "01f404b005dc"
+            "000000000000000000000000004700000000000000000000" f"{service:02x}"
+            "000700500064025800c8")
+
+
+def services():
+    """The record that is written keeps version and service."""
+    found = [metering(f"own case, {name}, in bytes", 0, meters(own(2), own(1)), holds=set(),
+                      record=serving(OWN, service), lines=["meter 0 01" + line_record(service, 1)])
+             for service, name in SERVICES.items()]
+    return found + [
+        # 68 x 1,454,436 is 98,901,648 and 69 gives 100,356,084; 34,377 gives 49,999,146,372 and
+        # 34,378 gives 50,000,600,808; 17,188 gives 24,998,845,968 and 17,189 gives 25,000,300,404.
+        won("own case, hot, loss 0.99", 1, 1, own(68), record=OWN_HOT, losses=[1]),
+        won("own case, hot, loss 1.004", 1, 2, own(69), record=OWN_HOT, losses=[2]),
+        won("own case, hot, vane, loss 500", 1, 500, own(34_377), record=OWN_HOT),
+        refused("own case, hot, vane, loss 501", 18, own(34_378), record=OWN_HOT, losses=[501]),
+        won("own case, hot, turbine, loss 250", 1, 250, own(17_188, TURBINE), record=OWN_HOT),
+        refused("own case, hot, turbine, loss 251", 18, own(17_189, TURBINE), record=OWN_HOT),
+        # 40,435 x 1,236,544 is 49,999,656,640 and 40,436 gives 50,000,893,184.
+        won("own case, cold, vane, loss 500", 1, 500, own(40_435), record=OWN_COLD),
+        refused("own case, cold, vane, loss 501", 18, own(40_436), record=OWN_COLD, losses=[501]),
+        refused("own case, total in version 2, vane, loss 501", 18, own(11_875), record=OWN_TOTAL,
+                losses=[501]),
+        won("own case, hot, service flow 444", 1, 1, own(1, service=444), record=OWN_HOT),
+        refused("own case, hot, service flow 443", 18, own(1, service=443), record=OWN_HOT),
+        won("own case, cold, service flow 296", 1, 1, own(1, service=296), record=OWN_COLD),
+        refused("own case, cold, service flow 295", 18, own(1, service=295), record=OWN_COLD),
+        refused("own case, total in version 2, service flow 739", 18, own(1, service=739),
+                record=OWN_TOTAL),
+        won("own case, total in version 2, service flow 740", 1, 1, own(1), record=OWN_TOTAL),
+        won("document 001, appendix 6, own case, hot", 7, 1, *APPENDIX_6, record=OWN_HOT,
+            losses=(754, 384, 190, 73, 21, 2, 1, 1)),
+        # 200 ml/s on the hot line: r / 2,500, and a mean hour of 3.5 l/h.
+        won("one tap, hot: resistances 2501 and 2500", 2, 1, (VANE, 2501, 4), (VANE, 2500, 4),
+            record=serving(BATHS_OVER_BASINS, 2), losses=(2, 1)),
+        refused("one tap, hot: service flow 3", 18, (VANE, 2500, 3),
+                record=serving(BATHS_OVER_BASINS, 2)),
+    ]
+
+
+def line_rooms():
+    """The result has 1 byte more than the job, which has 51 bytes here."""
+    pair, done = (own(2), own(1)), "meter 0 01" + line_record(2, 1)
+    return [
+        metering("own case, hot, room 52", 0, meters(*pair), record=OWN_HOT, room=52, holds=set(),
+                 lines=[done]),
+        metering("own case, hot, room 51", 14, meters(*pair), record=OWN_HOT, room=51, holds={14},
+                 lines=["meter 14 " + 51 * "a5"]),
+        metering("own case, hot, room 53", 0, meters(*pair), record=OWN_HOT, room=53, holds=set(),
+                 lines=[done + "a5"]),
+        won("chain of 63, hot, room 672", 1, 1, *pair, record=serving(chain(63), 2), room=672),
+        refused("chain of 63, hot, room 671", 14, *pair, record=serving(chain(63), 2), room=671),
+        won("own case, hot, meter loss 1000", 1, 1, *pair, record=head(OWN_HOT, meter=1000)),
+        refused("own case, hot, meter loss 1001", 3, *pair, record=head(OWN_HOT, meter=1001)),
+    ]
+
+
+def line_order():
+    sets = [(expect, each) for expect, found in ORDER.items() for each in found if 2 not in each]
+    return [metering(f"{listed(each)}, {SERVICES[service]}", expect, order_list(each),
+                     record=flow_broken(each, service), holds=each, room=61 if 14 in each else 62)
+            for (expect, each), service in zip(sets, itertools.cycle(SERVICES))] + [
+        refused("service 3", 3, own(1), record=serving(OWN, 3)),
+        metering("version 2 in 50 bytes", 4, meters(own(1)), record=head(OWN, version=2)),
+        refused("own case, 70 fixtures, version 2", 9, own(1),
+                record=section(OWN_TOTAL, 1, fixtures=70)),
+        won("own case, 70 fixtures, hot", 1, 1, own(1), record=section(OWN_HOT, 1, fixtures=70)),
+        refused("own case, 56 fixtures, hot", 9, own(1), record=section(OWN_HOT, 1, fixtures=56)),
+    ]
+
+
 # Random houses
 
 def random_meter(rng, q, mean, most=600, short=1):
@@ -515,6 +595,17 @@ def random_houses():
             for i, record in enumerate(records, start=1)]
 
 
+def random_lines():
+    rng = random.Random(8)
+    counts = [1, 2, 3] + [rng.randint(4, 40) for _ in range(9)]
+    services_in_turn = zip(counts, itertools.cycle(SERVICES))
+    records = [head(serving(random_house(rng, count, service), service), T=24)
+               for count, service in services_in_turn]
+    return [metering(f"random house {i}, {record[6]} sections, {SERVICES[record[40]]}", 0,
+                     random_meters(rng, record), record=record, holds=set())
+            for i, record in enumerate(records, start=1)]
+
+
 GROUPS = [
     ("meter, examples", examples), ("meter, lengths of lists", list_lengths),
     ("meter, values", list_values), ("meter, most losses", loss_limits),
@@ -523,7 +614,9 @@ GROUPS = [
     ("meter, sections at the pump", pump_sections), ("meter, one tap", one_tap),
     ("meter, wide losses", wide_losses),
     ("meter, records", records), ("meter, room", rooms), ("meter, order", order),
-    ("meter, refusals", refusals), ("meter, random houses", random_houses),
+    ("meter, refusals", refusals), ("meter, services", services),
+    ("meter, version 2, room", line_rooms), ("meter, version 2, order", line_order),
+    ("meter, random houses", random_houses), ("meter, random houses of lines", random_lines),
 ]
 
 

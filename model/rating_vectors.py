@@ -5,11 +5,11 @@ import random
 import struct
 
 import rating
-from edit import OWN, head, house, put, section
+from edit import OWN, head, house, kind_of, put, section, serving
 from flow_vectors import (BASINS_OVER_BATHS, BATHS_OVER_BASINS, bath_and, end, flow_broken, inner,
                           random_house)
-from houses import TWO_ENDS, greedy
-from vector import Call, Vector, buffer_line, lent, listed, room_of, stored_by, words
+from houses import OWN_COLD, OWN_HOT, OWN_TOTAL, SERVICES, TWO_ENDS, greedy
+from vector import Call, Vector, buffer_line, in_total, lent, listed, room_of, stored_by, words
 
 
 def catalogue(*sizes):
@@ -384,15 +384,71 @@ def long_houses():
     ]
 
 
+# Hot and cold lines
+
+# The own case's lines flow 1,206 and 1,112 ml/s, as line_vectors.py derives. Size 2 at 1,206 is 206
+# of the 2,000 between its rows: velocity 603 and slope 20.034, up to 21, which loses 27.3, up to 28
+# cm. Size 1 has velocity 964.8, up to 965, and slope 66.78, up to 67: 87.1, up to 88 cm. At 1,112
+# size 2 has 556 and slope 16.368, up to 17: 22.1, up to 23 cm; size 1 has velocity 889.6, up to
+# 890, and slope 54.56, up to 55: 71.5, up to 72 cm. To that come 850 cm, and G is 500.
+
+def ending_at(flow):
+    """A size whose last row is at this flow, of velocity 800 and slope 30 there."""
+    return catalogue((50, 1300, (1000, 800, 30), (flow, 800, 30)))
+
+
+def services():
+    taps = {"record": serving(BATHS_OVER_BASINS, 2)}
+    return [
+        rated("own case, total in version 2, size 2", OWN_HEADS, OWN_SECTION, record=OWN_TOTAL),
+        refused("own case, total in version 2, size 1", 13, record=OWN_TOTAL, numbers=[1]),
+        rated("own case, cold, size 2", (873, 373, 1), (556, 23), record=OWN_COLD),
+        rated("own case, cold, size 1", (922, 422, 1), (890, 72), record=OWN_COLD, numbers=[1]),
+        rated("own case, hot, size 2", (878, 378, 1), (603, 28), record=OWN_HOT),
+        rated("own case, hot, size 1", (938, 438, 1), (965, 88), record=OWN_HOT, numbers=[1]),
+        rating_of("own case, hot, size 2, in bytes", 0, record=OWN_HOT, holds=set(),
+                  lines=["rate 0 " "0000036e" "0000017a" "01" "025b" "0000001c"]),
+        rated("own case, hot, size 1, limit 965", (938, 438, 1), (965, 88), numbers=[1],
+              record=head(OWN_HOT, limit=965)),
+        refused("own case, hot, size 1, limit 964", 13, numbers=[1],
+                record=head(OWN_HOT, limit=964)),
+        rated("own case, hot, the last row at 1206", (889, 389, 1), (800, 39), numbers=[1],
+              record=OWN_HOT, sizes=ending_at(1206)),
+        refused("own case, hot, the last row at 1205", 13, numbers=[1], record=OWN_HOT,
+                sizes=ending_at(1205)),
+        rated("own case, cold, the last row at 1112", (889, 389, 1), (800, 39), numbers=[1],
+              record=OWN_COLD, sizes=ending_at(1112)),
+        refused("own case, cold, the last row at 1111", 13, numbers=[1], record=OWN_COLD,
+                sizes=ending_at(1111)),
+        refused("own case, total in version 2, the last row at 2051", 13, numbers=[1],
+                record=OWN_TOTAL, sizes=ending_at(2051)),
+        # 200 and 100 ml/s, which by the total norms are 300 and 144.
+        rated("one tap, hot", (902, 402, 2), (500, 26), (500, 26), sizes=catalogue(TAPPED),
+              numbers=[1, 1], **taps),
+        refused("one tap, hot, the last row at 199", 13, numbers=[1, 1], **taps,
+                sizes=catalogue((20, 100, (100, 500, 20), (199, 698, 40)))),
+        rated("one tap, hot, the last row at 200", (928, 428, 2), (700, 52), (500, 26),
+              sizes=catalogue((20, 100, (100, 500, 20), (200, 700, 40))), numbers=[1, 1], **taps),
+        rated("own case, hot, room 15", (878, 378, 1), (603, 28), record=OWN_HOT, room=15),
+        refused("own case, hot, room 14", 14, record=OWN_HOT, room=14),
+    ]
+
+
+def totals():
+    """The same in version 2, of the vectors above."""
+    return in_total(own_case() + rooms() + lists() + flows_at_rows() + limits() + one_tap()
+                    + pump_heads() + dictating() + three_sections())
+
+
 # Order
 
-def order_parts(numbers):
+def order_parts(numbers, service=None):
     """Parts for which exactly these numbers' conditions hold. 13 is not to be
     had beside 1 to 12."""
     sizes = put(SIZES, 4, 1, 2) if 10 in numbers else SIZES
     sizes = put(sizes, 29, 2, 0) if 11 in numbers else sizes
     chosen = [1, 1] if 13 in numbers else [2, 2]
-    record = flow_broken(numbers)
+    record = flow_broken(numbers, service)
     return {
         "record": head(record, limit=1) if 13 in numbers else record,
         "sizes": sizes,
@@ -418,6 +474,21 @@ def order():
     ]
 
 
+def line_order():
+    sets = [each for each in ORDER if 2 not in each]
+    return [rating_of(f"{listed(each)}, {SERVICES[service]}", min(each), holds=each,
+                      **order_parts(each, service))
+            for each, service in zip(sets, itertools.cycle(SERVICES))] + [
+        rating_of("13 and 14, hot", 14, holds={13, 14}, **order_parts({13, 14}, 2)),
+        refused("service 3", 3, record=serving(OWN, 3)),
+        rating_of("version 2 in 50 bytes", 4, record=head(OWN, version=2)),
+        refused("own case, 70 fixtures, version 2", 9, record=section(OWN_TOTAL, 1, fixtures=70)),
+        rated("own case, 70 fixtures, hot", (878, 378, 1), (603, 28),
+              record=section(OWN_HOT, 1, fixtures=70)),
+        refused("own case, 56 fixtures, hot", 9, record=section(OWN_HOT, 1, fixtures=56)),
+    ]
+
+
 # Random houses
 
 def random_rows(rng, count):
@@ -435,16 +506,19 @@ def random_catalogue(rng):
 
 def random_measures(rng, record):
     for i in range(1, record[6] + 1):
-        kind = record[31 + 10 * i]
+        kind = kind_of(record, i)
         record = section(record, i, length=rng.randint(1, 600), elevation=rng.randint(-1000, 3000),
                          free=rng.randint(0, 1000) if kind else 0)
     return head(record, k=rng.randint(2, 3), meter=rng.randint(0, 1000), G=rng.randint(0, 6000),
                 limit=rng.randint(2000, 3000))
 
 
-def random_parts(rng, count):
+def random_parts(rng, count, service=None):
+    """In version 2 where a service is given."""
     sizes = random_catalogue(rng)
-    return {"record": random_measures(rng, random_house(rng, count)), "sizes": sizes,
+    record = (random_house(rng, count) if service is None
+              else serving(random_house(rng, count, service), service))
+    return {"record": random_measures(rng, record), "sizes": sizes,
             "numbers": [rng.randint(1, sizes[5]) for _ in range(count)]}
 
 
@@ -456,14 +530,24 @@ def random_houses():
             for i, count in enumerate(counts, start=1)]
 
 
+def random_lines():
+    rng = random.Random(2)
+    counts = [1, 2, 3] + [rng.randint(4, 40) for _ in range(8)] + [63]
+    return [rating_of(f"random house {i}, {count} sections, {SERVICES[service]}", 0, holds=set(),
+                      **random_parts(rng, count, service))
+            for i, (count, service) in enumerate(zip(counts, itertools.cycle(SERVICES)), start=1)]
+
+
 GROUPS = [
     ("rating, own case", own_case), ("rating, room", rooms), ("rating, lists", lists),
     ("rating, shapes of catalogues", catalogue_shapes),
     ("rating, rules of catalogues", catalogue_rules), ("rating, flows at rows", flows_at_rows),
     ("rating, limits", limits), ("rating, one tap", one_tap), ("rating, pump heads", pump_heads),
     ("rating, dictating sections", dictating), ("rating, three sections", three_sections),
-    ("rating, long houses", long_houses), ("rating, order", order),
-    ("rating, random houses", random_houses),
+    ("rating, long houses", long_houses), ("rating, services", services),
+    ("rating, total in version 2", totals), ("rating, order", order),
+    ("rating, version 2, order", line_order), ("rating, random houses", random_houses),
+    ("rating, random houses of lines", random_lines),
 ]
 
 

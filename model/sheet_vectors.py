@@ -3,9 +3,9 @@
 import random
 
 import sheet
-from edit import OWN, head, house, put, section
+from edit import OWN, head, house, put, section, serving
 from flow_vectors import BATHS_OVER_BASINS, end, inner
-from houses import greedy
+from houses import OWN_COLD, OWN_HOT, OWN_TOTAL, SERVICES, greedy
 from rating_vectors import (GREEDY_SIZES, LEVEL, SIZES, TAPPED, catalogue, low, order_parts,
                             random_parts)
 from vector import Call, Parts, Vector
@@ -195,6 +195,64 @@ def many():
     ]
 
 
+# Hot and cold lines
+
+# The figures are those of line_vectors.py and rating_vectors.py.
+HOT_LINES = ["house 2624 10650 444", "section 1 1206 603 28", "head 878 378 1"]
+COLD_LINES = ["house 2385 7100 296", "section 1 1112 556 23", "head 873 373 1"]
+HOT_INPUT = OWN_HOT + SIZES + b"\2"
+
+
+def services():
+    """A record of version 2 ends at its stated length too."""
+    return [
+        whole("sheet, own case, total in version 2", OWN_TOTAL + SIZES + b"\2", *OWN_LINES),
+        whole("sheet, own case, cold", OWN_COLD + SIZES + b"\2", *COLD_LINES),
+        whole("sheet, own case, hot", HOT_INPUT, *HOT_LINES),
+        whole("sheet, own case, hot, size 1", OWN_HOT + SIZES + b"\1", HOT_LINES[0],
+              "section 1 1206 965 88", "head 938 438 1"),
+        refused("sheet, own case, total in version 2, size 1", OWN_TOTAL + SIZES + b"\1", 13, {13}),
+        whole("sheet, one tap, hot", serving(BATHS_OVER_BASINS, 2) + catalogue(TAPPED) + b"\1\1",
+              "house 200 84 4", "section 1 200 500 26", "section 2 100 500 26", "head 902 402 2"),
+        refused("sheet, own case, hot, 40 bytes stating 40", head(OWN_HOT[:40], stated=40), 4),
+        refused("sheet, own case, hot, 41 bytes stating 41", head(OWN_HOT[:41], stated=41), 4),
+        refused("sheet, hot job stating 50", head(HOT_INPUT, stated=50), 4),
+        refused("sheet, hot job stating 52", head(HOT_INPUT, stated=52), 4),
+        refused("sheet, hot job stating 100", head(HOT_INPUT, stated=100), 1),
+        refused("sheet, hot job cut at 50", HOT_INPUT[:50], 1),
+        refused("sheet, hot job alone", OWN_HOT, 10, {10, 12}),
+        refused("sheet, hot, one byte less", HOT_INPUT[:-1], 12, {12}),
+        refused("sheet, hot, a newline more", HOT_INPUT + b"\n", 12, {12}),
+        refused("sheet, service 3", serving(OWN, 3) + SIZES + b"\2", 3, {3}),
+        refused("sheet, version 2 in 50 bytes", head(INPUT, version=2), 4),
+        refused("sheet, version 1 in 51 bytes", head(HOT_INPUT, version=1), 4),
+        refused("sheet, version 3", head(INPUT, version=3), 2, {2}),
+        refused("sheet, own case, hot, 56 fixtures", section(HOT_INPUT, 1, fixtures=56), 9, {9}),
+        whole("sheet, own case, hot, 57 fixtures", section(HOT_INPUT, 1, fixtures=57), *HOT_LINES),
+    ]
+
+
+def in_version_2(vector):
+    """The same job in version 2 with service 0; the input begins with it."""
+    room, zeros, data = vector.data
+    stated = int.from_bytes(data[:4], "big")
+    return vector._replace(name=f"{vector.name}, version 2",
+                           data=(room, zeros, serving(data[:stated], 0) + data[stated:]))
+
+
+def totals():
+    return [in_version_2(each) for each in own_case() + negative_heads() + one_tap() + many()]
+
+
+def line_order():
+    found = []
+    for number in range(3, 14):
+        parts = order_parts({number}, 2)
+        data = parts["record"] + parts["sizes"] + bytes(parts["numbers"])
+        found.append(refused(f"sheet, {number} alone, hot", data, number, {number}))
+    return found
+
+
 def random_sheets():
     rng = random.Random(2)
     found = []
@@ -205,13 +263,25 @@ def random_sheets():
     return found
 
 
+def random_lines():
+    rng = random.Random(3)
+    found = []
+    for i, count in enumerate([1, 2, 3, 5, 8, 13, 21, 34, 55], start=1):
+        parts = random_parts(rng, count, i % 3)
+        data = parts["record"] + parts["sizes"] + bytes(parts["numbers"])
+        found.append(rated(f"sheet, random house {i}, {count} sections, {SERVICES[i % 3]}", data))
+    return found
+
+
 GROUPS = [
     ("sheet, own case", own_case), ("sheet, buffers", buffers),
     ("sheet, short inputs", short_inputs), ("sheet, stated lengths of jobs", stated_jobs),
     ("sheet, stated lengths of catalogues", stated_catalogues), ("sheet, size lists", sizes),
     ("sheet, long inputs", long_inputs), ("sheet, order", order), ("sheet, heads", negative_heads),
     ("sheet, one tap", one_tap), ("sheet, several sections", many),
-    ("sheet, random houses", random_sheets),
+    ("sheet, services", services), ("sheet, total in version 2", totals),
+    ("sheet, version 2, order", line_order), ("sheet, random houses", random_sheets),
+    ("sheet, random houses of lines", random_lines),
 ]
 
 

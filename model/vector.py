@@ -2,6 +2,8 @@
 
 from typing import Callable, NamedTuple, Optional, Union
 
+from edit import serving
+
 
 class Vector(NamedTuple):
     name: str
@@ -86,6 +88,14 @@ def stored_by(call):
         room, *rest = data
         return buffer_bytes(call(*rest, room_of(room)), room_of(room))
     return stored
+
+
+def in_total(vectors, place=1):
+    """The same jobs in version 2 with service 0, which stand at this place of the data: number,
+    refusals and lines by hand are the same."""
+    return [each._replace(name=f"{each.name}, version 2", data=each.data[:place]
+                          + (serving(each.data[place], 0),) + each.data[place + 1:])
+            for each in vectors]
 
 
 def words(name, values):
