@@ -31,12 +31,11 @@ pub fn write(raw: &[u8], out: &mut [u8]) {
 }
 
 // Version and service, and then the fields as in a record of version 1 from byte 5 on, with up to 63 slots. All 63 are taken, whatever
-// the number of sections says.
+// the number of sections says. The record that they are put into has no version 2 in byte 4, so its sections begin at 40.
 fn job_of(raw: &[u8]) -> Job
     requires { ⌜ (2 ≤ length (now raw)) × (length (now raw) ≤ 667) ⌝ }
 {
-    let mut record = [0u8; 670];
-    record[4] = 1;
+    let mut record = [0u8; 671];
     wire::put(&mut record, 5, &raw[2..]);
     let head = decoding::header_of(&record);
     record[6] = 63;
