@@ -1,4 +1,4 @@
--- Two jobs with the same service, S, residents and sections have the same flows and the same 8 and 9, and with the same T the same mean hour.
+-- Two jobs with the same service, S, residents and sections have the same flows, hour, day, 8 and 9, and with the same T the same mean hour.
 -- Assumes nothing.
 use mathlib.Core.Path.{_≡_, ap, sym, _∙_}
 use Prim.Native.Nat.{ℕ, _*_, _≤_, _<_}
@@ -9,8 +9,8 @@ use Rattle.fields.specs.Fields.{serviceOf, countOf, residentsOf}
 use Rattle.tree.specs.Tree.{servedOf, houseOf}
 use Rattle.tree.proofs.Served.{house-same, served-same}
 use Rattle.norms.specs.Norms.{normOf}
-use Rattle.demand.specs.Demand.{normAt, shareOf, mOf, houseFlow, hourShareOf, hourSumOf, dayOf, meanOf, fixturesOf, overSum, overProbability, needsTableOne, demandChecks}
-use Rattle.demand.proofs.Equations.{share-is, hour-share-is, hour-sum-is}
+use Rattle.demand.specs.Demand.{normAt, shareOf, mOf, sectionFlow, houseFlow, hourShareOf, hourSumOf, hourlySumOf, hourOf, dayOf, meanOf, fixturesOf, overSum, overProbability, needsTableOne, demandChecks}
+use Rattle.demand.proofs.Equations.{share-is, hour-share-is, hour-sum-is, hourly-is, hour-is}
 use Rattle.demand.proofs.Agreeing.{m-agree, flow-agree}
 
 module _ (a b : Job) (services : serviceOf a ≡ serviceOf b) (counts : countOf a ≡ countOf b) (residents : a .residents ≡ b .residents)
@@ -38,11 +38,22 @@ module _ (a b : Job) (services : serviceOf a ≡ serviceOf b) (counts : countOf 
   pub house-flow-same : houseFlow a ≡ houseFlow b
   house-flow-same = flow-agree a b (houseOf a) (houseOf b) services (shares (houseOf a) (houseOf b) houses) (λ kind p q. houses kind)
 
+  pub section-flow-same : (i : ℕ) → sectionFlow a i ≡ sectionFlow b i
+  section-flow-same i =
+      flow-agree a b (servedOf a i) (servedOf b i) services
+      (shares (servedOf a i) (servedOf b i) (served-same a b counts sections i)) (λ kind p q. served-same a b counts sections i kind)
+
+  hour-share-same : (kind : ℕ) → hourShareOf a kind ≡ hourShareOf b kind
+  hour-share-same kind = cc (hour-share-is a kind, hour-share-is b kind, norms kind, people kind)
+
   hour-same : hourSumOf a ≡ hourSumOf b
-  hour-same =
-      hour-sum-is a ∙
-      sum-ext 12 (hourShareOf a) (hourShareOf b) (λ kind p q. cc (hour-share-is a kind, hour-share-is b kind, norms kind, people kind)) ∙
-      sym (hour-sum-is b)
+  hour-same = hour-sum-is a ∙ sum-ext 12 (hourShareOf a) (hourShareOf b) (λ kind p q. hour-share-same kind) ∙ sym (hour-sum-is b)
+
+  hourly-same : hourlySumOf a ≡ hourlySumOf b
+  hourly-same = hourly-is a ∙ sum-ext 12 _ _ (λ kind p q. rw (hour-share-same kind, norms kind)) ∙ sym (hourly-is b)
+
+  pub hour-of-same : hourOf a ≡ hourOf b
+  hour-of-same = hour-is a ∙ rw (hourly-same, hour-same) (sym (hour-is b))
 
   fixtures-agree : (n n′ : ℕ → ℕ) → ((kind : ℕ) → n kind ≡ n′ kind) → fixturesOf n ≡ fixturesOf n′
   unfolding fixturesOf
@@ -63,7 +74,7 @@ module _ (a b : Job) (services : serviceOf a ≡ serviceOf b) (counts : countOf 
         counts,
       )
 
-  day-same : dayOf a ≡ dayOf b
+  pub day-same : dayOf a ≡ dayOf b
   unfolding dayOf
   day-same = sum-ext 12 _ (λ kind. normAt b kind .day * residentsOf b kind) (λ kind p q. rw (norms kind, people kind))
 

@@ -18,9 +18,10 @@ use Rattle.wire.proofs.Fields.{be-lt, be-bytes, be-written, bytes-length}
 use Rattle.fields.specs.Fields.{countOf, residentsOf}
 use Rattle.record.specs.Record.{residentsAt, decode}
 use Rattle.demand.specs.Demand.{normAt, hourOf, dayOf, meanOf, sectionFlow, houseFlow, Accepted}
-use Rattle.demand.proofs.DesignFlows.{flow-top, hour-top}
+use Rattle.demand.proofs.Equations.{norm-at}
+use Rattle.demand.proofs.DesignFlows.{flow-top, house-hour-top}
 use Rattle.demand.proofs.Tops.{day-top, mean-top}
-use Rattle.demand.proofs.Totals.{house-m-pos, m-pos, hour-sum-pos}
+use Rattle.demand.proofs.Totals.{house-m-pos, m-pos}
 use Rattle.demand.proofs.Validity.{valid-hours}
 use Rattle.acceptance.specs.Acceptance.{jobChecks, jobNo}
 use Rattle.acceptance.proofs.Accepting.{job-numbered, accept-accepted}
@@ -43,7 +44,7 @@ module _ (b : List ℕ) (bytes : Bytes b) where
   unfolding dayOf
   days-top =
       sum-le 12 26214000 (λ kind. normAt (decode b) kind .day * residentsOf (decode b) kind)
-      (λ kind h k. day-top {norm = normAt (decode b) kind} {kind = kind} refl (omega arith, k) (residents-top kind h k))
+      (λ kind h k. day-top (norm-at (decode b) kind h k) (residents-top kind h k))
 
 -- the result: the house's figures, then the flows
 module _ (b out₀ out : List ℕ) (g : FlowGiven b out₀ out 0) where
@@ -68,7 +69,7 @@ module _ (b out₀ out : List ℕ) (g : FlowGiven b out₀ out 0) where
   unfolding house houseBytes bytesOf meanOf flows
   flow-figures bytes =
       let a : Accepted (decode b) = flow-accepted in
-      let hour : hourOf (decode b) ≤ 137850 = hour-top (decode b) (hour-sum-pos (a .valid)) in
+      let hour : hourOf (decode b) ≤ 137850 = house-hour-top (a .valid) in
       let day : dayOf (decode b) ≤ 314568000 = days-top b bytes in
       let mean : meanOf (decode b) ≤ dayOf (decode b) = mean-top (dayOf (decode b)) (valid-hours (a .valid) .low) in
       record {

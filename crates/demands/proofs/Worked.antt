@@ -18,11 +18,11 @@ use Rattle.basis.proofs.Bools.{apart}
 use Rattle.basis.proofs.Split.{eq-or-ne}
 use Rattle.answer.specs.Checks.{firstNo}
 use Rattle.wire.specs.Wire.{beAt, bytesOf, bitsOf, signedOf}
-use Rattle.record.specs.Record.{headerAt, residentsAt, sectionFrom, decode}
+use Rattle.record.specs.Record.{sectionsFrom, serviceAt, headerAt, residentsAt, sectionFrom, decode}
 use Rattle.tree.specs.Tree.{parentOf, reaches, below, ownOf, servedOf, houseOf}
-use Rattle.rules.specs.Rules.{headerOk, kindOk, elevationOk, sectionOk, sectionsOk, childless, childlessZero, unmatched, fieldChecks}
+use Rattle.rules.specs.Rules.{versionOk, serviceOk, headerOk, kindOk, elevationOk, sectionOk, sectionsOk, childless, childlessZero, unmatched, fieldChecks}
 use Rattle.job.specs.Calls.{wrongLength, wrongVersion, wrongCount, shapeChecks, readChecks, copyChecks, copyNo}
-use Rattle.norms.specs.Norms.{dayNorms, hourNorms, fixtureNorms, hourlyNorms, normOf}
+use Rattle.norms.specs.Norms.{totalColdHot, totalEither, dayNorms, hourNorms, fixtureNorms, hourlyNorms, normOf}
 use Rattle.coefficient.specs.Table.{table}
 use Rattle.coefficient.specs.Alpha.{along, alphaOf}
 use Rattle.coefficient.proofs.Worked.{worked as alpha}
@@ -52,8 +52,8 @@ use Rattle.choosing.proofs.Ordering.{choose-ready}
 -- size 1 is over the limit, whatever H is
 over-one : (high low : ℕ) → overAny (decode (jobOf high low)) ownCat (1 ∷ []) ≡ true
 unfolding
-    sumTo mostTo anyTo up line tabulate slots beAt headerAt residentsAt sectionFrom decode
-    parentOf reaches below ownOf servedOf houseOf hourNorms fixtureNorms normOf along table alphaOf shareOf mOf fixtureSumOf averageFlowOf tapOf oneTapOf flowOf
+    sumTo mostTo anyTo up line tabulate slots beAt sectionsFrom serviceAt headerAt residentsAt sectionFrom decode
+    parentOf reaches below ownOf servedOf houseOf totalColdHot totalEither hourNorms fixtureNorms normOf along table alphaOf shareOf mOf fixtureSumOf averageFlowOf tapOf oneTapOf flowOf
     partOf flowAt velocityAt between servesAt readRows readingOf overBy overAt overAny
 over-one high low = refl
 
@@ -82,7 +82,7 @@ pub record Computed : Type 0 where
 computed : Computed
 unfolding
     over-one allTo firstNo signedOf bytesOf
-    headerOk kindOk elevationOk sectionOk sectionsOk childless childlessZero unmatched fieldChecks
+    versionOk serviceOk headerOk kindOk elevationOk sectionOk sectionsOk childless childlessZero unmatched fieldChecks
     wrongLength wrongVersion wrongCount shapeChecks readChecks
     hourShareOf hourSumOf hourlyNorms fixturesOf overSum needsTableOne overProbability demandChecks jobChecks jobNo
     boreOf priceOf slopeAt shapeOk rowOk risesAt rowsOk sizeOk sizesOk catChecks catNo
