@@ -204,9 +204,14 @@ def section_averages(house):
 MOST = 400_000_000
 
 
+def house_sums(house):
+    """The house's m and its hour sum."""
+    return m_of(everything(house), house), sum(hour_shares(house).values())
+
+
 def over_the_table(house):
     """8: "house m or house hour sum over 400,000,000"."""
-    return m_of(everything(house), house) > MOST or sum(hour_shares(house).values()) > MOST
+    return max(house_sums(house)) > MOST
 
 
 def crowded(sum_of_shares, numbers, house):

@@ -68,6 +68,8 @@ BETWEEN = {
     10_100_000: 4_155_500, 20_499_999: 7_025_000, 32_250_000: 10_018_500,
     50_500_000: 14_440_000, 81_999_999: 21_690_000, 101_000_000: 26_135_000,
     117_000_000: 29_715_000, 202_500_000: 48_960_000, 395_000_001: 90_820_001,
+    # m and hour sum of the own case's cold and hot line, see line_vectors.py.
+    1_281_945: 1_111_334, 4_857_895: 2_509_685, 1_479_167: 1_205_001, 5_605_264: 2_761_738,
 }
 
 
@@ -621,7 +623,8 @@ def alpha_lines(raw):
 
 def figure_lines(record):
     found = job.decode(record)
-    return [words("house", demand.house_figures(found)),
+    return [words("sums", demand.house_sums(found)),
+            words("house", demand.house_figures(found)),
             words("flows", demand.section_flows(found)),
             words("averages", demand.section_averages(found))]
 

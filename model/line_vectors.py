@@ -40,18 +40,18 @@ def duty_of(name, record, duty):
 # up to 2,385 l/h. The day is 7,100 l, the mean hour 295.8, up to 296.
 
 OWN_LINES = {
-    0: ("house 4542 17750 740", "flows 2052"),
-    1: ("house 2385 7100 296", "flows 1112"),
-    2: ("house 2624 10650 444", "flows 1206"),
+    0: ("sums 1840741 7100000", "house 4542 17750 740", "flows 2052"),
+    1: ("sums 1281945 4857895", "house 2385 7100 296", "flows 1112"),
+    2: ("sums 1479167 5605264", "house 2624 10650 444", "flows 1206"),
 }
 OWN_DUTIES = {0: 2052, 1: 1112, 2: 1206}
 
-# Document 004's dwelling of 109 as in flow_vectors.py, where it says that of the 20 l in the hour
-# 10.9 are hot and 9.1 cold: m is 1,650,139 and 1,377,639.
+# The dwelling of 109 in document 004's example 1, which says that of the 20 l in the hour 10.9 are
+# hot and 9.1 cold.
 DWELLING = house([end(1, 124)], {1: 109})
 DWELLING_LINES = {
-    1: ("house 2545 29430 1227", "flows 1158"),
-    2: ("house 2872 14170 591", "flows 1284"),
+    1: ("sums 1377639 4959500", "house 2545 29430 1227", "flows 1158"),
+    2: ("sums 1650139 5940500", "house 2872 14170 591", "flows 1284"),
 }
 
 
@@ -70,7 +70,7 @@ def rooms():
         flowing("own case, hot, room 15", OWN_HOT, 15, 14, {14}, ["flow 14 " + 15 * "a5"]),
         flowing("own case, hot, room 17", OWN_HOT, 17, 0, set(), list(hot)),
         flowing("own case, hot, room 0", OWN_HOT, 0, 14, {14}),
-        flowing("chain of 63, hot, room 264", many, 264, 0, set(), list(hot[:1])),
+        flowing("chain of 63, hot, room 264", many, 264, 0, set(), list(hot[:2])),
         flowing("chain of 63, hot, room 263", many, 263, 14, {14}),
     ]
 
@@ -207,8 +207,8 @@ def line_refusals():
 
 
 def greatest():
-    """Of the lines' greatest hours, 5 x 200 x 91.9 l/h and 91,896 of it, by document 01's formulas
-    of whole numbers."""
+    """At the end of the table: 5 x 200 x 91.9 l/h, and 5 x 200 x 91.89568, up, where 399,980,000 is
+    the greatest hour sum that kind 8 has on the cold line."""
     return [
         accepted("5000 of kind 8, hot: hour sum 400000000",
                  serving(house([end(8, 5000)], {8: 5000}), HOT), "house 91900 900000 37500",
@@ -306,7 +306,7 @@ def least_flows():
 # Order
 
 def order():
-    """As of version 1, where 2 belongs."""
+    """The sets of version 1, but for those with 2, which has no part in version 2."""
     sets = [(expect, each) for expect, found in flow_vectors.ORDER.items() for each in found
             if 2 not in each]
     return [flowing(f"{listed(each)}, {SERVICES[service]}", flow_broken(each, service),

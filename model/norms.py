@@ -8,7 +8,7 @@ printed, with points for commas: columns 3 to 10, where columns 9 and 10 have tw
 The rows are those of a dwelling over 12 storeys; the first and the third of the hostels; the
 hotels 3, 4 and 5, the last with three shares of baths; the first of the hospitals; the polyclinics;
 the offices, 12; and for schools the teaching institutions, 13. Columns 3 and 4, of a mean day,
-are not used.
+are no norms of documents 01 and 02.
 """
 
 import csv
@@ -88,8 +88,11 @@ def listed(service):
 
 
 def check():
-    """Also that each kind draws something from either line."""
+    """Also that each kind draws something from either line, and on a mean day no more than on the
+    greatest one."""
     assert all(list(found) == list(job.KINDS) for found in NORMS.values())
+    assert all(row[f"mean_day_{each}"] <= row[f"day_{each}"]
+               for row in appendix().values() for each in ("total", "hot"))
     for service, lists in ((job.TOTAL, TOTAL_LISTS), (job.COLD, COLD_LISTS), (job.HOT, HOT_LISTS)):
         assert listed(service) == lists, service
         assert all(each > 0 for column in lists for each in column), service

@@ -33,7 +33,7 @@ def own_case():
 
 
 def versions():
-    """Where the record is cut by neither version, 50 and 51 bytes."""
+    """A version that is neither is 2 in the length of version 2 as in that of version 1."""
     return [Vector(f"version {version} in 51 bytes", head(OWN_HOT, version=version), 2)
             for version in (0, 3, 4, 129, 130, 255)] + [
         Vector("version 3 and k 4, in 51 bytes", head(OWN_HOT, version=3, k=4), 2),
@@ -109,7 +109,7 @@ def lengths():
 
 
 def in_version_2(vectors):
-    """The same records with the services in turn: nothing else of them is another."""
+    """The same records with the services in turn, which have no part in the rules."""
     return [each._replace(name=f"{each.name}, {SERVICES[service]}",
                           data=serving(each.data, service))
             for each, service in zip(vectors, itertools.cycle(SERVICES))]
@@ -139,7 +139,7 @@ def houses():
 
 
 def order():
-    """By k 4 and by service 3; a version that is wrong is none of these."""
+    """3 by k 4 and by service 3. 2 has no part in version 2."""
     sets = [(expect, each) for expect, found in READING_ORDER.items() for each in found
             if 2 not in each]
     return [Vector(f"{listed(each)}, {SERVICES[service]}", broken(each, service), expect, each)
