@@ -36,7 +36,7 @@ passed b rest e = accept-accepted b (first-split (jobChecks b) rest (job-numbere
 
 -- residents are of 16 bits, so a day and a mean hour are of 32
 module _ (b : List ℕ) (bytes : Bytes b) where
-  residents-top : (kind : ℕ) → 0 < kind → kind ≤ 12 → residentsOf (decode b) kind < 65536
+  pub residents-top : (kind : ℕ) → 0 < kind → kind ≤ 12 → residentsOf (decode b) kind < 65536
   unfolding decode residentsAt
   residents-top kind h k = rw (tabulate-at 12 (residentsAt b) (kind - 1) 0 (omega arith)) (be-lt 2 b (16 + 2 * (kind - 1)) bytes)
 

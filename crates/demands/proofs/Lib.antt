@@ -8,4 +8,6 @@ pub mod Demand3
 pub mod Metering
 pub mod OneTap
 pub mod InTurn
+mod Versions
+pub mod Lines
 pub mod Worked

@@ -44,12 +44,14 @@ pub record VersionsAlike (one two : List ℕ) : Type 0 where
   pub number : jobNo two ≡ jobNo one
   pub flow : {out₀ out out′ : List ℕ} {n n′ : ℕ} → FlowGiven one out₀ out n → FlowGiven two out₀ out′ n′ → SameGiven out out′ n n′
   pub duty : {out₀ out out′ : List ℕ} {n n′ : ℕ} → DutyGiven one out₀ out n → DutyGiven two out₀ out′ n′ → SameGiven out out′ n n′
-  pub losses : {cat sizes out₀ out out′ : List ℕ} {n n′ : ℕ} →
+  pub losses : (cat sizes : List ℕ) {out₀ out out′ : List ℕ} {n n′ : ℕ} →
       LossesGiven one cat sizes out₀ out n → LossesGiven two cat sizes out₀ out′ n′ → SameGiven out out′ n n′
-  pub heads : {losses out₀ out out′ : List ℕ} {n n′ : ℕ} → HeadsGiven one losses out₀ out n → HeadsGiven two losses out₀ out′ n′ → SameGiven out out′ n n′
-  pub rate : {cat sizes out₀ out out′ : List ℕ} {n n′ : ℕ} → Rated one cat sizes out₀ out n → Rated two cat sizes out₀ out′ n′ → SameGiven out out′ n n′
+  pub heads : (losses : List ℕ) {out₀ out out′ : List ℕ} {n n′ : ℕ} →
+      HeadsGiven one losses out₀ out n → HeadsGiven two losses out₀ out′ n′ → SameGiven out out′ n n′
+  pub rate : (cat sizes : List ℕ) {out₀ out out′ : List ℕ} {n n′ : ℕ} →
+      Rated one cat sizes out₀ out n → Rated two cat sizes out₀ out′ n′ → SameGiven out out′ n n′
   -- choosing, given enough workspace and result space for each: the number, and where it is 0 the cost
-  pub choose : {cat out₀ out out₀′ out′ work₀ work work₀′ work′ : List ℕ} {n n′ : ℕ} → Ample one out₀ work₀ → Ample two out₀′ work₀′ →
+  pub choose : (cat : List ℕ) {out₀ out out₀′ out′ work₀ work work₀′ work′ : List ℕ} {n n′ : ℕ} → Ample one out₀ work₀ → Ample two out₀′ work₀′ →
       Chosen one cat out₀ work₀ out work n → Chosen two cat out₀′ work₀′ out′ work′ n′ → (n′ ≡ n) × (n ≡ 0 → reported out′ ≡ reported out)
 
 -- the heat flows of a result, in W: of the mean hour, rounded up, and then of the greatest hour
