@@ -9,5 +9,6 @@ pub mod Metering
 pub mod OneTap
 pub mod InTurn
 mod Versions
+mod Renewed
 pub mod Lines
 pub mod Worked

@@ -36,6 +36,7 @@ use Rattle.demands.specs.Demand3.{Suited, returnedList, reported, Return
 use Rattle.demands.specs.Lines.{SameHouse, SameGiven, VersionsAlike, HeatFigures, Lines}
 use Rattle.demands.proofs.Demand3.{demand-3}
 use Rattle.demands.proofs.Flows.{residents-top}
+use Rattle.demands.proofs.Renewed.{renewable}
 use Rattle.demands.proofs.Versions.{flow-bytes-same, duty-bytes-same, heads-same, rate-bytes-same, losses-bytes-same, listed-same, any-same, cost-same, suited-same, suited-back, decode-same, count-same, jobs-same}
 
 -- two calls of one number and one result, with one buffer
@@ -186,6 +187,7 @@ lines =
       hours = λ kind p q. norm-lines kind p q .hour;
       fixtures = λ kind p q. (norm-lines kind p q .fixture, norm-lines kind p q .hourly);
       total = total;
+      renewable = λ b some fits stated one. renewable b some fits stated one;
       alike = λ one two same. alike same;
       heat-given = λ b t loss room e hot low few fits. heat-done b t loss room e hot (in-heat t loss (record { cold = low; lost = few })) fits;
       heat = λ job t loss out₀ out bytes g. heat-figures job t loss out₀ out g bytes;

@@ -36,6 +36,8 @@ use Rattle.heads.specs.Heads.{reachOf, greatestTo, requiredOf, pumpAt, dictatin
 use Rattle.sizing.specs.Losses.{listOk, readingOf, overBy, overAt, overAny, lossOf, lossAt, lossesOf}
 use Rattle.acceptance.specs.Acceptance.{inputChecks}
 use Rattle.flow.specs.Calls.{flowNo, dutyNo}
+use Rattle.heating.specs.Heat.{wattsOf, hotJob, heatOk}
+use Rattle.heating.specs.Calls.{heatBytes, heatNo}
 use Rattle.meters.specs.Meters.{meterAt, meterOk, metersOk, meterLoss, mostLoss, qualifies, noneQualifies, leastAt, winnerOf}
 use Rattle.metering.specs.Calls.{meteredRecord, meterBytes, meterNo}
 use Rattle.rated_bytes.specs.RatedBytes.{headsBytes, figuresBytes}
@@ -48,6 +50,7 @@ use Rattle.choosing.specs.Suitable.{Suitable, priceAt, costOf}
 use Rattle.choosing.specs.Calls.{Ample, chooseChecks, chooseNo, chooseBytes, Chosen}
 use Rattle.demands.specs.OwnCase.{jobOf, ownCat, ownJob, job921, job920, OwnCase}
 use Rattle.choosing.proofs.Ordering.{choose-ready}
+use Rattle.demands.specs.Lines.{renewed}
 
 -- size 1 is over the limit, whatever H is
 over-one : (high low : ℕ) → overAny (decode (jobOf high low)) ownCat (1 ∷ []) ≡ true
@@ -119,7 +122,7 @@ module _ {out₀ work₀ : List ℕ} where
 
 -- the rest is computed too, but for the statements over every list and over the call
 pub own-case : OwnCase
-unfolding computed dayNorms hourlySumOf hourOf dayOf meanOf clamped pumpAt lowestTo dictatingOf copyChecks copyNo flowNo dutyNo meterAt meterOk metersOk meterLoss mostLoss qualifies noneQualifies leastAt winnerOf stored meteredRecord meterBytes meterNo inputChecks sizedChecks sizedNo bitsOf concatTo headsBytes figuresBytes lossesBytes lossIn lossesOk headsNo chooseChecks chooseNo
+unfolding computed dayNorms hourlySumOf hourOf dayOf meanOf clamped pumpAt lowestTo dictatingOf copyChecks copyNo flowNo dutyNo meterAt meterOk metersOk meterLoss mostLoss qualifies noneQualifies leastAt winnerOf stored meteredRecord meterBytes meterNo inputChecks sizedChecks sizedNo bitsOf concatTo headsBytes figuresBytes lossesBytes lossIn lossesOk headsNo chooseChecks chooseNo wattsOf hotJob heatOk heatBytes heatNo renewed
 own-case =
     record {
       job = computed .own;
@@ -166,6 +169,20 @@ own-case =
       over-loss = refl;
       losses-list = refl;
       heads-room = refl;
+      renewed-own = refl;
+      lines-accepted = (refl, refl, refl);
+      line-flows = (refl, refl, refl);
+      line-hours = (refl, refl, refl);
+      line-days = (refl, refl, refl);
+      line-means = (refl, refl, refl);
+      heat-given = refl;
+      heat-bytes = refl;
+      heat-cold = refl;
+      heat-warm = refl;
+      heat-lost = refl;
+      heat-room = refl;
+      service-three = refl;
+      parent-three = refl;
       job-921 = computed .accepted-921;
       suits-921 = computed .suits;
       cost-921 = refl;

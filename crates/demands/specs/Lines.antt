@@ -4,10 +4,11 @@
 -- `Demand3` is that guarantee: it is of every accepted job, whatever its version and its service.
 -- Assumes nothing.
 use mathlib.Core.Path.{_≡_}
-use mathlib.Core.List.{List}
+use mathlib.Core.List.{List, _∷_, _++_}
 use Prim.Native.Nat.{ℕ, _+_, _*_, _≤_, _<_}
-use lib.ListN.{length}
-use Rattle.wire.specs.Wire.{byteAt, beAt}
+use lib.ListN.{length, drop}
+use Rattle.basis.specs.Part.{part}
+use Rattle.wire.specs.Wire.{byteAt, beAt, bytesOf}
 use Rattle.fields.specs.declared.Job.{Job}
 use Rattle.fields.specs.Fields.{serviceOf}
 use Rattle.record.specs.Record.{decode}
@@ -33,6 +34,10 @@ pub record SameHouse (one two : List ℕ) : Type 0 where
   pub service : byteAt two 40 ≡ 0
   pub head : (j : ℕ) → 5 ≤ j → j < 40 → byteAt two j ≡ byteAt one j
   pub sections : (j : ℕ) → 40 ≤ j → byteAt two (j + 1) ≡ byteAt one j
+
+-- the record of version 2 and service 0 with the fields of one of version 1
+unfoldable pub renewed : List ℕ → List ℕ
+renewed b = bytesOf 4 (length b + 1) ++ ((2 ∷ part b 5 35) ++ (0 ∷ drop 40 b))
 
 -- two calls with the same result buffer gave the same number and left the same bytes
 pub record SameGiven (out out′ : List ℕ) (n n′ : ℕ) : Type 0 where
@@ -70,6 +75,9 @@ pub record Lines : Type 0 where
       (normOf 1 kind .fixture ≡ normOf 2 kind .fixture) × (normOf 1 kind .hourly ≡ normOf 2 kind .hourly)
   -- version 1 means total
   pub total : (b : List ℕ) → byteAt b 4 ≡ 1 → serviceOf (decode b) ≡ 0
+  -- for every record of version 1 that states its own length there is one of version 2 with the same fields,
+  pub renewable : (b : List ℕ) → 40 ≤ length b → length b < 4294967295 → beAt 4 b 0 ≡ length b → byteAt b 4 ≡ 1 → SameHouse b (renewed b)
+  -- and two such records get the same of each call
   pub alike : (one two : List ℕ) → SameHouse one two → VersionsAlike one two
   -- an accepted hot job gets its heat flows for a temperature and a loss in range, given room for them
   pub heat-given : (b : List ℕ) (t loss room : ℕ) → jobNo b ≡ 0 → serviceOf (decode b) ≡ 2 → t ≤ 30 → loss ≤ 1000000 → 8 ≤ room →

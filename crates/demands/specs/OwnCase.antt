@@ -15,12 +15,14 @@ use Rattle.heads.specs.Heads.{requiredOf, pumpOf, dictatingOf}
 use Rattle.sizing.specs.Losses.{readingOf, lossAt, lossesOf}
 use Rattle.job.specs.Calls.{copyNo}
 use Rattle.flow.specs.Calls.{flowNo, dutyNo}
+use Rattle.heating.specs.Calls.{heatNo, heatBytes}
 use Rattle.meters.specs.Meters.{meterAt, meterLoss}
 use Rattle.metering.specs.Calls.{placeFor, meterBytes, meterNo}
 use Rattle.rating.specs.Calls.{rateNo, lossesNo, lossesBytes}
 use Rattle.lent_losses.specs.Calls.{headsNo, lentBytes}
 use Rattle.choosing.specs.Suitable.{Suitable, costOf}
 use Rattle.choosing.specs.Calls.{Ample, chooseNo, Chosen}
+use Rattle.demands.specs.Lines.{renewed}
 
 -- the job's bytes, with the two of H left open: head, residents and the one section
 abbrev pub jobOf : ℕ → ℕ → List ℕ
@@ -45,6 +47,14 @@ job921 = jobOf 3 153
 
 abbrev pub job920 : List ℕ
 job920 = jobOf 3 152
+
+-- the same house in version 2: total (0), cold (1) or hot (2)
+abbrev pub lineOf : ℕ → List ℕ
+lineOf service =
+    0 ∷ 0 ∷ 0 ∷ 51 ∷ 2 ∷ 3 ∷ 1 ∷ 24 ∷ 0 ∷ 50 ∷ 1 ∷ 244 ∷ 4 ∷ 176 ∷ 5 ∷ 220 ∷
+    0 ∷ 0 ∷ 0 ∷ 0 ∷ 0 ∷ 0 ∷ 0 ∷ 0 ∷ 0 ∷ 0 ∷ 0 ∷ 0 ∷ 0 ∷ 71 ∷ 0 ∷ 0 ∷ 0 ∷ 0 ∷ 0 ∷ 0 ∷ 0 ∷ 0 ∷ 0 ∷ 0 ∷
+    service ∷
+    0 ∷ 7 ∷ 0 ∷ 80 ∷ 0 ∷ 100 ∷ 2 ∷ 88 ∷ 0 ∷ 200 ∷ []
 
 -- a turbine meter of resistance 5,938 and two vane meters of 6,000 and 5,000; the service flow is 512 more than its low byte
 abbrev pub metersOf : ℕ → List ℕ
@@ -135,6 +145,25 @@ pub record OwnCase : Type 0 where
   pub over-loss : headsNo ownJob (0 ∷ 64 ∷ 255 ∷ 192 ∷ []) 9 ≡ 19
   pub losses-list : headsNo ownJob (0 ∷ lossAlone 0 71) 8 ≡ 19
   pub heads-room : headsNo ownJob (lossAlone 0 71) 8 ≡ 14
+  -- document 02, L4: the house in version 2 has the fields of version 1 where its service is total
+  pub renewed-own : renewed ownJob ≡ lineOf 0
+  -- it is accepted as total, as its cold line and as its hot line, and has these flows in ml/s, hours in l/h, days in l and mean hours in l/h
+  pub lines-accepted : (jobNo (lineOf 0) ≡ 0) × (jobNo (lineOf 1) ≡ 0) × (jobNo (lineOf 2) ≡ 0)
+  pub line-flows : (sectionFlow (decode (lineOf 0)) 1 ≡ 2052) × (sectionFlow (decode (lineOf 1)) 1 ≡ 1112) × (sectionFlow (decode (lineOf 2)) 1 ≡ 1206)
+  pub line-hours : (hourOf (decode (lineOf 0)) ≡ 4542) × (hourOf (decode (lineOf 1)) ≡ 2385) × (hourOf (decode (lineOf 2)) ≡ 2624)
+  pub line-days : (dayOf (decode (lineOf 0)) ≡ 17750) × (dayOf (decode (lineOf 1)) ≡ 7100) × (dayOf (decode (lineOf 2)) ≡ 10650)
+  pub line-means : (meanOf (decode (lineOf 0)) ≡ 740) × (meanOf (decode (lineOf 1)) ≡ 296) × (meanOf (decode (lineOf 2)) ≡ 444)
+  -- the hot line with cold water of 5 °C and a loss of 1,200 W takes 26,952 W in the mean hour and 153,392 W in the greatest
+  pub heat-given : heatNo (lineOf 2) 5 1200 8 ≡ 0
+  pub heat-bytes : heatBytes (decode (lineOf 2)) 5 1200 ≡ 0 ∷ 0 ∷ 105 ∷ 72 ∷ 0 ∷ 2 ∷ 87 ∷ 48 ∷ []
+  -- the cold line is not heated, which is found before 31 °C, which is found before seven bytes of room
+  pub heat-cold : heatNo (lineOf 1) 31 1200 7 ≡ 20
+  pub heat-warm : heatNo (lineOf 2) 31 1200 7 ≡ 21
+  pub heat-lost : heatNo (lineOf 2) 30 1000001 7 ≡ 21
+  pub heat-room : heatNo (lineOf 2) 30 1000000 7 ≡ 14
+  -- there is no service 3; in version 1 byte 40 is a section's parent
+  pub service-three : jobNo (lineOf 3) ≡ 3
+  pub parent-three : jobNo (stored ownJob 40 (3 ∷ [])) ≡ 5
   -- the job with H 921 is accepted
   pub job-921 : jobNo job921 ≡ 0
   -- size 2 suits it
