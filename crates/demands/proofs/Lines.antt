@@ -37,7 +37,7 @@ use Rattle.demands.specs.Lines.{SameHouse, SameGiven, VersionsAlike, Hea
 use Rattle.demands.proofs.Demand3.{demand-3}
 use Rattle.demands.proofs.Flows.{residents-top}
 use Rattle.demands.proofs.Renewed.{renewable}
-use Rattle.demands.proofs.Versions.{flow-bytes-same, duty-bytes-same, heads-same, rate-bytes-same, losses-bytes-same, listed-same, any-same, cost-same, suited-same, suited-back, decode-same, count-same, jobs-same}
+use Rattle.demands.proofs.Versions.{flow-bytes-same, duty-bytes-same, heads-bytes-same, rate-bytes-same, losses-bytes-same, listed-same, any-same, cost-same, suited-same, suited-back, decode-same, count-same, jobs-same}
 
 -- two calls of one number and one result, with one buffer
 given-same : {no no′ : ℕ} {bytes bytes′ out₀ out out′ : List ℕ} {n n′ : ℕ} → no′ ≡ no → bytes′ ≡ bytes →
@@ -141,7 +141,7 @@ module _ {one two : List ℕ} (same : SameHouse one two) where
         flow = λ g g′. given-same (flow-number _) (rw (decode-same same) (flow-bytes-same 2 (decode one))) g g′;
         duty = λ g g′. given-same (duty-number _) (rw (decode-same same) (duty-bytes-same 2 (decode one))) g g′;
         losses = λ cat sizes g g′. given-same (losses-number cat sizes _) (rw (decode-same same) (losses-bytes-same 2 (decode one) cat sizes)) g g′;
-        heads = λ losses g g′. given-same (heads-number losses _) (rw (decode-same same) (heads-same 2 (decode one) (lossIn losses))) g g′;
+        heads = λ losses g g′. given-same (heads-number losses _) (rw (decode-same same) (heads-bytes-same 2 (decode one) (lossIn losses))) g g′;
         rate = λ cat sizes g g′. given-same (rate-number cat sizes _) (rw (decode-same same) (rate-bytes-same 2 (decode one) cat sizes)) g g′;
         choose = λ cat a a′ c c′. chosen-same cat a a′ c c′;
       }

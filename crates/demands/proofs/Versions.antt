@@ -83,9 +83,9 @@ module _ (version : ℕ) (job : Job) where
   duty-bytes-same = rw (house-flow-same (jobIn version job) job refl refl refl refl)
 
   -- heads over any losses
-  pub heads-same : (loss : ℕ → ℕ) → headsBytes (jobIn version job) loss ≡ headsBytes job loss
+  pub heads-bytes-same : (loss : ℕ → ℕ) → headsBytes (jobIn version job) loss ≡ headsBytes job loss
   unfolding headsBytes requiredOf reachOf parentOf pumpAt dictatingOf jobIn headerIn
-  heads-same loss = refl
+  heads-bytes-same loss = refl
 
   required-same : (loss : ℕ → ℕ) → requiredOf (jobIn version job) loss ≡ requiredOf job loss
   unfolding requiredOf reachOf parentOf jobIn headerIn
