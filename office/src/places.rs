@@ -70,6 +70,8 @@ pub fn places(refusal: &Refusal, asked: &Asked) -> Vec<Place> {
         Refusal::MeterList => meters::rules(asked.meters),
         Refusal::NoMeter => meters::none_qualifies(asked),
         Refusal::LossList => losses::rules(asked),
-        Refusal::ResultShort | Refusal::WorkShort | Refusal::Unknown(_) => Vec::new(),
+        Refusal::ResultShort | Refusal::WorkShort | Refusal::NotHot | Refusal::HeatRange | Refusal::Unknown(_) => {
+            Vec::new()
+        }
     }
 }

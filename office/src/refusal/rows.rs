@@ -294,4 +294,18 @@ pub const ROWS: &[Row] = &[
             "Look whether the files are in their order: the house first, then the losses.",
         ],
     },
+    Row {
+        refusal: NotHot,
+        text: "The heat flow is asked for a job that is not a hot line.",
+        plain: "Heat is asked for a house that is no hot line.",
+        causes: &["The service of the house is another one."],
+        remedies: &["Give the hot line of the house."],
+    },
+    Row {
+        refusal: HeatRange,
+        text: "The temperature of the cold water is over 30 °C or the stated loss is over 1,000,000 W.",
+        plain: "The temperature of the cold water or the loss of the line is more than it may be.",
+        causes: &["A number has the wrong unit."],
+        remedies: &["Correct the number."],
+    },
 ];
