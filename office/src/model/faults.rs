@@ -1,7 +1,7 @@
 //! A set of refusals, and the order in which the calls give them back.
 
 /// The greatest number of a refusal.
-pub const LAST: u32 = 19;
+pub const LAST: u32 = 21;
 
 /// The refusals that apply to one input, all of them and not only the first.
 #[derive(Clone, Copy, Debug, Default, PartialEq, Eq)]
