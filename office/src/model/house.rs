@@ -108,7 +108,8 @@ impl House {
         faults
     }
 
-    fn head_in_range(&self) -> bool {
+    /// Whether all fields but the service are in range.
+    pub fn head_in_range(&self) -> bool {
         [2, 3].contains(&self.k)
             && (1..=63).contains(&self.count())
             && (1..=24).contains(&self.hours)
