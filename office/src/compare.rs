@@ -3,7 +3,8 @@
 use crate::case::{Buffer, Call, Case};
 use crate::ffi;
 use crate::generate;
-use crate::model::{self, Expected, Judged, brute, judge};
+use crate::model::house::SERVICE;
+use crate::model::{self, Expected, Judged, brute, judge, norms};
 pub use crate::situations::{Counters, Situation};
 use std::fmt;
 
@@ -123,7 +124,7 @@ fn agree(case: &Case, judged: &Judged) -> Result<String, String> {
             return Err(format!("the workspace was changed before {number}"));
         }
     }
-    let result = if number == 0 { &given[..model::result_bytes(case.call, judged.house.sections.len())] } else { &[] };
+    let result = if number == 0 { &given[..model::result_bytes(case.call, &judged.house)] } else { &[] };
     Ok(format!("number {number}, result {result:?}"))
 }
 
@@ -138,6 +139,7 @@ fn call(case: &Case, out: &mut [u8], work: &mut [u8]) -> u32 {
         Call::Heads => ffi::heads(&case.job, &case.losses, out),
         Call::Rate => ffi::rate(&case.job, &case.cat, &case.sizes, out),
         Call::Choose => ffi::choose(&case.job, &case.cat, work, out),
+        Call::Heat => ffi::heat(&case.job, case.t, case.loss, out),
     }
 }
 
@@ -177,12 +179,59 @@ fn chosen_well(judged: &Judged, least: i128, result: &[u8]) -> Result<(), String
 
 /// What is tried beside the case itself.
 fn try_more(case: &Case, judged: &Judged, counters: &mut Counters) -> Result<(), String> {
+    if let Some(twin) = twin(case) {
+        counters.note_twin(as_its_twin(case, &twin, judged)?);
+    }
     match case.call {
         Call::Losses | Call::Rate => counters.note_in_turn(in_turn(case)?),
         Call::Choose => try_all(judged, counters)?,
         _ => {}
     }
     Ok(())
+}
+
+/// The case with the job in version 2, where it is in version 1: the same fields and service 0, a byte longer, and stated so. The
+/// result buffer has a byte more where the result has the record. None where the job ends before its sections.
+fn twin(case: &Case) -> Option<Case> {
+    if case.job.len() < SERVICE || case.job[4] != 1 {
+        return None;
+    }
+    let mut twin = case.clone();
+    twin.job.insert(SERVICE, norms::TOTAL as u8);
+    twin.job[4] = 2;
+    let stated = u32::from_be_bytes([case.job[0], case.job[1], case.job[2], case.job[3]]);
+    twin.job[..4].copy_from_slice(&stated.wrapping_add(1).to_be_bytes());
+    twin.out.length += usize::from(matches!(case.call, Call::Copy | Call::Meter));
+    Some(twin)
+}
+
+/// Document 02's L4, through the library: version 1 means what version 2 with service 0 means. Both get the same number, and a result
+/// has the same figures: of choosing the same cost, and where it has the record, the place and the record that was lent. Gives
+/// the number.
+fn as_its_twin(case: &Case, twin: &Case, judged: &Judged) -> Result<u32, String> {
+    let given = |case: &Case| {
+        let (mut out, mut work) = (Vec::new(), Vec::new());
+        case.out.fill(&mut out);
+        case.work.fill(&mut work);
+        (call(case, &mut out, &mut work), out)
+    };
+    let ((number, own), (other, of_twin)) = (given(case), given(twin));
+    if number != other {
+        return Err(format!("the library gives {number} for version 1 and {other} for version 2 with service 0"));
+    }
+    let same = match case.call {
+        _ if number != 0 => of_twin[..own.len()] == own,
+        Call::Choose => {
+            chosen_well(judged, model::bytes::number(&own, 0, 4), &of_twin[..4 + judged.flows.len()]).is_ok()
+        }
+        Call::Copy => of_twin[..twin.job.len()] == twin.job,
+        Call::Meter => {
+            let record = [&twin.job[..8], &own[9..11], &twin.job[10..]].concat();
+            of_twin[0] == own[0] && of_twin[1..=record.len()] == record
+        }
+        _ => of_twin == own,
+    };
+    if same { Ok(number) } else { Err("version 1 and version 2 with service 0 give different results".to_string()) }
 }
 
 /// No result is longer, nor would be that of a record which states 255 sections.
