@@ -1,4 +1,4 @@
-//! The library against its rivals, on the same inputs and in one run: flow, meter, rating in one call and in two, and choosing of
+//! The library against its rivals, on the same inputs and in one run: flow, meter, rating in one call and in two, choosing and heat of
 //! the independent model, and searches in safe Rust. Nobody clears a buffer between calls. Ratios are the library's time over
 //! the rival's, taken round by round with the sides in turn, so that a slow moment of the machine falls on all of them.
 
@@ -8,12 +8,13 @@ mod timing;
 
 use crate::case::{Buffer, Call, Case};
 use crate::ffi;
+use crate::model::house::House;
 use crate::model::{Expected, judge, result_bytes, work_bytes};
 use crate::rivals::dense::{Dense, Form};
 use crate::rivals::fronts::Fronts;
 use crate::rivals::ranges::Ranges;
 use crate::rivals::tree::{Found, Tree};
-use houses::{Pipes, catalogue, house, losses, meters};
+use houses::{Pipes, catalogue, hot_line, house, losses, meters};
 use std::fmt::Write;
 use std::hint::black_box;
 use timing::{Side, Spread, micros, race};
@@ -39,7 +40,7 @@ pub fn bench() -> String {
     }
     let _ = writeln!(
         text,
-        "\nflow, meter, rating and its two calls: library against the model (8 meters, 12 sizes of 64 rows)\n{OTHERS}"
+        "\nflow, meter, rating and its two calls, heat: library against the model (8 meters, 12 sizes of 64 rows)\n{OTHERS}"
     );
     for sections in [8, 32, 63] {
         OTHER_CALLS.into_iter().for_each(|call| text += &other(call, sections));
@@ -54,8 +55,8 @@ const OTHERS: &str = "\
 |call|S|library µs|over model|
 |-|-|-|-|";
 
-/// The calls that are timed against the model alone, in the order of their lines.
-const OTHER_CALLS: [Call; 5] = [Call::Flow, Call::Meter, Call::Rate, Call::Losses, Call::Heads];
+/// The calls that are timed against the model alone, in the order of their lines. Heat is that of a hot line.
+const OTHER_CALLS: [Call; 6] = [Call::Flow, Call::Meter, Call::Rate, Call::Losses, Call::Heads, Call::Heat];
 
 /// What a search is made to do.
 struct Load {
@@ -67,15 +68,19 @@ struct Load {
 
 impl Load {
     fn case(&self) -> Case {
+        let job = house(self.sections, self.head, self.pipes);
+        let out = result_bytes(Call::Choose, &House::of(&job));
         Case {
             call: Call::Choose,
-            job: house(self.sections, self.head, self.pipes),
+            job,
             meters: Vec::new(),
             losses: Vec::new(),
             cat: catalogue(self.sizes, 64, self.pipes),
             sizes: Vec::new(),
+            t: 0,
+            loss: 0,
             work: Buffer { length: work_bytes(self.sections, self.head), pattern: Vec::new() },
-            out: Buffer { length: result_bytes(Call::Choose, self.sections), pattern: Vec::new() },
+            out: Buffer { length: out, pattern: Vec::new() },
         }
     }
 }
@@ -126,9 +131,14 @@ fn other_case(call: Call, sections: usize) -> Case {
             case.cat.clear();
             case.losses = losses(sections);
         }
+        Call::Heat => {
+            case.cat.clear();
+            case.job = hot_line(&case.job);
+            (case.t, case.loss) = (5, 1_200);
+        }
         _ => case.sizes = (0..sections).map(|place| (place % 12) as u8 + 1).collect(),
     }
-    case.out.length = result_bytes(call, sections);
+    case.out.length = result_bytes(call, &House::of(&case.job));
     case
 }
 
@@ -140,6 +150,7 @@ fn lent(case: &Case, out: &mut [u8]) -> u32 {
         Call::Meter => ffi::meter(job, &case.meters, out),
         Call::Losses => ffi::losses(job, &case.cat, &case.sizes, out),
         Call::Heads => ffi::heads(job, &case.losses, out),
+        Call::Heat => ffi::heat(job, case.t, case.loss, out),
         _ => ffi::rate(job, &case.cat, &case.sizes, out),
     }
 }
