@@ -264,7 +264,7 @@ fn applying(vector: &Vector) -> Vec<u32> {
 }
 
 /// The refusals that a vector says to hold are by hand. Each call has each of its numbers in a vector where no other one holds;
-/// in a sheet 1 never holds alone.
+/// in a sheet 1 never holds alone, and in the heat call 2 never holds without 20, since a version that there is not has no service.
 #[test]
 fn refusals_that_hold() {
     let mut alone = Vec::new();
@@ -287,7 +287,7 @@ fn refusals_that_hold() {
         ('p', &[1, 2, 3, 4, 5, 6, 7, 8, 9, 10, 11, 12, 13, 14]),
         ('e', &[1, 2, 3, 4, 5, 6, 7, 8, 9, 10, 11, 12, 13, 14]),
         ('h', &[1, 2, 3, 4, 5, 6, 7, 8, 9, 14, 19]),
-        ('t', &[1, 2, 3, 4, 5, 6, 7, 8, 9, 14, 20, 21]),
+        ('t', &[1, 3, 4, 5, 6, 7, 8, 9, 14, 20, 21]),
         ('s', &[2, 3, 4, 5, 6, 7, 8, 9, 10, 11, 12, 13]),
         ('l', &[1, 2, 3, 4, 5, 6, 7, 8, 9, 10, 11, 14, 15, 16]),
     ];
