@@ -169,6 +169,8 @@ situations! {
     LineSuits: "a list chosen for a cold or a hot line where none suits for all the water",
     TwinResult: "a result of version 1 that version 2 with service 0 has too",
     TwinRefused: "a refusal of version 1 that version 2 with service 0 has too",
+    HeatAlone20: "20 where no other refusal applies",
+    HeatAlone21: "21 where no other refusal applies",
     HeatTotal: "20 for a record of version 1",
     HeatNamed: "20 for a record of version 2 with service 0",
     HeatCold: "20 for a cold line",

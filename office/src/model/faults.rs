@@ -8,6 +8,11 @@ pub const LAST: u32 = 21;
 pub struct Faults(u32);
 
 impl Faults {
+    /// This one and no other.
+    pub fn only(number: u32) -> Faults {
+        Faults(1 << number)
+    }
+
     pub fn note(&mut self, number: u32, applies: bool) {
         self.0 |= u32::from(applies) << number;
     }

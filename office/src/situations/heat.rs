@@ -4,6 +4,7 @@ use super::{Counters, Situation};
 use crate::case::Case;
 use crate::model::Judged;
 use crate::model::bytes::up;
+use crate::model::faults::Faults;
 use crate::model::heat::{Asked, MOST_LOSS, MOST_T};
 use crate::model::norms::{COLD, TOTAL};
 
@@ -11,6 +12,9 @@ impl Counters {
     /// A case of the heat call.
     pub(super) fn note_heat(&mut self, case: &Case, judged: &Judged) {
         let asked = Asked::of(case.t, case.loss);
+        let alone = |number| judged.faults == Faults::only(number);
+        self.saw(Situation::HeatAlone20, alone(20));
+        self.saw(Situation::HeatAlone21, alone(21));
         match judged.number {
             0 => self.note_watts(judged, asked),
             20 => self.note_no_hot_line(judged),
@@ -92,12 +96,13 @@ mod tests {
 
     #[test]
     fn jobs_that_are_not_hot() {
-        let ask = [HeatTotal, HeatNamed, HeatCold];
-        assert_eq!(reached(1, &[], (5, 0), ask), [1, 0, 0]);
-        assert_eq!(reached(2, &[0], (5, 0), ask), [0, 1, 0]);
-        assert_eq!(reached(2, &[1], (5, 0), ask), [0, 0, 1]);
-        assert_eq!(reached(2, &[1], (31, 0), ask), [0, 0, 1], "20 before 21");
-        assert_eq!(reached(2, &[2], (5, 0), ask), [0; 3]);
+        let ask = [HeatTotal, HeatNamed, HeatCold, HeatAlone20, HeatAlone21];
+        assert_eq!(reached(1, &[], (5, 0), ask), [1, 0, 0, 1, 0]);
+        assert_eq!(reached(2, &[0], (5, 0), ask), [0, 1, 0, 1, 0]);
+        assert_eq!(reached(2, &[1], (5, 0), ask), [0, 0, 1, 1, 0]);
+        assert_eq!(reached(2, &[1], (31, 0), ask), [0, 0, 1, 0, 0], "20 before 21");
+        assert_eq!(reached(2, &[2], (31, 0), ask), [0, 0, 0, 0, 1]);
+        assert_eq!(reached(2, &[2], (5, 0), ask), [0; 5]);
     }
 
     #[test]
