@@ -66,7 +66,7 @@ pub fn scratch(rng: &Rng, case: &mut Case) {
 
 /// Bytes that were never a record.
 pub fn junk(rng: &Rng, case: &mut Case) {
-    let length = rng.pick(&[0, 3, 6, 7, 39, 40, 50, 60, 670, 700]);
+    let length = rng.pick(&[0, 3, 6, 7, 39, 40, 41, 50, 51, 60, 670, 671, 700]);
     let bytes = rng.bytes(length);
     if case.call.takes_catalogue() && rng.once_in(2) {
         case.cat = bytes;
@@ -91,13 +91,14 @@ pub fn junk(rng: &Rng, case: &mut Case) {
 
 /// A head field at or beside the ends of its range.
 pub fn edge(rng: &Rng, job: &mut [u8]) {
-    match rng.below(8) {
+    match rng.below(9) {
         0 => set(job, 5, rng.pick(&[1, 2, 3, 4])),
         1 => set(job, 7, rng.pick(&[0, 1, 24, 25])),
         2 => set16(job, 8, rng.pick(&[0, 1_000, 1_001])),
         3 => set16(job, 10, rng.pick(&[0, 6_000, 6_001])),
         4 => set16(job, 12, rng.pick(&[0, 6_000, 6_001])),
         5 => set16(job, 14, rng.pick(&[0, 1, 3_000, 3_001])),
+        6 if from(job) > SERVICE => set(job, SERVICE, rng.pick(&[0, 1, 2, 3])),
         _ => section_edge(rng, job),
     }
 }
