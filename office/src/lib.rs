@@ -54,6 +54,7 @@ pub mod pipes;
 pub mod places;
 pub mod readable;
 pub mod record;
+pub mod service;
 pub mod table;
 pub mod taps;
 pub mod warnings;
