@@ -18,6 +18,9 @@ pub struct Arguments {
     pub json: bool,
     pub strict: bool,
     pub seed: Option<u64>,
+    /// What `heat` is given beside its file, as it was written.
+    pub cold_water: Option<OsString>,
+    pub loss: Option<OsString>,
     pub help: bool,
 }
 
@@ -41,6 +44,8 @@ pub fn parse(words: &[OsString]) -> Result<Arguments, Misuse> {
             "--seed" => {
                 found.seed = Some(number(&value(rest.next(), "--seed", "a number")?.to_string_lossy(), "--seed")?)
             }
+            "--cold-water" => set_once(&mut found.cold_water, &mut rest, "--cold-water", "a temperature in degrees C")?,
+            "--loss" => set_once(&mut found.loss, &mut rest, "--loss", "a number of W")?,
             // It takes the command's place, or that of the command on which there is to be help.
             "--version" if plain.iter().all(|(word, _)| word == "help") => {
                 plain.push((word.clone(), Reading::ByContent))
@@ -69,6 +74,19 @@ fn set_reading(next: &mut Reading, reading: Reading) -> Result<(), Misuse> {
     }
     *next = reading;
     Ok(())
+}
+
+/// Takes the value of an option that may be given once only: of two only one could be meant.
+fn set_once<'a>(
+    place: &mut Option<OsString>,
+    rest: &mut impl Iterator<Item = &'a OsString>,
+    option: &str,
+    what: &str,
+) -> Result<(), Misuse> {
+    match place.replace(value(rest.next(), option, what)?) {
+        None => Ok(()),
+        Some(_) => Err(Misuse::Words(format!("`{option}` is given twice"))),
+    }
 }
 
 fn value(word: Option<&OsString>, option: &str, what: &str) -> Result<OsString, Misuse> {
@@ -144,6 +162,8 @@ impl Arguments {
             (forced(Reading::Text), "--text"),
             (self.out.is_some(), "-o"),
             (self.seed.is_some(), "--seed"),
+            (self.cold_water.is_some(), "--cold-water"),
+            (self.loss.is_some(), "--loss"),
         ];
         if let Some((_, option)) = options.iter().find(|(given, option)| *given && !known.usage.contains(option)) {
             return misuse(format!("`{}` has no option {option}", self.command));
