@@ -25,6 +25,7 @@ fn examples() -> Vec<String> {
     let files = [
         "house.txt",
         "attic.txt",
+        "hotel-hot.txt",
         "table.csv",
         "mistakes/falling-velocity.csv",
         "mistakes/circle.txt",
@@ -66,6 +67,7 @@ fn of_job(bytes: &[u8]) -> Fields {
     let mut put = |name: String, value: i64| assert!(fields.insert(name, value).is_none());
     put("stated length".into(), record.stated.into());
     put("version".into(), record.version.into());
+    put("service".into(), record.service.into());
     put("local losses".into(), record.tenths.into());
     put("hours".into(), record.hours.into());
     put("meter loss".into(), record.meter.into());
@@ -354,6 +356,10 @@ fn answers_alike(shell: &mut Shell, record: &[u8], which: Which, status: i32) {
             0 if which != Which::Meters => assert!(one.output == other.output, "{text}"),
             _ => assert_eq!(line(&one.output), line(&other.output), "{text}"),
         }
+    }
+    // Bytes of version 0 may be a list of losses as well, and are shown as that.
+    if which == Which::House && loss::is_list(record) {
+        return;
     }
     assert_eq!(shell.run(&format!("show {name} -o again")).status, status);
     let again = shell.file("again").expect("shown");

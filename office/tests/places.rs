@@ -94,12 +94,27 @@ fn jobs_of_version_2() {
     // Version 1 has no service: its byte 40 is the parent of section 1.
     check(of_job(&with(&own, &[(40, 3)])), 5, At::Section(1), "it hangs from section 3");
     // The other version's length.
-    check(of_job(&with(&own, &[(4, 2)])), 4, sections, "the record has 50 bytes; section count 1 asks for 51 in version 2");
+    check(
+        of_job(&with(&own, &[(4, 2)])),
+        4,
+        sections,
+        "the record has 50 bytes; section count 1 asks for 51 in version 2",
+    );
     check(of_job(&with(&own, &[(4, 2)])), 4, sections, "version 1 has as many: is the service's byte missing?");
-    check(of_job(&with(&hot, &[(4, 1)])), 4, sections, "section count 1 asks for 50, and version 2, which has a service");
+    check(
+        of_job(&with(&hot, &[(4, 1)])),
+        4,
+        sections,
+        "section count 1 asks for 50, and version 2, which has a service",
+    );
     check(of_job(&with(&hot, &[(6, 2)])), 4, sections, "section count 2 asks for 61 in version 2");
     // Forty bytes of version 2 end before the service.
-    check(of_job(&with(&own[..40], &[(3, 40), (4, 2)])), 4, sections, "the record has 40 bytes; section count 1 asks for 51");
+    check(
+        of_job(&with(&own[..40], &[(3, 40), (4, 2)])),
+        4,
+        sections,
+        "the record has 40 bytes; section count 1 asks for 51",
+    );
     check(of_job(&with(&own[..40], &[(3, 40), (4, 2), (7, 25)])), 3, At::Field(Field::Hours), "25 is outside 1 to 24");
     // The sections lie one byte further on.
     check(of_job(&with(&hot, &[(41, 1)])), 5, At::Section(1), "hangs from itself");
@@ -114,7 +129,12 @@ fn heat() {
         (refusal.number(), places(&refusal, &Asked { job, heating, ..Asked::default() }))
     };
     let service = At::Field(Field::Service);
-    check(of(&job(), 5, 0), 20, service, "none is given, which means cold and hot water together; a hot line has a house");
+    check(
+        of(&job(), 5, 0),
+        20,
+        service,
+        "none is given, which means cold and hot water together; a hot line has a house",
+    );
     check(of(&served("total"), 5, 0), 20, service, "it is total, cold and hot water together; ");
     check(of(&served("cold"), 5, 0), 20, service, "it is cold; a hot line has a house of its own, with `service hot`");
     // 20 comes before 21, and 1 to 9 before both.
