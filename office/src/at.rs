@@ -36,7 +36,8 @@ impl Field {
     }
 }
 
-/// A place in a job, a catalogue, a list of sizes, of meters or of losses, or a number given beside them. Sections, sizes, rows and meters count from 1.
+/// A place in a job, a catalogue, a list of sizes, of meters or of losses, or a number given beside them. Sections, sizes, rows and
+/// meters count from 1.
 #[derive(Clone, Copy, Debug, PartialEq, Eq)]
 pub enum At {
     /// The job record as a whole.

@@ -217,13 +217,17 @@ fn an_older_answer_is_of_all_water() {
     }
 }
 
-/// What `losses` prints for people is told apart from a list of losses also where it begins with the service.
+/// What `losses` prints of a line for people is told apart from a list of losses, and from a house that begins with its service.
 #[test]
 fn a_table_for_people_is_no_list() {
     let table = answered(&["losses", HOT, TABLE, &sizes(HOT)]);
-    assert!(table.starts_with("service  hot\nsizes  "), "{table}");
+    assert!(table.starts_with("sizes  ") && table.lines().nth(1) == Some("service  hot"), "{table}");
     let ran = office_with(&["heads", HOT, "-"], table.as_bytes());
     assert!(ran.status == 2 && ran.error.contains("is what `office` prints for people"), "{}", ran.error);
+    let other = read(COLD).replace("service cold", "service         cold");
+    let first: String = other.lines().filter(|line| !line.starts_with('#')).map(|line| format!("{line}\n")).collect();
+    let ran = office_with(&["heads", HOT, "-"], first.as_bytes());
+    assert!(ran.status == 2 && ran.error.contains("is a house; a list of losses is expected"), "{}", ran.error);
 }
 
 /// Kind 7 uses 250 litres a day, 150 of them hot, and 28.0 in the hour, 15.0 of them hot; a fixture of either line gives 0.20 l/s and

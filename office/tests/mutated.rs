@@ -236,7 +236,7 @@ impl Shell {
 }
 
 /// The calls that a file goes through: those that take a file of its kind, and one that takes another.
-fn calls(file: &str, which: Which) -> [String; 5] {
+fn calls(file: &str, which: Which) -> [String; 6] {
     let sizes = "6,6,6,6,6,6,6,6,6,6,6,6";
     match which {
         Which::House => [
@@ -245,6 +245,7 @@ fn calls(file: &str, which: Which) -> [String; 5] {
             format!("choose {file} $examples/table.csv"),
             format!("draw {file} $examples/table.csv"),
             format!("meter {file} $examples/meters.csv"),
+            format!("heat {file} --cold-water 5 --loss 1200"),
         ],
         Which::Table => [
             format!("rate $examples/house.txt {file} {sizes}"),
@@ -252,6 +253,7 @@ fn calls(file: &str, which: Which) -> [String; 5] {
             format!("draw $examples/house.txt {file}"),
             format!("draw $examples/house.txt {file} {sizes}"),
             format!("flow {file}"),
+            format!("heat {file} --cold-water 5 --loss 1200"),
         ],
         Which::Losses => [
             format!("heads $examples/house.txt {file}"),
@@ -259,6 +261,7 @@ fn calls(file: &str, which: Which) -> [String; 5] {
             format!("heads $examples/attic.txt {file}"),
             format!("meter $examples/house.txt {file}"),
             format!("flow {file}"),
+            format!("heat {file} --cold-water 5 --loss 1200"),
         ],
         Which::Meters => [
             format!("meter $examples/house.txt {file}"),
@@ -266,6 +269,7 @@ fn calls(file: &str, which: Which) -> [String; 5] {
             format!("meter $examples/attic.txt {file}"),
             format!("choose $examples/house.txt {file}"),
             format!("flow {file}"),
+            format!("heat {file} --cold-water 5 --loss 1200"),
         ],
     }
 }
@@ -273,7 +277,7 @@ fn calls(file: &str, which: Which) -> [String; 5] {
 /// How many of these calls take a file of that kind.
 fn own_calls(which: Which) -> usize {
     match which {
-        Which::House => 5,
+        Which::House => 6,
         Which::Table => 4,
         Which::Meters | Which::Losses => 3,
     }

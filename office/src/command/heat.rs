@@ -101,7 +101,7 @@ impl Heated {
 
     /// What the water itself takes, in watts: formulas 10 and 11 without the loss.
     fn of_water(&self, flow: u32) -> u64 {
-        (PER_CUBIC_METRE * u64::from(flow) * (HOT - u64::from(self.heating.cold).min(HOT))).div_ceil(100)
+        (PER_LITRE * u64::from(flow) * (HOT - u64::from(self.heating.cold).min(HOT))).div_ceil(100)
     }
 
     fn difference(&self) -> Option<String> {
@@ -138,16 +138,16 @@ impl Heated {
             rows.push((hour, flow.to_string(), "l/h".to_string()));
             rows.push(("  heat flow", watts.to_string(), format!("W, which is {} kW", shown(watts.into(), 3))));
             let water = self.of_water(flow);
-            let sum = format!("{PER_CUBIC_METRE} x {flow} x ({HOT} - {cold}) / 100, rounded up, is {water} W");
+            let sum = format!("{PER_LITRE} x {flow} x ({HOT} - {cold}) / 100, rounded up, is {water} W");
             sums.push_str(&format!("{hour}: {sum}; with the heat loss of {loss} W it is {watts} W\n"));
         }
         format!("{}\n{sums}", figures(&rows))
     }
 }
 
-/// Watts that heat a cubic metre in an hour by one degree, over 10, and the temperature of hot water in degrees C, both by formulas
-/// 10 and 11.
-const PER_CUBIC_METRE: u64 = 116;
+/// Hundredths of a watt that heat a litre an hour by one degree, and the temperature of hot water in degrees C, as formulas 10 and 11
+/// have them.
+const PER_LITRE: u64 = 116;
 const HOT: u64 = 55;
 
 #[cfg(test)]

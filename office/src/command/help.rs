@@ -120,8 +120,8 @@ when the delivered head is delivered, less meter loss, losses and elevation. An 
 behind it.
 
 --json: service, duty_ml_per_s, duty_one_tap_kinds, hour_l_per_h, day_l, mean_hour_l_per_h, local_losses_tenths, cost_tenths (in
-tenths of the price unit), sizes, suits, required_head_cm, pump_head_cm, guaranteed_head_cm, delivered_head_cm, dictating_section, sections
-(section, parent, size, bore_mm, length_dm, flow_ml_per_s, one_tap_kinds, velocity_mm_per_s, loss_cm, head_left_cm, free_head_cm).",
+tenths of the price unit), sizes, suits, required_head_cm, pump_head_cm, guaranteed_head_cm, delivered_head_cm,
+dictating_section, sections (section, parent, size, bore_mm, length_dm, flow_ml_per_s, one_tap_kinds, velocity_mm_per_s, loss_cm, head_left_cm, free_head_cm).",
     },
     Command {
         name: "losses",
@@ -183,7 +183,8 @@ rises loses at least its rise. A fault that more than three sections share is on
 `office help flow` explains the design flow, and `one tap of` behind it.
 
 --json: service, duty_ml_per_s, duty_one_tap_kinds, hour_l_per_h, day_l, mean_hour_l_per_h, local_losses_tenths, suits,
-required_head_cm, pump_head_cm, guaranteed_head_cm, delivered_head_cm, dictating_section, dictating_path (the sections from there to the pump),
+required_head_cm, pump_head_cm, guaranteed_head_cm, delivered_head_cm, dictating_section, dictating_path (the sections from
+there to the pump),
 path_loss_cm (what these lose together), sections (section, parent, length_dm, flow_ml_per_s, one_tap_kinds, loss_cm, head_left_cm,
 free_head_cm).",
     },
@@ -247,8 +248,8 @@ numbers (`office kinds`) stand there, with the names at the foot and under a poi
 The norms are those of all water, or of the line that is named. A resident's cold water is what is left of all water without the
 hot; a fixture draws the same from either line.
 
---json: service, kinds (kind, name, what, day_l, hour_tenths_l, fixture_hundredths_l_per_s, fixture_l_per_h), in document 01's units:
-tenths of a litre in the hour, hundredths of a litre in the second.",
+--json: service, kinds (kind, name, what, day_l, hour_tenths_l, fixture_hundredths_l_per_s, fixture_l_per_h), in document 01's
+units: tenths of a litre in the hour, hundredths of a litre in the second.",
     },
     Command {
         name: "new",

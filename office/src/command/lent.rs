@@ -88,7 +88,7 @@ impl File<'_> {
     /// What the command prints without `--json`.
     fn is_for_people(&self, text: &str) -> Result<(), Misuse> {
         let first = readable::lines(text).next().map_or("", |line| line.content);
-        let begins = ["service  ", "sizes  ", "pump set: ", "refused "].iter().any(|words| first.starts_with(words));
+        let begins = ["sizes  ", "pump set: ", "refused "].iter().any(|words| first.starts_with(words));
         let table = first.split_whitespace().take(3).eq(["section", "from", "kind"]);
         match begins || table {
             true => Err(Misuse::Words(format!(

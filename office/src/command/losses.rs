@@ -57,7 +57,7 @@ impl Lost {
         let marked = self.demand.taps.sections.iter().any(|kinds| !kinds.is_empty());
         let (table, legend) = (sections::table(&self.pipes, Known::Sizes), legend(marked));
         let service = self.demand.service.map(|service| format!("service  {}\n", service::name(service)));
-        format!("{}{}\n{table}{LEGEND}{legend}", service.unwrap_or_default(), sizes_line(&self.sizes))
+        format!("{}{}\n{table}{LEGEND}{legend}", sizes_line(&self.sizes), service.unwrap_or_default())
     }
 }
 

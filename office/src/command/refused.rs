@@ -84,7 +84,8 @@ impl Given<'_> {
         Json::Object(place_fields(&place.at.to_string(), &place.why, file, line))
     }
 
-    /// What is nearly always a slip in the lists and in the numbers beside them. Losses that were worked out from a table are none that somebody wrote.
+    /// What is nearly always a slip in the lists and in the numbers beside them. Losses that were worked out from a table are none
+    /// that somebody wrote.
     fn of_lists(&self) -> Vec<Place> {
         let record = self.job.and_then(|job| Record::read(&job.bytes).ok());
         // Bytes that are no list of meters have a refusal, and nothing that they hold is a slip.

@@ -308,7 +308,8 @@ pub const ROWS: &[Row] = &[
             "The house of the cold line was given.",
         ],
         remedies: &[
-            "Give the house of the hot line: a file of its own, with a line `service hot`, and the pipes and fixtures of that line.",
+            "Give the house of the hot line: a file of its own with a line `service hot`, and the pipes and fixtures of that \
+             line.",
             "Give all residents in it: the norms of a hot line are of its part of their water (`office kinds hot`).",
         ],
     },
