@@ -220,7 +220,7 @@ fn as_its_twin(case: &Case, twin: &Case, judged: &Judged) -> Result<u32, String>
         return Err(format!("the library gives {number} for version 1 and {other} for version 2 with service 0"));
     }
     let same = match case.call {
-        _ if number != 0 => of_twin[..own.len()] == own,
+        _ if number != 0 => of_twin.starts_with(&own),
         Call::Choose => {
             chosen_well(judged, model::bytes::number(&own, 0, 4), &of_twin[..4 + judged.flows.len()]).is_ok()
         }
@@ -283,4 +283,49 @@ fn try_all(judged: &Judged, counters: &mut Counters) -> Result<(), String> {
         counters.note_tried(tried.map(|(_, ways)| ways));
     }
     Ok(())
+}
+
+#[cfg(test)]
+mod tests {
+    use super::*;
+
+    /// Document 01's own case with the larger size, which alone serves all its water.
+    fn own(call: Call) -> Case {
+        let text = "job 0000003201030118003201f404b005dc0000000000000000000000000047\n\
+            job 00000000000000000000000700500064025800c8\nmeters 01 1388 02e4\nlosses 00000047\nsizes 02\n\
+            cat 0000002f0102020028038400 0003e803200028 00000bb80960012c 00320514000003e801f4000c00000bb805dc005a\n\
+            work 17608\nout 60 a5\n";
+        Case::parse(&format!("call {}\n{text}", call.name())).expect("a case")
+    }
+
+    #[test]
+    fn the_same_job_in_version_2() {
+        let case = own(Call::Copy);
+        let other = twin(&case).expect("a record of version 1");
+        assert_eq!(other.job[..5], [0, 0, 0, 51, 2]);
+        assert_eq!((&other.job[5..40], other.job[40], &other.job[41..]), (&case.job[5..40], 0, &case.job[40..]));
+        assert_eq!((other.out.length, other.work.length), (61, 17_608));
+        assert_eq!(twin(&own(Call::Flow)).map(|other| other.out.length), Some(60));
+        assert_eq!(twin(&other), None, "version 2");
+        for bytes in [0, 4, 39] {
+            assert_eq!(twin(&Case { job: case.job[..bytes].to_vec(), ..case.clone() }), None, "{bytes} bytes");
+        }
+    }
+
+    /// Of each call: the twin's answer is the case's own, and that of the cold line, or of a buffer that is short, is not.
+    #[test]
+    fn a_difference_between_the_versions_is_seen() {
+        for call in Call::ALL {
+            let case = own(call);
+            let (judged, right) = (judge(&case), twin(&case).expect("a record of version 1"));
+            let number = if call == Call::Heat { 20 } else { 0 };
+            assert_eq!(as_its_twin(&case, &right, &judged), Ok(number), "{}", call.name());
+            let mut cold = right.clone();
+            cold.job[SERVICE] = 1;
+            let by_norms = !matches!(call, Call::Copy | Call::Heads | Call::Heat);
+            assert_eq!(as_its_twin(&case, &cold, &judged).is_err(), by_norms, "{} of the cold line", call.name());
+            let short = Case { out: Buffer::default(), ..right };
+            assert!(as_its_twin(&case, &short, &judged).is_err(), "{} of no room", call.name());
+        }
+    }
 }

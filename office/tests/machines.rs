@@ -12,6 +12,7 @@ const HOUSE: &str = "examples/house.txt";
 const TABLE: &str = "examples/table.csv";
 const METERS: &str = "examples/meters.csv";
 const LOSSES: &str = "examples/losses.csv";
+const HOT: &str = "examples/hotel-hot.txt";
 const WIDE: &str = "6,6,6,6,6,6,6,6,6,6,6,6";
 
 fn keys(value: &Value) -> Vec<String> {
@@ -36,7 +37,8 @@ fn the_keys_are_those_of_the_page() {
     assert_eq!(office(&["pack", METERS, "-o", &list]).status, 0);
     let lost = scratch("machines.losses");
     assert_eq!(office(&["pack", LOSSES, "-o", &lost]).status, 0);
-    let rows: [(&str, &[&str]); 14] = [
+    let heat = ["heat", HOT, "--cold-water", "5", "--loss", "1200"];
+    let rows: [(&str, &[&str]); 18] = [
         ("|`pack`|", &["pack", HOUSE]),
         ("|`pack`|", &["pack", METERS]),
         ("|`pack`|", &["pack", LOSSES]),
@@ -47,6 +49,10 @@ fn the_keys_are_those_of_the_page() {
         ("|`show` of meters|", &["show", &list]),
         ("|`meter`|", &["meter", HOUSE, METERS]),
         ("|`flow`|", &["flow", HOUSE]),
+        ("|`flow`|", &["flow", HOT]),
+        ("|`pack`|", &["pack", HOT]),
+        ("|`meter`|", &["meter", HOT, METERS]),
+        ("|`heat`|", &heat),
         ("|`rate`, `choose`|", &["rate", HOUSE, TABLE, WIDE]),
         ("|`rate`, `choose`|", &["choose", HOUSE, TABLE]),
         ("|`kinds`|", &["kinds"]),
@@ -76,6 +82,8 @@ fn files_are_named_in_every_answer() {
     let by_file = format!("@{sizes}");
     for (words, files) in [
         (&["flow", HOUSE][..], vec![HOUSE]),
+        (&["heat", HOT, "--cold-water", "5", "--loss", "1200"], vec![HOT]),
+        (&["heat", HOUSE, "--cold-water", "5", "--loss", "1200"], vec![HOUSE]),
         (&["choose", HOUSE, TABLE], vec![HOUSE, TABLE]),
         (&["meter", HOUSE, METERS], vec![HOUSE, METERS]),
         (&["heads", HOUSE, LOSSES], vec![HOUSE, LOSSES]),
