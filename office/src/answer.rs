@@ -193,6 +193,11 @@ impl Answer {
         self.sections.iter().map(|section| section.loss).collect()
     }
 
+    /// The line that the losses are of, where they are not of all water.
+    pub fn line(&self) -> Option<u8> {
+        Some(self.service).filter(|service| *service != TOTAL)
+    }
+
     /// Whether the losses were worked out from a table, so that they are each section's own and in cm.
     pub fn is_worked_out(&self) -> bool {
         self.command != HEADS

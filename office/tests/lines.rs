@@ -194,6 +194,18 @@ fn an_answer_of_another_line_is_refused() {
     assert_eq!(office_with(&["heads", &total, "-"], &answer).status, 0);
 }
 
+/// A readable list says nothing of the house, so that its first line tells which line its losses are of.
+#[test]
+fn a_list_of_an_answer_names_its_line() {
+    for (file, line) in [(HOT, " for the hot line"), (COLD, " for the cold line"), (HOUSE, "")] {
+        let answer = answered(&["losses", file, TABLE, &sizes(file), "--json"]);
+        let list = office_with(&["show", "-"], answer.as_bytes()).text();
+        let first = format!("# the losses of standard input, an answer of `office losses`{line}\n");
+        assert!(list.starts_with(&first), "{list}");
+        assert_eq!(office_with(&["heads", file, "-"], list.as_bytes()).status, 0);
+    }
+}
+
 /// An answer from before there were services has no such key: it is of all water. One that is no service is refused.
 #[test]
 fn an_older_answer_is_of_all_water() {

@@ -40,12 +40,7 @@ pub fn parse(words: &[OsString]) -> Result<Arguments, Misuse> {
             "-h" | "--help" => found.help = true,
             "--record" => set_reading(&mut next, Reading::Record)?,
             "--text" => set_reading(&mut next, Reading::Text)?,
-            "-o" => found.set_out(value(rest.next(), "-o", "a file")?)?,
-            "--seed" => {
-                found.seed = Some(number(&value(rest.next(), "--seed", "a number")?.to_string_lossy(), "--seed")?)
-            }
-            "--cold-water" => set_once(&mut found.cold_water, &mut rest, "--cold-water", "a temperature in degrees C")?,
-            "--loss" => set_once(&mut found.loss, &mut rest, "--loss", "a number of W")?,
+            option @ ("-o" | "--seed" | "--cold-water" | "--loss") => found.set(option, rest.next())?,
             // It takes the command's place, or that of the command on which there is to be help.
             "--version" if plain.iter().all(|(word, _)| word == "help") => {
                 plain.push((word.clone(), Reading::ByContent))
@@ -77,13 +72,8 @@ fn set_reading(next: &mut Reading, reading: Reading) -> Result<(), Misuse> {
 }
 
 /// Takes the value of an option that may be given once only: of two only one could be meant.
-fn set_once<'a>(
-    place: &mut Option<OsString>,
-    rest: &mut impl Iterator<Item = &'a OsString>,
-    option: &str,
-    what: &str,
-) -> Result<(), Misuse> {
-    match place.replace(value(rest.next(), option, what)?) {
+fn set_once(place: &mut Option<OsString>, value: OsString, option: &str) -> Result<(), Misuse> {
+    match place.replace(value) {
         None => Ok(()),
         Some(_) => Err(Misuse::Words(format!("`{option}` is given twice"))),
     }
@@ -101,6 +91,20 @@ pub fn number(given: &str, what: &str) -> Result<u64, Misuse> {
 }
 
 impl Arguments {
+    /// An option with the word behind it.
+    fn set(&mut self, option: &str, word: Option<&OsString>) -> Result<(), Misuse> {
+        let value = |what: &str| value(word, option, what);
+        match option {
+            "-o" => self.set_out(value("a file")?),
+            "--cold-water" => set_once(&mut self.cold_water, value("a temperature in degrees C")?, option),
+            "--loss" => set_once(&mut self.loss, value("a number of W")?, option),
+            seed => {
+                self.seed = Some(number(&value("a number")?.to_string_lossy(), seed)?);
+                Ok(())
+            }
+        }
+    }
+
     /// There is one answer, so it has one file. A dash is standard output, where it goes anyway.
     fn set_out(&mut self, file: OsString) -> Result<(), Misuse> {
         match self.out.replace(file) {
