@@ -183,7 +183,7 @@ situations! {
     HeatBothOver: "21 with both out of range",
     HeatOver55: "21 by cold water of 55 °C or more alone",
     HeatCutT: "21 by a temperature alone whose last byte is at most 30",
-    HeatNegative: "21 by a number of -1 as 32 bits",
+    HeatNegative: "21 by -1, as 32 bits without a sign have it",
     HeatWhole: "a heat flow of whole watts in both hours",
     HeatUp: "a heat flow that is rounded up in both hours",
     HeatMeanUp: "a mean hour's heat flow that would be less by the day's quotient without rounding",

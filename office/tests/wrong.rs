@@ -35,7 +35,7 @@ fn numbers(all: &[i128]) -> Vec<u8> {
     bytes
 }
 
-/// Watts of this many l/h, as documents 01 and 02 have the formula.
+/// Watts of this many l/h, as document 02 has the formula.
 fn watts(litres: i128, degrees: i128) -> i128 {
     up(116 * litres * degrees, 100)
 }
@@ -99,14 +99,13 @@ fn is_two(case: &Case) -> bool {
 }
 
 /// Right ones, by the same means: what a wrong one differs in is what it is named after.
-const RIGHT: [(&str, Program); 7] = [
+const RIGHT: [(&str, Program); 6] = [
     ("heat", |case, judged| heat(case, judged, |mean, hour, of| [mean, hour].map(|l| watts(l, 55 - of.t) + of.loss))),
     ("heat's order", |case, judged| heat_in_order(case, judged, &[1, 2, 3, 4, 5, 6, 7, 8, 9, 20, 21, 14])),
-    ("length", |case, judged| refusing(case, judged, 4, judged.faults.has(4))),
+    ("refusals", |case, judged| refusing(case, judged, 4, case.job.len() != judged.house.record_bytes())),
     ("the job as it is", |case, _| with_job(case, |_| ())),
     ("duty", |case, judged| duty(case, judged, norms::of)),
     ("day", |case, judged| day(case, judged, norms::of)),
-    ("copy", |case, judged| (case.call == Call::Copy).then(|| right(judged))),
 ];
 
 const WRONG_HEATS: [(&str, Program); 14] = [
