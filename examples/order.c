@@ -1,9 +1,9 @@
 /* Every call of the library from C, on document 01's own case: flows, duty, the meter, rating in one call and in two, choosing
- * and copying, and a refusal of each.
+ * and copying, on its hot line the heat flow, and a refusal of each.
  *
  *   cc -std=c99 -I office/include examples/order.c target/staticlib/liborder.a -o order && ./order
  *
- * It prints what each call gave; the status is 1 if any of it is not what document 01 says. */
+ * It prints what each call gave; the status is 1 if any of it is not what documents 01 and 02 say. */
 
 #include "order.h"
 
@@ -14,6 +14,14 @@
 static const uint8_t job[50] = {
     0, 0, 0, 50, 1, 3, 1, 24, 0, 50, 1, 0xf4, 4, 0xb0, 5, 0xdc,
     0, 0, 0, 0, 0, 0, 0, 0, 0, 0, 0, 0, 0, 71, 0, 0, 0, 0, 0, 0, 0, 0, 0, 0,
+    0, 7, 0, 80, 0, 100, 2, 0x58, 0, 200,
+};
+
+/* The same house's hot line, as a record of version 2: byte 40 is its service, and the section begins at byte 41. */
+static const uint8_t hot[51] = {
+    0, 0, 0, 51, 2, 3, 1, 24, 0, 50, 1, 0xf4, 4, 0xb0, 5, 0xdc,
+    0, 0, 0, 0, 0, 0, 0, 0, 0, 0, 0, 0, 0, 71, 0, 0, 0, 0, 0, 0, 0, 0, 0, 0,
+    2,
     0, 7, 0, 80, 0, 100, 2, 0x58, 0, 200,
 };
 
@@ -66,12 +74,34 @@ static void in_two_calls(const uint8_t *sizes, size_t sections)
     is("the same heads", memcmp(out, rated, ORDER_HEADS_BYTES) == 0, 1);
 }
 
+/* The hot line: cold water of 5 degrees and a stated loss of 1,200 W. 116 * 444 * 50 / 100 are 25,752 W, and 116 * 2,624 * 50 / 100
+ * are 152,192 W. */
+static void hot_line(void)
+{
+    is("flow of the hot line", order_flow(hot, sizeof hot, out, ORDER_FLOW_BYTES), 0);
+    is("hour", number_at(out), 2624);
+    is("day", number_at(out + 4), 10650);
+    is("mean hour", number_at(out + 8), 444);
+    is("section 1", number_at(out + 12), 1206);
+
+    is("heat", order_heat(hot, sizeof hot, 5, 1200, out, ORDER_HEAT_BYTES), 0);
+    is("watts of the mean hour", number_at(out), 26952);
+    is("watts of the greatest hour", number_at(out + 4), 153392);
+    is("heat of the whole house", order_heat(job, sizeof job, 5, 1200, out, ORDER_HEAT_BYTES), 20);
+    is("heat with water of 31 degrees", order_heat(hot, sizeof hot, 31, 1200, out, ORDER_HEAT_BYTES), 21);
+    is("heat with water of -1 degree", order_heat(hot, sizeof hot, (uint32_t)-1, 1200, out, ORDER_HEAT_BYTES), 21);
+    is("heat into 7 bytes", order_heat(hot, sizeof hot, 5, 1200, out, 7), 14);
+
+    is("copy of the hot line", order_copy(hot, sizeof hot, out, ORDER_COPY_BYTES), 0);
+    is("the same bytes", memcmp(out, hot, sizeof hot) == 0, 1);
+}
+
 int main(void)
 {
     static const uint8_t wide[1] = {2}, narrow[1] = {1};
     size_t needed = 4u * (1 + 1) * (1200 + 1001);
 
-    is("version", ORDER_VERSION, 2);
+    is("version", ORDER_VERSION, 3);
 
     is("flow", order_flow(job, sizeof job, out, ORDER_FLOW_BYTES), 0);
     is("hour", number_at(out), 4542);
@@ -123,5 +153,7 @@ int main(void)
     is("copy", order_copy(job, sizeof job, out, ORDER_COPY_BYTES), 0);
     is("the same bytes", memcmp(out, job, sizeof job) == 0, 1);
     is("copy into 49 bytes", order_copy(job, sizeof job, out, 49), 14);
+
+    hot_line();
     return wrong;
 }

@@ -1,5 +1,5 @@
-/* The proved pipe sizing library: design flows, the meter, rating in one call or in two, and choosing of a branched
- * house network.
+/* The proved pipe sizing library: design flows, the meter, rating in one call or in two, choosing, and the heat flow of a
+ * branched house network, of all its water or of its cold or its hot line.
  *
  * Build: `rt staticlib order` makes target/staticlib/liborder.a; link it with the C library (it uses memcpy and memset).
  *
@@ -18,9 +18,9 @@
  *
  * The call gives back 0 for a result, or the number of the refusal:
  *    1  job under 40 bytes, or its length isn't the bytes lent
- *    2  version not 1
- *    3  k, S, T, meter loss, G, H or limit out of range
- *    4  length isn't 40 + 10 * S
+ *    2  version neither 1 nor 2
+ *    3  k, S, T, meter loss, G, H or limit out of range, or in version 2 a service over 2
+ *    4  length isn't 40 + 10 * S in version 1, or 41 + 10 * S in version 2
  *    5  a section breaks its own fields' rules
  *    6  a childless section has kind 0
  *    7  residents without fixtures, or the reverse
@@ -36,11 +36,17 @@
  *   17  the list of meters breaks its rules
  *   18  no meter qualifies
  *   19  the losses aren't S long or one is over 4,259,775 cm
- * Of several faults the first in the order 1 to 9, 17 or 19, 10, 11, 12, 14, 15, then 13, 16 or 18 is given back.
+ *   20  heat asked for a job that isn't hot
+ *   21  temperature over 30 or stated loss over 1,000,000
+ * Of several faults the first in the order 1 to 9, 17, 19 or 20, 21, 10, 11, 12, 14, 15, then 13, 16 or 18 is given back.
  *
  * A refusal leaves every byte of out as it was. A result is written from the start of out and leaves the bytes after it
  * as they were, so a longer buffer is fine. Numbers are big-endian. S is the section count, byte 6 of the job; H is the
  * delivered head, bytes 12 and 13 of the job.
+ *
+ * A job record has version 1 or 2 (byte 4). In version 1 its S sections of 10 bytes begin at byte 40. In version 2 byte 40 is
+ * the service: 0 total, 1 cold, 2 hot; the sections begin at byte 41, and the record is one byte longer. Version 1 means
+ * total, as version 2 with service 0 does. The service says whose norms the flows are worked out with; all else is the same.
  */
 
 #ifndef ORDER_H
@@ -54,18 +60,20 @@ extern "C" {
 #endif
 
 /* Rises when a call that is here takes or gives something else, or goes; a call or a refusal that is added leaves it as it is.
- * A number that a program does not know is a refusal of a newer library. 2: design flows are never less than one tap. */
-#define ORDER_VERSION 2
+ * A number that a program does not know is a refusal of a newer library. 2: design flows are never less than one tap.
+ * 3: every call takes job records of version 2, which were refused with 2; order_copy and order_meter write them. */
+#define ORDER_VERSION 3
 
 /* The greatest sizes that any accepted job needs (S = 63, H = 6,000). */
 #define ORDER_FLOW_BYTES 264u      /* 12 + 4 * 63 */
 #define ORDER_DUTY_BYTES 4u
-#define ORDER_METER_BYTES 671u     /* 1 + 40 + 10 * 63 */
+#define ORDER_METER_BYTES 672u     /* 1 + 41 + 10 * 63 */
 #define ORDER_RATE_BYTES 387u      /* 9 + 6 * 63 */
 #define ORDER_LOSSES_BYTES 630u    /* 10 * 63 */
 #define ORDER_HEADS_BYTES 9u
 #define ORDER_CHOOSE_BYTES 67u     /* 4 + 63 */
-#define ORDER_COPY_BYTES 670u      /* 40 + 10 * 63 */
+#define ORDER_HEAT_BYTES 8u
+#define ORDER_COPY_BYTES 671u      /* 41 + 10 * 63 */
 #define ORDER_WORK_BYTES 1792256u  /* 4 * 64 * 7,001 */
 
 /* Design flows of a job.
@@ -135,8 +143,18 @@ uint32_t order_heads(const uint8_t *job, size_t job_length, const uint8_t *losse
 uint32_t order_choose(const uint8_t *job, size_t job_length, const uint8_t *cat, size_t cat_length,
                       uint8_t *work, size_t work_length, uint8_t *out, size_t out_length);
 
-/* Reads a job record and writes it again.
- * job: a job record. out: at least 40 + 10 * S bytes.
+/* The heat flow of a hot line, formulas 10 and 11.
+ * job: a job record of version 2 with service 2. t: temperature of the cold water in degrees Celsius, 0 to 30. loss: stated loss
+ * in watts, 0 to 1,000,000. out: at least 8 bytes.
+ * t and loss are unsigned: a negative number is out of range and gives 21, as -1 arrives as 4,294,967,295. A number of more than
+ * 32 bits is cut to them by the caller's compiler before the library sees it.
+ * Result: watts of the mean hour (4 bytes), then of the greatest hour (4), each 116 * q * (55 - t) / 100, up, plus the loss, with q
+ * the mean hour or the hour in l/h as order_flow gives them for the job.
+ * Refusals: 1 to 9, 20, 21, 14, in this order. */
+uint32_t order_heat(const uint8_t *job, size_t job_length, uint32_t t, uint32_t loss, uint8_t *out, size_t out_length);
+
+/* Reads a job record and writes it again, in its own version.
+ * job: a job record. out: at least as many bytes as the job: 40 + 10 * S in version 1, 41 + 10 * S in version 2.
  * Result: the record's own bytes. Refusals: 1 to 7, 14 (8 and 9 are no matter of reading). */
 uint32_t order_copy(const uint8_t *job, size_t job_length, uint8_t *out, size_t out_length);
 

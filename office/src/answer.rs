@@ -10,6 +10,7 @@ mod node;
 use crate::mistake::{Mistake, Mistakes};
 use crate::places::Place;
 use crate::readable::Saved;
+use crate::service::{self, HOT, TOTAL};
 use json::{Fault, Node, Value};
 
 /// The commands whose answers have a loss for each section, which is the section's own.
@@ -46,6 +47,7 @@ pub struct Answer {
     /// The command that printed it.
     pub command: String,
     pub warnings: Vec<Said>,
+    service: u8,
     /// Local losses of the house in tenths.
     tenths: i64,
     /// Section 1 is at place 0.
@@ -127,10 +129,19 @@ fn printed(node: &Node) -> Result<Printed, Fault> {
         return Ok(Printed::Refusal(Refused { command, warnings, number, text, places: said(refusal, "places")? }));
     }
     let list = sections(node, &warnings)?;
+    let service = service(node)?;
     let tenths = node.number("local_losses_tenths", u8::MAX.into())?;
     let fast = command != HEADS;
     let sections = (1..).zip(list).map(|(place, node)| stated(place, node, fast)).collect::<Result<_, Fault>>()?;
-    Ok(Printed::Answer(Answer { command, warnings, tenths, sections }))
+    Ok(Printed::Answer(Answer { command, warnings, service, tenths, sections }))
+}
+
+/// The service. Answers from before there was one are of all water.
+fn service(node: &Node) -> Result<u8, Fault> {
+    let Some(own) = node.find("service") else { return Ok(TOTAL) };
+    let name = node.text("service")?;
+    let known = (TOTAL..=HOT).find(|service| service::name(*service) == name);
+    known.ok_or_else(|| own.fault(format!("`service` is `{name}`"), service::TAKEN))
 }
 
 /// The entries of `sections`. Where mistakes or `--strict` left no answer there are none.
@@ -180,6 +191,11 @@ impl Answer {
     /// The sections' losses in cm; section 1 is at place 0.
     pub fn losses(&self) -> Vec<u32> {
         self.sections.iter().map(|section| section.loss).collect()
+    }
+
+    /// The line that the losses are of, where they are not of all water.
+    pub fn line(&self) -> Option<u8> {
+        Some(self.service).filter(|service| *service != TOTAL)
     }
 
     /// Whether the losses were worked out from a table, so that they are each section's own and in cm.

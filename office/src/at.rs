@@ -16,6 +16,7 @@ pub enum Field {
     Guaranteed,
     Delivered,
     Limit,
+    Service,
 }
 
 impl Field {
@@ -30,11 +31,13 @@ impl Field {
             Field::Guaranteed => "guaranteed head",
             Field::Delivered => "delivered head",
             Field::Limit => "velocity limit",
+            Field::Service => "service",
         }
     }
 }
 
-/// A place in a job, a catalogue, a list of sizes, of meters or of losses. Sections, sizes, rows and meters count from 1.
+/// A place in a job, a catalogue, a list of sizes, of meters or of losses, or a number given beside them. Sections, sizes, rows and
+/// meters count from 1.
 #[derive(Clone, Copy, Debug, PartialEq, Eq)]
 pub enum At {
     /// The job record as a whole.
@@ -61,6 +64,10 @@ pub enum At {
     Losses,
     /// The loss given for a section.
     Loss(usize),
+    /// The cold water's temperature, which the command takes as an option.
+    ColdWater,
+    /// The heat that is lost, which the command takes as an option.
+    HeatLoss,
 }
 
 impl fmt::Display for At {
@@ -80,6 +87,8 @@ impl fmt::Display for At {
             At::Meter(place) => write!(f, "meter {place}"),
             At::Losses => write!(f, "list of losses"),
             At::Loss(section) => write!(f, "loss of section {section}"),
+            At::ColdWater => write!(f, "cold water"),
+            At::HeatLoss => write!(f, "heat loss"),
         }
     }
 }

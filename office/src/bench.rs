@@ -1,4 +1,4 @@
-//! The library against its rivals, on the same inputs and in one run: flow, meter, rating in one call and in two, and choosing of
+//! The library against its rivals, on the same inputs and in one run: flow, meter, rating in one call and in two, choosing and heat of
 //! the independent model, and searches in safe Rust. Nobody clears a buffer between calls. Ratios are the library's time over
 //! the rival's, taken round by round with the sides in turn, so that a slow moment of the machine falls on all of them.
 
@@ -8,12 +8,13 @@ mod timing;
 
 use crate::case::{Buffer, Call, Case};
 use crate::ffi;
+use crate::model::house::House;
 use crate::model::{Expected, judge, result_bytes, work_bytes};
 use crate::rivals::dense::{Dense, Form};
 use crate::rivals::fronts::Fronts;
 use crate::rivals::ranges::Ranges;
 use crate::rivals::tree::{Found, Tree};
-use houses::{Pipes, catalogue, house, losses, meters};
+use houses::{Pipes, catalogue, hot_line, house, losses, meters};
 use std::fmt::Write;
 use std::hint::black_box;
 use timing::{Side, Spread, micros, race};
@@ -39,10 +40,10 @@ pub fn bench() -> String {
     }
     let _ = writeln!(
         text,
-        "\nflow, meter, rating and its two calls: library against the model (8 meters, 12 sizes of 64 rows)\n{OTHERS}"
+        "\nflow, meter, rating and its two calls, heat: library against the model (8 meters, 12 sizes of 64 rows)\n{OTHERS}"
     );
     for sections in [8, 32, 63] {
-        OTHER_CALLS.into_iter().for_each(|call| text += &other(call, sections));
+        OTHER_CALLS.into_iter().for_each(|(call, hot)| text += &other(call, hot, sections));
     }
     text + &growth::table()
 }
@@ -54,8 +55,16 @@ const OTHERS: &str = "\
 |call|S|library µs|over model|
 |-|-|-|-|";
 
-/// The calls that are timed against the model alone, in the order of their lines.
-const OTHER_CALLS: [Call; 5] = [Call::Flow, Call::Meter, Call::Rate, Call::Losses, Call::Heads];
+/// The calls that are timed against the model alone, in the order of their lines, and whether on the house's hot line.
+const OTHER_CALLS: [(Call, bool); 7] = [
+    (Call::Flow, false),
+    (Call::Flow, true),
+    (Call::Meter, false),
+    (Call::Rate, false),
+    (Call::Losses, false),
+    (Call::Heads, false),
+    (Call::Heat, true),
+];
 
 /// What a search is made to do.
 struct Load {
@@ -67,15 +76,19 @@ struct Load {
 
 impl Load {
     fn case(&self) -> Case {
+        let job = house(self.sections, self.head, self.pipes);
+        let out = result_bytes(Call::Choose, &House::of(&job));
         Case {
             call: Call::Choose,
-            job: house(self.sections, self.head, self.pipes),
+            job,
             meters: Vec::new(),
             losses: Vec::new(),
             cat: catalogue(self.sizes, 64, self.pipes),
             sizes: Vec::new(),
+            t: 0,
+            loss: 0,
             work: Buffer { length: work_bytes(self.sections, self.head), pattern: Vec::new() },
-            out: Buffer { length: result_bytes(Call::Choose, self.sections), pattern: Vec::new() },
+            out: Buffer { length: out, pattern: Vec::new() },
         }
     }
 }
@@ -113,9 +126,12 @@ fn side(cost: i128, mut search: impl FnMut() -> Found) -> impl FnMut() {
 }
 
 /// A case of another call than choosing. The model is given no catalogue to read where the call takes none.
-fn other_case(call: Call, sections: usize) -> Case {
+fn other_case(call: Call, hot: bool, sections: usize) -> Case {
     let mut case = Load { sections, head: 3_000, sizes: 12, pipes: Pipes::AllServe }.case();
     case.call = call;
+    if hot {
+        case.job = hot_line(&case.job);
+    }
     match call {
         Call::Flow => case.cat.clear(),
         Call::Meter => {
@@ -126,9 +142,13 @@ fn other_case(call: Call, sections: usize) -> Case {
             case.cat.clear();
             case.losses = losses(sections);
         }
+        Call::Heat => {
+            case.cat.clear();
+            (case.t, case.loss) = (5, 1_200);
+        }
         _ => case.sizes = (0..sections).map(|place| (place % 12) as u8 + 1).collect(),
     }
-    case.out.length = result_bytes(call, sections);
+    case.out.length = result_bytes(call, &House::of(&case.job));
     case
 }
 
@@ -140,12 +160,13 @@ fn lent(case: &Case, out: &mut [u8]) -> u32 {
         Call::Meter => ffi::meter(job, &case.meters, out),
         Call::Losses => ffi::losses(job, &case.cat, &case.sizes, out),
         Call::Heads => ffi::heads(job, &case.losses, out),
+        Call::Heat => ffi::heat(job, case.t, case.loss, out),
         _ => ffi::rate(job, &case.cat, &case.sizes, out),
     }
 }
 
-fn other(call: Call, sections: usize) -> String {
-    let case = other_case(call, sections);
+fn other(call: Call, hot: bool, sections: usize) -> String {
+    let case = other_case(call, hot, sections);
     let mut out = vec![0; case.out.length];
     let judged = judge(&case);
     assert_eq!(judged.number, 0, "the benchmark's house is accepted");
@@ -155,7 +176,8 @@ fn other(call: Call, sections: usize) -> String {
     let mut model = || drop(black_box(judge(black_box(&case))));
     let sides: &mut [Side] = &mut [&mut library, &mut model];
     let times = race(sides);
-    format!("|{}|{sections}|{}|{}|\n", call.name(), micros(&times[0]), Spread::of_ratios(&times[0], &times[1]))
+    let of = if hot { " of a hot line" } else { "" };
+    format!("|{}{of}|{sections}|{}|{}|\n", call.name(), micros(&times[0]), Spread::of_ratios(&times[0], &times[1]))
 }
 
 #[cfg(test)]
@@ -178,9 +200,9 @@ mod tests {
     /// What is timed is a result and no refusal, of the library as of the model.
     #[test]
     fn the_other_calls_give_results() {
-        for call in OTHER_CALLS {
+        for (call, hot) in OTHER_CALLS {
             for sections in [8, 32, 63] {
-                let case = other_case(call, sections);
+                let case = other_case(call, hot, sections);
                 let mut out = vec![0; case.out.length];
                 assert_eq!((judge(&case).number, lent(&case, &mut out)), (0, 0), "{} {sections}", call.name());
                 assert!(out.iter().any(|byte| *byte != 0), "{} {sections}", call.name());
@@ -191,7 +213,7 @@ mod tests {
     #[test]
     fn each_meter_loses_less_than_the_one_before() {
         for sections in [8, 32, 63] {
-            let judged = judge(&other_case(Call::Meter, sections));
+            let judged = judge(&other_case(Call::Meter, false, sections));
             let ranked = judged.meters.ranked(judged.demand.house_flow(), judged.demand.mean_hour());
             let places: Vec<usize> = ranked.iter().map(|(_, place)| *place).collect();
             assert_eq!(places, [8, 7, 6, 5, 4, 3, 2, 1], "{sections} sections: {ranked:?}");

@@ -79,6 +79,15 @@ impl Rating {
     }
 }
 
+/// The heat flow of a hot line.
+#[derive(Clone, Copy, Debug, PartialEq, Eq)]
+pub struct Heat {
+    /// In the mean hour, watts.
+    pub mean_hour: u32,
+    /// In the greatest hour, watts.
+    pub greatest_hour: u32,
+}
+
 /// A cheapest suitable list of sizes.
 #[derive(Clone, Debug, PartialEq, Eq)]
 pub struct Choice {
@@ -91,6 +100,8 @@ pub struct Choice {
 /// The greatest section count and delivered head of an accepted job.
 pub const MOST_SECTIONS: usize = 63;
 const MOST_HEAD: usize = 6_000;
+/// The longest record of an accepted job: one of version 2, whose sections begin at 41.
+const MOST_RECORD: usize = 41 + 10 * MOST_SECTIONS;
 
 /// Design flows of a job record.
 pub fn flow(job: &[u8]) -> Result<Flow, Refusal> {
@@ -114,7 +125,7 @@ pub fn duty(job: &[u8]) -> Result<u32, Refusal> {
 
 /// The meter of least loss that a list offers a job record, and the record with its loss.
 pub fn meter(job: &[u8], meters: &[u8]) -> Result<Metered, Refusal> {
-    let mut out = [0; 1 + 40 + 10 * MOST_SECTIONS];
+    let mut out = [0; 1 + MOST_RECORD];
     refused(ffi::meter(job, meters, &mut out))?;
     Ok(Metered { place: out[0], job: out[1..=job.len()].to_vec() })
 }
@@ -163,11 +174,18 @@ pub fn choose(job: &[u8], cat: &[u8]) -> Result<Choice, Refusal> {
     Ok(Choice { cost: u32_at(&out, 0), sizes: out[4..4 + sections(job)].to_vec() })
 }
 
+/// The heat flow of a job record of service 2, hot, with cold water of `t` °C, 0 to 30, and a stated loss of 0 to 1,000,000 W.
+pub fn heat(job: &[u8], t: u32, loss: u32) -> Result<Heat, Refusal> {
+    let mut out = [0; 8];
+    refused(ffi::heat(job, t, loss, &mut out))?;
+    Ok(Heat { mean_hour: u32_at(&out, 0), greatest_hour: u32_at(&out, 4) })
+}
+
 /// The record read and written again: the same bytes, or why it can't be read.
 pub fn copy(job: &[u8]) -> Result<Vec<u8>, Refusal> {
-    let mut out = [0; 40 + 10 * MOST_SECTIONS];
+    let mut out = [0; MOST_RECORD];
     refused(ffi::copy(job, &mut out))?;
-    Ok(out[..40 + 10 * sections(job)].to_vec())
+    Ok(out[..job.len()].to_vec())
 }
 
 fn refused(number: u32) -> Result<(), Refusal> {

@@ -8,13 +8,15 @@
 //! job 000000000000000000000000004700000000000000000000000700500064025800c8
 //! cat 0000002f010202...
 //! sizes 02
+//! heat 5 1200
 //! work 17608 a50f
 //! out 5 ff
 //! ```
 //!
-//! `call` is `flow`, `duty`, `meter`, `losses`, `heads`, `rate`, `choose` or `copy`. `job`, `meters`, `losses`, `cat` and `sizes` are
-//! bytes in hex, where spaces do not count and several lines of one name are joined; a name without a line is empty. `work` and
-//! `out` are the buffers as they are before the call: a length, and bytes in hex that are repeated to fill it (none: zeros).
+//! `call` is `flow`, `duty`, `meter`, `losses`, `heads`, `rate`, `choose`, `heat` or `copy`. `job`, `meters`, `losses`, `cat` and `sizes`
+//! are bytes in hex, where spaces do not count and several lines of one name are joined; a name without a line is empty. `heat` has
+//! the cold water's temperature and the stated loss as whole numbers; without the line both are 0. `work` and `out` are the buffers
+//! as they are before the call: a length, and bytes in hex that are repeated to fill it (none: zeros).
 
 use std::fmt::Write;
 
@@ -28,11 +30,21 @@ pub enum Call {
     Heads,
     Rate,
     Choose,
+    Heat,
 }
 
 impl Call {
-    pub const ALL: [Call; 8] =
-        [Call::Copy, Call::Flow, Call::Duty, Call::Meter, Call::Losses, Call::Heads, Call::Rate, Call::Choose];
+    pub const ALL: [Call; 9] = [
+        Call::Copy,
+        Call::Flow,
+        Call::Duty,
+        Call::Meter,
+        Call::Losses,
+        Call::Heads,
+        Call::Rate,
+        Call::Choose,
+        Call::Heat,
+    ];
 
     pub fn name(self) -> &'static str {
         match self {
@@ -44,6 +56,7 @@ impl Call {
             Call::Heads => "heads",
             Call::Rate => "rate",
             Call::Choose => "choose",
+            Call::Heat => "heat",
         }
     }
 
@@ -74,6 +87,10 @@ pub struct Case {
     pub losses: Vec<u8>,
     pub cat: Vec<u8>,
     pub sizes: Vec<u8>,
+    /// The cold water's temperature, °C, for the heat call.
+    pub t: u32,
+    /// The stated loss in watts, for the heat call.
+    pub loss: u32,
     pub work: Buffer,
     pub out: Buffer,
 }
@@ -106,6 +123,9 @@ impl Case {
                 let _ = writeln!(text, "{name} {}", hex(line));
             }
         }
+        if (self.t, self.loss) != (0, 0) {
+            let _ = writeln!(text, "heat {} {}", self.t, self.loss);
+        }
         for (name, buffer) in [("work", &self.work), ("out", &self.out)] {
             let _ = writeln!(text, "{name} {} {}", buffer.length, hex(&buffer.pattern));
         }
@@ -115,6 +135,7 @@ impl Case {
     pub fn parse(text: &str) -> Result<Case, String> {
         let mut call = None;
         let mut parts: [Vec<u8>; LENT.len()] = Default::default();
+        let (mut t, mut loss) = (0, 0);
         let (mut work, mut out) = (Buffer::default(), Buffer::default());
         for (line, at) in text.lines().zip(1..) {
             let line = line.trim();
@@ -126,14 +147,15 @@ impl Case {
             match (name, LENT.iter().position(|lent| *lent == name)) {
                 (_, Some(place)) => parts[place].extend(unhex(rest).map_err(|what| wrong(&what))?),
                 ("call", _) => call = Some(named(rest.trim()).map_err(wrong)?),
+                ("heat", _) => (t, loss) = heat(rest).map_err(wrong)?,
                 ("work", _) => work = buffer(rest).map_err(|what| wrong(&what))?,
                 ("out", _) => out = buffer(rest).map_err(|what| wrong(&what))?,
-                _ => return Err(wrong("a line starts with call, job, meters, losses, cat, sizes, work or out")),
+                _ => return Err(wrong("a line starts with call, job, meters, losses, cat, sizes, heat, work or out")),
             }
         }
         let call = call.ok_or("the file names no call")?;
         let [job, meters, losses, cat, sizes] = parts;
-        Ok(Case { call, job, meters, losses, cat, sizes, work, out })
+        Ok(Case { call, job, meters, losses, cat, sizes, t, loss, work, out })
     }
 }
 
@@ -142,7 +164,16 @@ const LENT: [&str; 5] = ["job", "meters", "losses", "cat", "sizes"];
 
 fn named(name: &str) -> Result<Call, &'static str> {
     let call = Call::ALL.into_iter().find(|call| call.name() == name);
-    call.ok_or("the calls are flow, duty, meter, losses, heads, rate, choose and copy")
+    call.ok_or("the calls are flow, duty, meter, losses, heads, rate, choose, heat and copy")
+}
+
+/// The temperature and the loss of a line.
+fn heat(rest: &str) -> Result<(u32, u32), &'static str> {
+    let numbers: Option<Vec<u32>> = rest.split_whitespace().map(|word| word.parse().ok()).collect();
+    match numbers.as_deref() {
+        Some([t, loss]) => Ok((*t, *loss)),
+        _ => Err("heat has a temperature and a loss, whole numbers of 0 to 4294967295"),
+    }
 }
 
 fn buffer(rest: &str) -> Result<Buffer, String> {
@@ -182,6 +213,8 @@ mod tests {
             losses: (1..=252).rev().collect(),
             cat: vec![7],
             sizes: Vec::new(),
+            t: 5,
+            loss: u32::MAX,
             work: Buffer { length: 17, pattern: vec![1, 2, 3] },
             out: Buffer { length: 0, pattern: Vec::new() },
         };
@@ -194,6 +227,13 @@ mod tests {
         }
         let joined = Case::parse("call heads\nlosses 00000047 0000\nlosses 0001").expect("a case");
         assert_eq!((joined.losses, joined.job), (vec![0, 0, 0, 71, 0, 0, 0, 1], Vec::new()));
+        let asked = |line: &str| Case::parse(&format!("call heat\n{line}")).map(|case| (case.t, case.loss));
+        assert_eq!(
+            (asked("heat 5 1200"), asked("heat 0 4294967295"), asked("")),
+            (Ok((5, 1_200)), Ok((0, u32::MAX)), Ok((0, 0)))
+        );
+        let wrong = ["heat 5", "heat 5 -1", "heat 5 4294967296", "heat 5 1 2", "heat 5.5 0", "heat"];
+        assert!(wrong.iter().all(|line| asked(line).is_err_and(|what| what.starts_with("line 2: heat has"))));
         assert!(Case::parse("call flaw").is_err());
         assert!(Case::parse("call flow\nout 99999999999").is_err());
     }

@@ -5,6 +5,7 @@ mod charts;
 mod fields;
 mod files;
 mod heads;
+mod heat;
 mod help;
 mod input;
 mod json;
@@ -95,6 +96,7 @@ fn answer(arguments: &Arguments) -> Result<Outcome, Misuse> {
         "losses" => losses::losses(arguments),
         "heads" => heads::heads(arguments),
         "choose" => network::choose(arguments),
+        "heat" => heat::heat(arguments),
         "draw" => network::draw(arguments),
         "kinds" => kinds::kinds(arguments),
         "new" => new::new(arguments),

@@ -3,7 +3,8 @@
 use crate::case::{Buffer, Call, Case};
 use crate::ffi;
 use crate::generate;
-use crate::model::{self, Expected, Judged, brute, judge};
+use crate::model::house::SERVICE;
+use crate::model::{self, Expected, Judged, brute, judge, norms};
 pub use crate::situations::{Counters, Situation};
 use std::fmt;
 
@@ -123,7 +124,7 @@ fn agree(case: &Case, judged: &Judged) -> Result<String, String> {
             return Err(format!("the workspace was changed before {number}"));
         }
     }
-    let result = if number == 0 { &given[..model::result_bytes(case.call, judged.house.sections.len())] } else { &[] };
+    let result = if number == 0 { &given[..model::result_bytes(case.call, &judged.house)] } else { &[] };
     Ok(format!("number {number}, result {result:?}"))
 }
 
@@ -138,6 +139,7 @@ fn call(case: &Case, out: &mut [u8], work: &mut [u8]) -> u32 {
         Call::Heads => ffi::heads(&case.job, &case.losses, out),
         Call::Rate => ffi::rate(&case.job, &case.cat, &case.sizes, out),
         Call::Choose => ffi::choose(&case.job, &case.cat, work, out),
+        Call::Heat => ffi::heat(&case.job, case.t, case.loss, out),
     }
 }
 
@@ -177,12 +179,59 @@ fn chosen_well(judged: &Judged, least: i128, result: &[u8]) -> Result<(), String
 
 /// What is tried beside the case itself.
 fn try_more(case: &Case, judged: &Judged, counters: &mut Counters) -> Result<(), String> {
+    if let Some(twin) = twin(case) {
+        counters.note_twin(as_its_twin(case, &twin, judged)?);
+    }
     match case.call {
         Call::Losses | Call::Rate => counters.note_in_turn(in_turn(case)?),
         Call::Choose => try_all(judged, counters)?,
         _ => {}
     }
     Ok(())
+}
+
+/// The case with the job in version 2, where it is in version 1: the same fields and service 0, a byte longer, and stated so. The
+/// result buffer has a byte more where the result has the record. None where the job ends before its sections.
+fn twin(case: &Case) -> Option<Case> {
+    if case.job.len() < SERVICE || case.job[4] != 1 {
+        return None;
+    }
+    let mut twin = case.clone();
+    twin.job.insert(SERVICE, norms::TOTAL as u8);
+    twin.job[4] = 2;
+    let stated = u32::from_be_bytes([case.job[0], case.job[1], case.job[2], case.job[3]]);
+    twin.job[..4].copy_from_slice(&stated.wrapping_add(1).to_be_bytes());
+    twin.out.length += usize::from(matches!(case.call, Call::Copy | Call::Meter));
+    Some(twin)
+}
+
+/// Document 02's L4, through the library: version 1 means what version 2 with service 0 means. Both get the same number, and a result
+/// has the same figures: of choosing the same cost, and where it has the record, the place and the record that was lent. Gives
+/// the number.
+fn as_its_twin(case: &Case, twin: &Case, judged: &Judged) -> Result<u32, String> {
+    let given = |case: &Case| {
+        let (mut out, mut work) = (Vec::new(), Vec::new());
+        case.out.fill(&mut out);
+        case.work.fill(&mut work);
+        (call(case, &mut out, &mut work), out)
+    };
+    let ((number, own), (other, of_twin)) = (given(case), given(twin));
+    if number != other {
+        return Err(format!("the library gives {number} for version 1 and {other} for version 2 with service 0"));
+    }
+    let same = match case.call {
+        _ if number != 0 => of_twin.starts_with(&own),
+        Call::Choose => {
+            chosen_well(judged, model::bytes::number(&own, 0, 4), &of_twin[..4 + judged.flows.len()]).is_ok()
+        }
+        Call::Copy => of_twin[..twin.job.len()] == twin.job,
+        Call::Meter => {
+            let record = [&twin.job[..8], &own[9..11], &twin.job[10..]].concat();
+            of_twin[0] == own[0] && of_twin[1..=record.len()] == record
+        }
+        _ => of_twin == own,
+    };
+    if same { Ok(number) } else { Err("version 1 and version 2 with service 0 give different results".to_string()) }
 }
 
 /// No result is longer, nor would be that of a record which states 255 sections.
@@ -234,4 +283,49 @@ fn try_all(judged: &Judged, counters: &mut Counters) -> Result<(), String> {
         counters.note_tried(tried.map(|(_, ways)| ways));
     }
     Ok(())
+}
+
+#[cfg(test)]
+mod tests {
+    use super::*;
+
+    /// Document 01's own case with the larger size, which alone serves all its water.
+    fn own(call: Call) -> Case {
+        let text = "job 0000003201030118003201f404b005dc0000000000000000000000000047\n\
+            job 00000000000000000000000700500064025800c8\nmeters 01 1388 02e4\nlosses 00000047\nsizes 02\n\
+            cat 0000002f0102020028038400 0003e803200028 00000bb80960012c 00320514000003e801f4000c00000bb805dc005a\n\
+            work 17608\nout 60 a5\n";
+        Case::parse(&format!("call {}\n{text}", call.name())).expect("a case")
+    }
+
+    #[test]
+    fn the_same_job_in_version_2() {
+        let case = own(Call::Copy);
+        let other = twin(&case).expect("a record of version 1");
+        assert_eq!(other.job[..5], [0, 0, 0, 51, 2]);
+        assert_eq!((&other.job[5..40], other.job[40], &other.job[41..]), (&case.job[5..40], 0, &case.job[40..]));
+        assert_eq!((other.out.length, other.work.length), (61, 17_608));
+        assert_eq!(twin(&own(Call::Flow)).map(|other| other.out.length), Some(60));
+        assert_eq!(twin(&other), None, "version 2");
+        for bytes in [0, 4, 39] {
+            assert_eq!(twin(&Case { job: case.job[..bytes].to_vec(), ..case.clone() }), None, "{bytes} bytes");
+        }
+    }
+
+    /// Of each call: the twin's answer is the case's own, and that of the cold line, or of a buffer that is short, is not.
+    #[test]
+    fn a_difference_between_the_versions_is_seen() {
+        for call in Call::ALL {
+            let case = own(call);
+            let (judged, right) = (judge(&case), twin(&case).expect("a record of version 1"));
+            let number = if call == Call::Heat { 20 } else { 0 };
+            assert_eq!(as_its_twin(&case, &right, &judged), Ok(number), "{}", call.name());
+            let mut cold = right.clone();
+            cold.job[SERVICE] = 1;
+            let by_norms = !matches!(call, Call::Copy | Call::Heads | Call::Heat);
+            assert_eq!(as_its_twin(&case, &cold, &judged).is_err(), by_norms, "{} of the cold line", call.name());
+            let short = Case { out: Buffer::default(), ..right };
+            assert!(as_its_twin(&case, &short, &judged).is_err(), "{} of no room", call.name());
+        }
+    }
 }

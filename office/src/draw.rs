@@ -10,6 +10,7 @@ use crate::calls::{Flow, Rating};
 use crate::kinds;
 use crate::pipes::Pipe;
 use crate::record::Record;
+use crate::service::{self, TOTAL};
 use crate::taps;
 use layout::{COLUMN, LEFT, LINE, Place, TOP};
 use std::collections::BTreeSet;
@@ -39,7 +40,7 @@ pub struct Totals<'a> {
 pub fn draw(record: &Record, pipes: &[Pipe], rating: &Rating, totals: &Totals) -> String {
     let warning = if missing(record, rating) > 0 { ": TOO LITTLE HEAD" } else { "" };
     let texts: Vec<Texts> = pipes.iter().map(|pipe| Texts::of(pipe, Some(rating))).collect();
-    let (mut svg, places) = sheet(pipes, &texts, totals.taps, warning);
+    let (mut svg, places) = sheet(record, pipes, &texts, totals.taps, warning);
     heading(&mut svg, record, rating, totals);
     pump(&mut svg, record, &format!("head {} cm", rating.pump));
     network(&mut svg, pipes, &places, &texts);
@@ -50,7 +51,7 @@ pub fn draw(record: &Record, pipes: &[Pipe], rating: &Rating, totals: &Totals) -
 /// of the kinds in `taps` sets the house's design flow `duty`.
 pub fn sketch(record: &Record, pipes: &[Pipe], duty: u32, taps: &[u8]) -> String {
     let texts: Vec<Texts> = pipes.iter().map(|pipe| Texts::of(pipe, None)).collect();
-    let (mut svg, places) = sheet(pipes, &texts, taps, ": NO SIZE SERVES");
+    let (mut svg, places) = sheet(record, pipes, &texts, taps, ": NO SIZE SERVES");
     let unserved: Vec<String> =
         pipes.iter().filter(|pipe| pipe.size == 0).map(|pipe| pipe.number.to_string()).collect();
     let more = if unserved.len() > NAMED { format!(" and {} more", unserved.len() - NAMED) } else { String::new() };
@@ -58,7 +59,8 @@ pub fn sketch(record: &Record, pipes: &[Pipe], duty: u32, taps: &[u8]) -> String
     svg.text(20, 28, 15, SHORT, "bold", &format!("NO SIZE SERVES section {named}{more}"));
     let limit = format!("velocity limit {} mm/s; the other pipes have the size of their least loss", record.limit);
     svg.text(20, 48, 12, FAINT, "normal", &limit);
-    let set = format!("pump set: {}; without a size for each section there are no heads", of_house(duty, taps));
+    let (set, duty) = (line(record, " for "), of_house(duty, taps));
+    let set = format!("pump set{set}: {duty}; without a size for each section there are no heads");
     svg.text(20, 65, 12, FAINT, "normal", &set);
     pump(&mut svg, record, "head unknown");
     network(&mut svg, pipes, &places, &texts);
@@ -69,21 +71,24 @@ pub fn sketch(record: &Record, pipes: &[Pipe], duty: u32, taps: &[u8]) -> String
 const NAMED: usize = 9;
 
 /// A sheet with room for the pipes and their texts, and the pipes' places on it; what the marks mean stands at its foot.
-fn sheet(pipes: &[Pipe], texts: &[Texts], taps: &[u8], warning: &str) -> (Svg, Vec<Place>) {
+fn sheet(record: &Record, pipes: &[Pipe], texts: &[Texts], taps: &[u8], warning: &str) -> (Svg, Vec<Place>) {
     let row = layout::row(1 + texts.iter().map(|own| own.notes.len()).max().unwrap_or(0));
     let places = layout::places(pipes, row);
     let (right, height) = layout::extent(&places, row);
     let legend = legend(pipes, taps);
     // Room for the heading over a small house, and for the legend below it.
-    let least = if legend.is_empty() { 720 } else { 1_020 };
+    let least = if legend.is_empty() { 720 } else { 1_020 } + if record.stated_service().is_some() { LINED } else { 0 };
     let house = if taps.is_empty() { String::new() } else { format!("; design flow: {}", taps::words(taps)) };
-    let title = format!("House network of {} sections{warning}{house}", pipes.len());
+    let title = format!("House network of {} sections{}{warning}{house}", pipes.len(), line(record, ", "));
     let mut svg = Svg::new((right + 40).max(least), height + FOOT * legend.len() as i64, &title);
     for (line, words) in (1..).zip(&legend) {
         svg.text(20, height + FOOT * line - 8, 12, FAINT, "normal", words);
     }
     (svg, places)
 }
+
+/// The width that the name of a line takes in the heading.
+const LINED: i64 = 200;
 
 /// The height of a line at the foot of the sheet.
 const FOOT: i64 = 18;
@@ -117,6 +122,15 @@ fn mark(taps: &[u8]) -> Option<String> {
     }
 }
 
+/// What the set serves, behind these words; nothing where the record has no service.
+fn line(record: &Record, behind: &str) -> String {
+    match record.stated_service() {
+        None => String::new(),
+        Some(TOTAL) => format!("{behind}all water"),
+        Some(line) => format!("{behind}{}", service::words(line)),
+    }
+}
+
 /// The house's design flow, with its mark.
 fn of_house(duty: u32, taps: &[u8]) -> String {
     mark(taps).map_or(format!("{duty} ml/s"), |tap| format!("{duty} ml/s ({tap})"))
@@ -132,7 +146,8 @@ fn missing(record: &Record, rating: &Rating) -> i64 {
 fn heading(svg: &mut Svg, record: &Record, rating: &Rating, totals: &Totals) {
     let (required, pump, guaranteed) = (rating.required, rating.pump, record.guaranteed);
     let duty = of_house(totals.duty, totals.taps);
-    let set = format!("pump set: {duty} at {pump} cm over the guaranteed {guaranteed} cm");
+    let set = line(record, " for ");
+    let set = format!("pump set{set}: {duty} at {pump} cm over the guaranteed {guaranteed} cm");
     svg.text(20, 22, 15, INK, "bold", &set);
     let Flow { hour, day, .. } = totals.flow;
     let house = format!("greatest hour {hour} l, greatest day {day} l; required head {required} cm");

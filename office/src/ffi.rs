@@ -54,6 +54,8 @@ mod linked {
             out: *mut u8,
             out_length: usize,
         ) -> u32;
+        pub fn order_heat(job: *const u8, job_length: usize, t: u32, loss: u32, out: *mut u8, out_length: usize)
+        -> u32;
         pub fn order_copy(job: *const u8, job_length: usize, out: *mut u8, out_length: usize) -> u32;
     }
 }
@@ -131,6 +133,13 @@ pub fn duty(job: &[u8], out: &mut [u8]) -> u32 {
 pub fn meter(job: &[u8], meters: &[u8], out: &mut [u8]) -> u32 {
     // SAFETY: see the top of the file; the library reads the first two and writes inside `out`.
     unsafe { linked::order_meter(job.as_ptr(), job.len(), meters.as_ptr(), meters.len(), out.as_mut_ptr(), out.len()) }
+}
+
+/// The heat flow of the mean hour and of the greatest hour, with cold water of `t` °C and a stated loss in watts, into `out`; 0, or
+/// the number of the refusal.
+pub fn heat(job: &[u8], t: u32, loss: u32, out: &mut [u8]) -> u32 {
+    // SAFETY: see the top of the file; the library reads `job` and writes inside `out`.
+    unsafe { linked::order_heat(job.as_ptr(), job.len(), t, loss, out.as_mut_ptr(), out.len()) }
 }
 
 /// The record read and written again into `out`; 0, or the number of the refusal.

@@ -9,7 +9,9 @@ mod demands;
 mod draft;
 mod extremes;
 mod fitting;
+mod heat;
 mod houses;
+mod lines;
 mod losses;
 mod meters;
 mod mixed;
@@ -19,10 +21,11 @@ use crate::case::{Buffer, Call, Case};
 use crate::model::{self, house::House};
 use catalogues::catalogue;
 use draft::{Draft, catalogue_bytes};
+use lines::Line;
 use rng::Rng;
 
 /// The calls, each as often as it is worth: one that does more is asked more often.
-const CALLS: [Call; 13] = [
+const CALLS: [Call; 15] = [
     Call::Copy,
     Call::Flow,
     Call::Flow,
@@ -36,6 +39,8 @@ const CALLS: [Call; 13] = [
     Call::Rate,
     Call::Choose,
     Call::Choose,
+    Call::Heat,
+    Call::Heat,
 ];
 
 /// The case of this index in the row of this seed.
@@ -72,12 +77,17 @@ fn sound(rng: &Rng, call: Call) -> Case {
         Call::Losses => 10,
         _ => 30,
     });
+    let line = Line::of(rng, call);
     let mut draft = match rng.below(8) {
-        _ if extreme => extremes::longest(rng),
-        0 => demands::marked(rng),
-        1 | 2 => mixed::mixed(rng, large_once_in),
-        _ => houses::house(rng, large_once_in),
+        _ if extreme => extremes::longest(rng, line),
+        0 => demands::marked(rng, line),
+        1 | 2 => mixed::mixed(rng, line, large_once_in),
+        _ => houses::house(rng, line, large_once_in),
     };
+    let (t, loss) = if call == Call::Heat { heat::asked(rng) } else { (0, 0) };
+    if call == Call::Heat && rng.once_in(12) {
+        heat::many_residents(&mut draft);
+    }
     let mut case = Case {
         call,
         job: draft.bytes(),
@@ -85,6 +95,8 @@ fn sound(rng: &Rng, call: Call) -> Case {
         losses: Vec::new(),
         cat: Vec::new(),
         sizes: Vec::new(),
+        t,
+        loss,
         work: Buffer::default(),
         out: Buffer::default(),
     };

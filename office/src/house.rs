@@ -52,7 +52,8 @@ pub fn read(text: &str) -> Result<Packed, Mistakes> {
         }
         fault.into_iter().for_each(|fault| mistakes.add(fault));
     }
-    head.missing(&places).into_iter().for_each(|mistake| mistakes.add(mistake));
+    let lacking = head.contradiction(&places).into_iter().chain(head.missing(&places));
+    lacking.for_each(|mistake| mistakes.add(mistake));
     let mut record = head.record();
     record.sections = given.sections(&mut mistakes);
     if let Some((last, _)) = record.numbered().last()
@@ -71,8 +72,9 @@ pub fn quantities() -> Vec<Quantity> {
     head::quantities().chain(sections::quantities()).collect()
 }
 
-/// The canonical text of a record of 40 + 10 × S bytes, whatever its fields hold. Bytes of another length have no sections
-/// to show: they are given back as [`NoRecord`], which says how many bytes there are and how many the count asks for.
+/// The canonical text of a record of the length that its version and section count ask for, whatever its other fields hold. Bytes
+/// of another length have no sections to show: they are given back as [`NoRecord`], which says how many bytes there are and how
+/// many are asked for.
 pub fn show(bytes: &[u8]) -> Result<String, NoRecord> {
     let record = Record::read(bytes)?;
     let mut text = head::show(&record);

@@ -1,14 +1,18 @@
-//! Document 01's kinds of consumer: the names that readable files have for them, what they are, and their norms.
+//! Document 01's kinds of consumer: the names that readable files have for them, what they are, and their norms in each service.
+
+use crate::service::{COLD, HOT};
 
 pub struct Kind {
     /// As readable files have it.
     pub name: &'static str,
     /// In document 01's words.
     pub what: &'static str,
-    pub norm: Norm,
+    total: Norm,
+    hot: Norm,
 }
 
 /// What a resident uses and what a fixture gives.
+#[derive(Clone, Copy, Debug, PartialEq, Eq)]
 pub struct Norm {
     /// D, in litres: a resident on the greatest day.
     pub day: u64,
@@ -20,26 +24,43 @@ pub struct Norm {
     pub fixture_hour: u64,
 }
 
-/// A line of the table: name, words, and D, Q, Z and O.
-const fn kind_of(name: &'static str, what: &'static str, norms: [u64; 4]) -> Kind {
-    let [day, hour, fixture, fixture_hour] = norms;
-    Kind { name, what, norm: Norm { day, hour, fixture, fixture_hour } }
+impl Kind {
+    /// The norms of a service: document 01's of all water, document 02's of a line. What is not hot of a resident's water is
+    /// cold; a fixture draws the same of either. A service that there is not has the norms of all water.
+    pub fn norm(&self, service: u8) -> Norm {
+        let Kind { total, hot, .. } = *self;
+        match service {
+            COLD => Norm { day: total.day - hot.day, hour: total.hour - hot.hour, ..hot },
+            HOT => hot,
+            _ => total,
+        }
+    }
+}
+
+/// D, Q, Z and O.
+const fn norm([day, hour, fixture, fixture_hour]: [u64; 4]) -> Norm {
+    Norm { day, hour, fixture, fixture_hour }
+}
+
+/// A line of the table: name, words, and the norms of all water and of the hot line.
+const fn kind_of(name: &'static str, what: &'static str, total: [u64; 4], hot: [u64; 4]) -> Kind {
+    Kind { name, what, total: norm(total), hot: norm(hot) }
 }
 
 /// Kinds 1 to 12, in the order of their numbers.
 pub const ALL: [Kind; 12] = [
-    kind_of("dwelling", "dwelling, highest class", [400, 200, 30, 300]),
-    kind_of("hostel-showers", "hostel, shared showers", [100, 104, 20, 100]),
-    kind_of("hostel-kitchens", "hostel, kitchens and shower blocks", [160, 120, 20, 100]),
-    kind_of("hotel-shared", "hotel, shared baths", [120, 125, 30, 300]),
-    kind_of("hotel-showers", "hotel, shower in each room", [230, 190, 20, 115]),
-    kind_of("hotel-25", "hotel, baths to 25 %", [200, 224, 30, 250]),
-    kind_of("hotel-75", "hotel, baths 75 %", [250, 280, 30, 280]),
-    kind_of("hotel-100", "hotel, baths 100 %", [300, 300, 30, 300]),
-    kind_of("hospital", "hospital, shared baths", [115, 84, 20, 100]),
-    kind_of("polyclinic", "polyclinic", [15, 26, 20, 80]),
-    kind_of("offices", "offices", [16, 40, 14, 80]),
-    kind_of("schools", "schools", [20, 27, 14, 100]),
+    kind_of("dwelling", "dwelling, highest class", [400, 200, 30, 300], [130, 109, 20, 200]),
+    kind_of("hostel-showers", "hostel, shared showers", [100, 104, 20, 100], [60, 63, 14, 60]),
+    kind_of("hostel-kitchens", "hostel, kitchens and shower blocks", [160, 120, 20, 100], [90, 75, 14, 60]),
+    kind_of("hotel-shared", "hotel, shared baths", [120, 125, 30, 300], [70, 82, 20, 200]),
+    kind_of("hotel-showers", "hotel, shower in each room", [230, 190, 20, 115], [140, 120, 14, 80]),
+    kind_of("hotel-25", "hotel, baths to 25 %", [200, 224, 30, 250], [100, 104, 20, 180]),
+    kind_of("hotel-75", "hotel, baths 75 %", [250, 280, 30, 280], [150, 150, 20, 190]),
+    kind_of("hotel-100", "hotel, baths 100 %", [300, 300, 30, 300], [180, 160, 20, 200]),
+    kind_of("hospital", "hospital, shared baths", [115, 84, 20, 100], [75, 54, 14, 60]),
+    kind_of("polyclinic", "polyclinic", [15, 26, 20, 80], [6, 12, 14, 60]),
+    kind_of("offices", "offices", [16, 40, 14, 80], [7, 20, 10, 60]),
+    kind_of("schools", "schools", [20, 27, 14, 100], [8, 12, 10, 60]),
 ];
 
 /// How many kinds have residents: 1 to 12.
@@ -78,7 +99,7 @@ pub fn names_from(first: u8) -> String {
 #[cfg(test)]
 mod tests {
     use super::*;
-    use crate::model::norms::NORMS;
+    use crate::model::norms;
 
     #[test]
     fn every_kind_comes_back() {
@@ -90,11 +111,31 @@ mod tests {
         assert_eq!(kind(""), None);
     }
 
+    /// Of every service, and of a number that is none.
     #[test]
     fn the_norms_are_those_of_the_model() {
-        for (kind, norm) in ALL.iter().zip(&NORMS) {
-            let own = [kind.norm.day, kind.norm.hour, kind.norm.fixture, kind.norm.fixture_hour].map(i128::from);
-            assert_eq!(own, [norm.day, norm.hour, norm.fixture, norm.fixture_hour], "{}", kind.name);
+        for service in 0..=3 {
+            for (number, kind) in (1..).zip(&ALL) {
+                let Norm { day, hour, fixture, fixture_hour } = kind.norm(service);
+                let model = norms::of(service.into(), number);
+                let other = [model.day, model.hour, model.fixture, model.fixture_hour];
+                assert_eq!([day, hour, fixture, fixture_hour].map(i128::from), other, "{} {service}", kind.name);
+            }
+        }
+    }
+
+    /// Worked out by hand from documents 01 and 02: kinds 1, 7 and 11, of which document 01 has 400, 250 and 16 litres a day.
+    #[test]
+    fn cold_is_total_less_hot() {
+        let cold = |kind: usize| ALL[kind - 1].norm(COLD);
+        assert_eq!(cold(1), norm([270, 91, 20, 200]));
+        assert_eq!(cold(7), norm([100, 130, 20, 190]));
+        assert_eq!(cold(11), norm([9, 20, 10, 60]));
+        for kind in &ALL {
+            let [total, cold, hot] = [0, COLD, HOT].map(|service| kind.norm(service));
+            assert_eq!((cold.day + hot.day, cold.hour + hot.hour), (total.day, total.hour), "{}", kind.name);
+            assert_eq!((cold.fixture, cold.fixture_hour), (hot.fixture, hot.fixture_hour), "{}", kind.name);
+            assert!(cold.day > 0 && cold.hour > 0, "{}", kind.name);
         }
     }
 }

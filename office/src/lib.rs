@@ -1,7 +1,7 @@
 //! The order office's side of the pipe sizing library.
 //!
-//! - [`flow`], [`duty`], [`meter`], [`rate`], [`losses()`], [`heads`], [`choose`] and [`copy`] call the proved library and give typed
-//!   results or a [`Refusal`].
+//! - [`flow`], [`duty`], [`meter`], [`rate`], [`losses()`], [`heads`], [`choose`], [`heat`] and [`copy`] call the proved library and give
+//!   typed results or a [`Refusal`].
 //! - `ffi` has the same calls on lent buffers, and the only unsafe code.
 //! - `model` is document 01 once more, written independently; [`soak`] and [`replay`] compare the two.
 //! - [`bench()`] times the library against the model and against `rivals`, searches in safe Rust.
@@ -24,7 +24,8 @@ pub mod situations;
 
 pub use bench::bench;
 pub use calls::{
-    Choice, Flow, Heads, Metered, Rated, Rating, SectionLoss, choose, copy, duty, flow, heads, losses, meter, rate,
+    Choice, Flow, Heads, Heat, Metered, Rated, Rating, SectionLoss, choose, copy, duty, flow, heads, heat, losses,
+    meter, rate,
 };
 pub use compare::{Mismatch, replay, soak};
 pub use refusal::Refusal;
@@ -53,6 +54,7 @@ pub mod pipes;
 pub mod places;
 pub mod readable;
 pub mod record;
+pub mod service;
 pub mod table;
 pub mod taps;
 pub mod warnings;

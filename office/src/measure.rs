@@ -91,7 +91,7 @@ pub const TENTHS: Measure = Measure { units: &[("", 1)], ..bare("tenths", 255, "
 pub const HOURS: Measure = bare("", 255, "1 to 24", 24);
 /// A section's own number.
 pub const SECTION: Measure = bare("", 255, "1 to 63", 1);
-pub const VERSION: Measure = bare("", 255, "1", 1);
+pub const JOB_VERSION: Measure = bare("", 255, "1 or 2", 1);
 /// Residents, fixtures: two bytes.
 pub const COUNT: Measure = bare("", 65_535, "1 to 65535", 24);
 /// A stated length: four bytes.
@@ -106,6 +106,7 @@ pub const BYTES: Measure = Measure {
 };
 
 // The columns of a table; their units stand in its header.
+pub const VERSION: Measure = bare("", 255, "1", 1);
 pub const SIZE: Measure = bare("", 255, "1 to 12", 1);
 pub const BORE: Measure = bare("mm", 65_535, "1 to 65535", 40);
 pub const PRICE: Measure = bare("price units", 65_535, "1 to 10000", 900);

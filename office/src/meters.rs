@@ -37,8 +37,7 @@ pub struct Packed {
 /// or a meter's type among its cells.
 pub fn is_list(text: &str) -> bool {
     let Some(line) = cells::first_line(text) else { return false };
-    let words = line.content.trim().to_lowercase();
-    let house = readable::OF_A_HOUSE.iter().any(|word| words.starts_with(word));
+    let house = readable::begins_a_house(line.content);
     SEPARATORS.iter().map(|(separator, _)| Cells::of(&line, *separator)).filter(|line| line.cells.len() > 1).any(
         |line| {
             let own = header::likeness(&line, &FORM) + usize::from(has_type(&line));

@@ -6,6 +6,7 @@
 mod choice;
 mod demand;
 mod flows;
+mod heat;
 mod list;
 mod losses;
 mod meters;
@@ -17,6 +18,7 @@ mod sizes;
 use crate::at::At;
 use crate::refusal::Refusal;
 pub use choice::gentlest;
+pub use heat::{MOST_COLD, MOST_LOSS};
 pub use pipe::read as reading;
 use std::fmt;
 
@@ -39,7 +41,7 @@ impl fmt::Display for Place {
     }
 }
 
-/// What the refused call was given. A call that takes no catalogue, no sizes, no meters or no losses has none here.
+/// What the refused call was given. A call that takes no catalogue, no sizes, no meters, no losses or no heating has none here.
 #[derive(Clone, Copy, Debug, Default)]
 pub struct Asked<'a> {
     pub job: &'a [u8],
@@ -47,6 +49,16 @@ pub struct Asked<'a> {
     pub sizes: &'a [u8],
     pub meters: &'a [u8],
     pub losses: &'a [u8],
+    pub heating: Option<Heating>,
+}
+
+/// What the heat call is given beside the job.
+#[derive(Clone, Copy, Debug, PartialEq, Eq)]
+pub struct Heating {
+    /// Temperature of the cold water in degrees C.
+    pub cold: u32,
+    /// Heat that is lost, in watts.
+    pub loss: u32,
 }
 
 /// All places at which this refusal lies, in the order of the file.
@@ -70,6 +82,8 @@ pub fn places(refusal: &Refusal, asked: &Asked) -> Vec<Place> {
         Refusal::MeterList => meters::rules(asked.meters),
         Refusal::NoMeter => meters::none_qualifies(asked),
         Refusal::LossList => losses::rules(asked),
+        Refusal::NotHot => heat::not_hot(asked.job),
+        Refusal::HeatRange => heat::ranges(asked.heating),
         Refusal::ResultShort | Refusal::WorkShort | Refusal::Unknown(_) => Vec::new(),
     }
 }

@@ -118,8 +118,15 @@ fn utf_16(bytes: &[u8]) -> Result<String, Mistakes> {
 const LEADS_OUT: &str = "the file saved as UTF-8; letters behind # may be anything; a record that is damaged in its first \
     byte is read with --record";
 
-/// The words that begin a house's lines.
-pub const OF_A_HOUSE: [&str; 11] = [
+/// Whether a line begins as one of a house does. A list of meters may begin with its service flows.
+pub fn begins_a_house(line: &str) -> bool {
+    let line = line.trim_start().to_lowercase();
+    let service = line.strip_prefix("service").is_some_and(|rest| !rest.trim_start().starts_with("flow"));
+    service || OF_A_HOUSE.iter().any(|word| line.starts_with(word))
+}
+
+/// The words that begin a house's lines, beside the service's.
+const OF_A_HOUSE: [&str; 11] = [
     "local",
     "hours",
     "meter",
@@ -146,9 +153,8 @@ fn hidden(comment: &str) -> Option<&str> {
         let meter = cells.iter().any(|cell| meter::design(cell.trim_matches([' ', '"'])).is_some());
         (begun && cells.len() > 1) || (meter && cells.len() > 2)
     };
-    let house = |line: &str| OF_A_HOUSE.iter().any(|word| line.to_lowercase().starts_with(word));
     let mut shown = comment.split(begins_a_line).skip(1).map(|line| line.trim_start_matches([' ', '\t']));
-    shown.find(|line| row(line) || house(line))
+    shown.find(|line| row(line) || begins_a_house(line))
 }
 
 /// What is no text outside of a line's comment, by its first byte, counted from 1; or a line that a comment hides.
@@ -232,6 +238,7 @@ mod tests {
         }
         let bytes: Vec<u8> = (0..=255).filter(|byte| !b"\n\r".contains(byte)).collect();
         assert!(text(&[b"# ", &bytes[..], b"\nhours 24"].concat()).is_ok(), "bytes of a comment");
+        assert!(text(b"# see\x0bservice flow, and\x0c Service\tflow\n").is_ok(), "a list's column begins no house");
         assert!(text("# wide\u{b}see page 3, 4\u{c}\u{2028}# hours 24\n".as_bytes()).is_ok(), "no line in a comment");
     }
 
@@ -244,6 +251,7 @@ mod tests {
             (b"# a\rhours 24\nb\n", 1, "byte 4 of the line, 0D, is a carriage return alone"),
             (b"a\n# b\xe2\x80\xa8hours 24\n", 2, "show as a line of its own, `hours 24`"),
             (b"# \xea\xf3\x0bhours 24\n", 1, "show as a line of its own, `hours 24`"),
+            (b"# a\x0bService: hot\n", 1, "show as a line of its own, `Service: hot`"),
             (b"a\xe2\x80\xa9b\n", 1, "byte 2 of the line, E2, is a character at which"),
             (b"\x0ca # b\x0chours 24\n", 1, "show as a line of its own, `hours 24`"),
             (b"a\0b\0\n\0", 1, "UTF-16 without its mark"),

@@ -5,9 +5,22 @@
 
 use std::fmt;
 
-/// Bytes before the first section, and bytes of a section.
+/// Bytes of the fields that every version has, and bytes of a section.
 pub const HEAD: usize = 40;
 pub const SECTION: usize = 10;
+/// The version whose records have a service.
+pub const SERVED: u8 = 2;
+
+/// Where the sections of a version begin: in version 2 behind the service's byte. A version that there is not has the layout of
+/// version 1.
+pub fn sections_from(version: u8) -> usize {
+    HEAD + usize::from(version == SERVED)
+}
+
+/// The bytes of a record of a version with so many sections.
+pub fn length(version: u8, sections: u8) -> usize {
+    sections_from(version) + SECTION * usize::from(sections)
+}
 
 #[derive(Clone, Copy, Debug, Default, PartialEq, Eq)]
 pub struct Section {
@@ -41,47 +54,55 @@ pub struct Record {
     pub limit: u16,
     /// Kind 1 is at place 0.
     pub residents: [u16; 12],
+    /// 0 where the version has none, which means all water.
+    pub service: u8,
     /// Section 1 is at place 0; at most 255, which is what the count's byte holds.
     pub sections: Vec<Section>,
 }
 
-/// Bytes that are no record of 40 + 10 × S bytes.
+/// Bytes whose length is not that of their version and section count.
 #[derive(Clone, Debug, PartialEq, Eq)]
 pub struct NoRecord {
     pub given: usize,
-    /// The section count that the bytes state, where they reach that far.
-    pub sections: Option<u8>,
+    /// The version and the section count that the bytes state, where they reach that far.
+    pub stated: Option<(u8, u8)>,
 }
 
 impl fmt::Display for NoRecord {
     fn fmt(&self, f: &mut fmt::Formatter) -> fmt::Result {
         let given = self.given;
-        match self.sections {
-            Some(count) if given >= HEAD => {
-                let asked = HEAD + SECTION * usize::from(count);
-                write!(f, "{given} bytes, but a job record with section count {count} has {asked}")
+        match self.stated {
+            Some((version, count)) if given >= HEAD => {
+                let (asked, of) = (length(version, count), in_version(version));
+                write!(f, "{given} bytes, but a job record with section count {count} has {asked}{of}")
             }
             _ => write!(f, "{given} bytes, but a job record has at least {HEAD}"),
         }
     }
 }
 
+/// The version in words, where the length of a record goes by it.
+pub fn in_version(version: u8) -> &'static str {
+    if version == SERVED { " in version 2" } else { "" }
+}
+
 impl std::error::Error for NoRecord {}
 
 impl Record {
-    /// The fields of any bytes whose length is 40 + 10 × S, S being the count that they state.
+    /// The fields of any bytes whose length is that of the version and the section count that they state.
     pub fn read(bytes: &[u8]) -> Result<Record, NoRecord> {
-        let no = NoRecord { given: bytes.len(), sections: bytes.get(6).copied() };
-        if bytes.len() < HEAD || bytes.len() != HEAD + SECTION * usize::from(bytes[6]) {
+        let stated = bytes.get(6).map(|count| (bytes[4], *count));
+        let no = NoRecord { given: bytes.len(), stated };
+        let Some((version, _)) = stated.filter(|(version, count)| bytes.len() == length(*version, *count)) else {
             return Err(no);
-        }
+        };
         let mut residents = [0; 12];
         for (place, kept) in residents.iter_mut().enumerate() {
             *kept = u16_at(bytes, 16 + 2 * place);
         }
         Ok(Record {
             stated: u32::from_be_bytes([bytes[0], bytes[1], bytes[2], bytes[3]]),
-            version: bytes[4],
+            version,
             tenths: bytes[5],
             hours: bytes[7],
             meter: u16_at(bytes, 8),
@@ -89,7 +110,8 @@ impl Record {
             delivered: u16_at(bytes, 12),
             limit: u16_at(bytes, 14),
             residents,
-            sections: bytes[HEAD..].chunks_exact(SECTION).map(section).collect(),
+            service: if version == SERVED { bytes[HEAD] } else { 0 },
+            sections: bytes[sections_from(version)..].chunks_exact(SECTION).map(section).collect(),
         })
     }
 
@@ -101,6 +123,7 @@ impl Record {
         for two in [self.meter, self.guaranteed, self.delivered, self.limit].iter().chain(&self.residents) {
             bytes.extend(two.to_be_bytes());
         }
+        bytes.extend(self.stated_service());
         for section in &self.sections {
             bytes.extend([section.parent, section.kind]);
             bytes.extend(section.fixtures.to_be_bytes());
@@ -113,7 +136,12 @@ impl Record {
 
     /// How many bytes the record has.
     pub fn len(&self) -> usize {
-        HEAD + SECTION * self.sections.len()
+        sections_from(self.version) + SECTION * self.sections.len()
+    }
+
+    /// The service, where the record has a byte for it.
+    pub fn stated_service(&self) -> Option<u8> {
+        (self.version == SERVED).then_some(self.service)
     }
 
     /// A record is never empty: its head is there.

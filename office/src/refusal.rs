@@ -46,6 +46,10 @@ pub enum Refusal {
     NoMeter,
     /// 19
     LossList,
+    /// 20
+    NotHot,
+    /// 21
+    HeatRange,
     /// A number that this program's table does not have, kept as it came: a newer library may refuse for a new reason, and
     /// the caller must still see that it refused, and with which number.
     Unknown(u32),

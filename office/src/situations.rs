@@ -1,5 +1,7 @@
 //! What the generated cases reached, counted, so that a generator that goes dull is noticed.
 
+mod heat;
+mod lines;
 mod losses;
 mod meters;
 mod notes;
@@ -28,8 +30,11 @@ situations! {
     InnerKind: "fixtures at the end of a section that is a parent",
     AllKinds: "all twelve kinds in one house",
     ChildDrawsMore: "a section with more flow than its parent",
-    Tap200: "one tap of 200 ml/s sets a section's flow",
-    Tap300: "one tap of 300 ml/s sets a section's flow",
+    Tap200: "one tap of 200 ml/s sets a section's flow, of all the water",
+    Tap300: "one tap of 300 ml/s sets a section's flow, of all the water",
+    TapLine140: "one tap of 140 ml/s sets a section's flow in a cold or a hot line",
+    TapLine200: "one tap of 200 ml/s sets a section's flow in a cold or a hot line",
+    UnderTotalTap: "a flow in a cold or a hot line that is under one tap of all the water",
     TapOfOwnEnd: "one tap of a section's own end alone sets its flow",
     TapFromBelow: "one tap sets a section's flow that draws more than those of its own end",
     TapBesideMore: "one tap sets a section's flow where a kind that it does not serve draws more",
@@ -149,6 +154,42 @@ situations! {
     GivenPumpOne: "pump head 1 with given losses",
     GivenAtGuaranteed: "a required head of given losses that is just the guaranteed head",
     Given63: "heads of given losses for 63 sections",
+    OneByteLong: "4 with a record of version 1 that has 41 + 10 × S bytes",
+    OneByteShort: "4 with a record of version 2 that has 40 + 10 × S bytes",
+    NoService4: "4 with a record of version 2 that ends before its service",
+    NoService3: "3 with a record of version 2 that ends before its service",
+    ServiceOver: "3 by a service of 3 alone",
+    ServiceFar: "3 by a service of 255 alone",
+    ServiceBefore4: "3 by a service over 2 alone, with a length that is wrong too",
+    ParentOver: "5 with a record of version 1 whose first parent is over 2",
+    ParentAsLine: "5 with a record of version 1 whose first parent is 1 or 2",
+    LineAlone8: "8 with all the water, and a result for a cold or a hot line of the same house",
+    LineCrowded: "9 for a cold or a hot line, of a house that passes with all the water",
+    LineCheaper: "a list chosen for a cold or a hot line that costs less than any for all the water",
+    LineSuits: "a list chosen for a cold or a hot line where none suits for all the water",
+    TwinResult: "a result of version 1 that version 2 with service 0 has too",
+    TwinRefused: "a refusal of version 1 that version 2 with service 0 has too",
+    HeatAlone20: "20 where no other refusal applies",
+    HeatAlone21: "21 where no other refusal applies",
+    HeatTotal: "20 for a record of version 1",
+    HeatNamed: "20 for a record of version 2 with service 0",
+    HeatCold: "20 for a cold line",
+    HeatColdest: "a heat flow with cold water of 0 °C",
+    HeatWarmest: "a heat flow with cold water of 30 °C",
+    HeatNoLoss: "a heat flow without a stated loss",
+    HeatMostLoss: "a heat flow with a stated loss of 1,000,000 W",
+    HeatOneWarmer: "21 by cold water of 31 °C alone",
+    HeatOneLossier: "21 by a stated loss of 1,000,001 W alone",
+    HeatBothOver: "21 with both out of range",
+    HeatOver55: "21 by cold water of 55 °C or more alone",
+    HeatCutT: "21 by a temperature alone whose last byte is at most 30",
+    HeatNegative: "21 by -1, as 32 bits without a sign have it",
+    HeatWhole: "a heat flow of whole watts in both hours",
+    HeatUp: "a heat flow that is rounded up in both hours",
+    HeatMeanUp: "a mean hour's heat flow that would be less by the day's quotient without rounding",
+    HeatMeanMore: "a mean hour's heat flow over the greatest hour's",
+    HeatMeanLess: "a mean hour's heat flow under the greatest hour's",
+    HeatGreat: "a heat flow over 16,777,215 W",
     OutExact: "a result in a buffer of exactly its length",
     OutLonger: "a result in a longer buffer",
     OutOneShort: "14 with a buffer one byte short",
@@ -174,6 +215,8 @@ pub struct Counters {
     pub cases: u64,
     /// By call, in the order of `Call::ALL`, and by the number given back.
     answers: [ByNumber; Call::ALL.len()],
+    /// Results by call, and by version and service as `lines::NAMES` has them.
+    lines: [[u64; lines::NAMES.len()]; Call::ALL.len()],
     /// By call, and by two refusals that both applied where the first was given back.
     pairs: [[ByNumber; LAST as usize + 1]; Call::ALL.len()],
     reached: Vec<u64>,
@@ -183,7 +226,8 @@ impl Default for Counters {
     fn default() -> Counters {
         let none: ByNumber = [0; LAST as usize + 1];
         let (answers, pairs) = ([none; Call::ALL.len()], [[none; LAST as usize + 1]; Call::ALL.len()]);
-        Counters { cases: 0, answers, pairs, reached: vec![0; TEXTS.len()] }
+        let lines = [[0; lines::NAMES.len()]; Call::ALL.len()];
+        Counters { cases: 0, answers, lines, pairs, reached: vec![0; TEXTS.len()] }
     }
 }
 
@@ -202,7 +246,8 @@ impl Counters {
         self.reached[situation as usize]
     }
 
-    /// What was reached less often than this: numbers, neighbours in the order of refusals, and situations.
+    /// What was reached less often than this: numbers, results of each version and service, neighbours in the order of refusals, and
+    /// situations.
     pub fn rarer_than(&self, times: u64) -> Vec<String> {
         let mut rare = Vec::new();
         let mut ask = |count: u64, what: String| {
@@ -214,6 +259,9 @@ impl Counters {
             let order = model::order_of(call);
             for number in order.iter().chain(&[0]) {
                 ask(self.answers(call, *number), format!("{} gives back {number}", call.name()));
+            }
+            for (place, name) in lines::results(call) {
+                ask(self.lines[call as usize][place], format!("{} gives a result for {name}", call.name()));
             }
             for two in order.windows(2) {
                 ask(self.pair(call, two[0], two[1]), format!("{} meets {} with {}", call.name(), two[0], two[1]));
@@ -237,6 +285,11 @@ impl fmt::Display for Counters {
             write!(f, "{:6}", call.name())?;
             for number in std::iter::once(&0).chain(model::order_of(call)) {
                 write!(f, "  {number}: {}", self.answers(call, *number))?;
+            }
+            writeln!(f)?;
+            write!(f, "  results")?;
+            for (place, name) in lines::results(call) {
+                write!(f, "  {name}: {}", self.lines[call as usize][place])?;
             }
             writeln!(f)?;
             write!(f, "  with the next fault too")?;

@@ -50,8 +50,7 @@ pub fn is_table(text: &str) -> bool {
             continue;
         }
         let words = line.content.trim().to_lowercase();
-        return !readable::OF_A_HOUSE.iter().any(|word| words.starts_with(word))
-            && words.split([',', ';', '\t']).count() > 2;
+        return !readable::begins_a_house(&words) && words.split([',', ';', '\t']).count() > 2;
     }
     false
 }

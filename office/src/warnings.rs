@@ -6,7 +6,7 @@ mod losses;
 use crate::at::{At, Field};
 use crate::catalogue::{Catalogue, Row};
 use crate::meter::{self, Meter};
-use crate::places::Place;
+use crate::places::{Heating, Place};
 use crate::record::{Record, Section};
 pub use losses::off_losses;
 
@@ -103,6 +103,17 @@ pub fn off_velocity(catalogue: &Catalogue) -> Option<Place> {
 fn of_flow(bore: u16, row: &Row) -> Option<u64> {
     let square = u64::from(bore) * u64::from(bore);
     (u64::from(row.flow) * 4_000 * 113).checked_div(355 * square)
+}
+
+/// Less heat than this, in watts, some ten metres of pipe lose.
+const LITTLE_HEAT: u32 = 100;
+
+/// The warning of a heat loss, which may be in kW. None is stated with 0.
+pub fn off_heat(heating: Heating) -> Option<Place> {
+    let loss = heating.loss;
+    let why =
+        format!("{loss} W, which a few metres of pipe lose; is it in kW? {loss} kW are {} W", 1_000 * u64::from(loss));
+    (1..LITTLE_HEAT).contains(&loss).then(|| Place::new(At::HeatLoss, why))
 }
 
 /// What meters lose at their own service flow, in cm. Source document 001 has 158 to 161 for vane meters and 12 to 159 for turbine

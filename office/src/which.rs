@@ -2,7 +2,7 @@
 
 use crate::cells::{self, Cells, SEPARATORS};
 use crate::header;
-use crate::readable::{self, OF_A_HOUSE, TextLine};
+use crate::readable::{self, TextLine};
 use crate::{losses, meters, table};
 
 #[derive(Clone, Copy, Debug, PartialEq, Eq)]
@@ -42,10 +42,10 @@ impl Which {
 /// packed; as a list its header's mistakes are told, and not that its lines begin no line of a house.
 fn is_nearly_losses(text: &str) -> bool {
     let Some(line) = cells::first_line(text) else { return false };
-    let begins = |line: &TextLine, word: &str| line.content.trim_start().to_lowercase().starts_with(word);
-    let of_a_house = |line: &TextLine| OF_A_HOUSE.iter().any(|word| begins(line, word));
+    let of_a_house = |line: &TextLine| readable::begins_a_house(line.content);
     // A section's line in a house has its number.
-    let first = of_a_house(&line) && !begins(&line, "section");
+    let section = line.content.trim_start().to_lowercase().starts_with("section");
+    let first = of_a_house(&line) && !section;
     let parted = SEPARATORS.iter().map(|(separator, _)| Cells::of(&line, *separator));
     let other = parted
         .map(|line| header::likeness(&line, &table::FORM) + header::likeness(&line, &meters::FORM))

@@ -1,7 +1,7 @@
 //! The safe calls on document 01's own case.
 
-use office::{Choice, Flow, Heads, Metered, Rated, Rating, Refusal, SectionLoss};
-use office::{choose, copy, duty, flow, heads, losses, meter, rate};
+use office::{Choice, Flow, Heads, Heat, Metered, Rated, Rating, Refusal, SectionLoss};
+use office::{choose, copy, duty, flow, heads, heat, losses, meter, rate};
 
 const JOB: [u8; 50] = [
     0, 0, 0, 50, 1, 3, 1, 24, 0, 50, 1, 0xf4, 4, 0xb0, 5, 0xdc, // length to limit
@@ -18,6 +18,13 @@ const CATALOGUE: [u8; 47] = [
 fn with_head(head: u16) -> [u8; 50] {
     let mut job = JOB;
     job[12..14].copy_from_slice(&head.to_be_bytes());
+    job
+}
+
+/// The own case in version 2.
+fn in_line(service: u8) -> Vec<u8> {
+    let mut job = [&JOB[..40], &[service], &JOB[40..]].concat();
+    (job[3], job[4]) = (51, 2);
     job
 }
 
@@ -150,6 +157,44 @@ fn choosing_for_the_own_case() {
 fn copying_the_own_case() {
     assert_eq!(copy(&JOB), Ok(JOB.to_vec()));
     assert_eq!(copy(&JOB[..49]), Err(Refusal::JobLength));
+    for service in 0..3 {
+        assert_eq!(copy(&in_line(service)), Ok(in_line(service)));
+    }
+    assert_eq!(copy(&in_line(3)), Err(Refusal::HeaderRange));
+}
+
+/// 444 and 2,624 l/h of hot water take 58 W for each l/h where the cold water has 5 °C.
+#[test]
+fn the_hot_line_of_the_own_case() {
+    let hot = in_line(2);
+    assert_eq!(flow(&hot), Ok(Flow { hour: 2624, day: 10650, mean_hour: 444, flows: vec![1206] }));
+    assert_eq!(heat(&hot, 5, 1_200), Ok(Heat { mean_hour: 26_952, greatest_hour: 153_392 }));
+    assert_eq!(heat(&hot, 5, 0), Ok(Heat { mean_hour: 25_752, greatest_hour: 152_192 }));
+    let numbered = |job: &[u8], t, loss| heat(job, t, loss).map_err(|refusal| refusal.number());
+    assert_eq!(
+        (numbered(&hot, 31, 0), numbered(&hot, 5, 1_000_001), numbered(&hot, u32::MAX, 0)),
+        (Err(21), Err(21), Err(21))
+    );
+    assert_eq!(
+        (numbered(&JOB, 5, 0), numbered(&in_line(0), 5, 0), numbered(&in_line(1), 31, 0)),
+        (Err(20), Err(20), Err(20))
+    );
+    assert_eq!(heat(&hot[..50], 5, 0), Err(Refusal::JobLength));
+    assert_eq!(choose(&hot, &CATALOGUE), Ok(Choice { cost: 90_000, sizes: vec![1] }));
+}
+
+/// A record of version 2 with 63 sections is the longest; it is copied whole, and a meter is put into it.
+#[test]
+fn the_longest_record() {
+    let mut job = in_line(2);
+    (1..63).for_each(|parent| job.extend([parent, 7, 0, 80, 0, 100, 2, 0x58, 0, 200]));
+    (job[2], job[3], job[6]) = (2, 0x9f, 63);
+    assert_eq!(job.len(), 671);
+    assert_eq!(copy(&job).as_ref(), Ok(&job));
+    assert_eq!(flow(&job).map(|flow| flow.flows.len()), Ok(63));
+    let metered = meter(&job, &[1, 0, 1, 2, 0xe4]).expect("a meter qualifies");
+    assert_eq!((metered.place, metered.job.len()), (1, 671));
+    assert_eq!((&metered.job[..8], &metered.job[10..]), (&job[..8], &job[10..]));
 }
 
 #[test]
@@ -164,6 +209,7 @@ fn any_bytes_are_taken() {
         assert_eq!(losses(&JOB, &job, &job), Err(Refusal::CatalogueShape));
         assert_eq!(heads(&job, &job), Err(Refusal::JobLength));
         assert_eq!(heads(&JOB, &job), Err(Refusal::LossList));
+        assert_eq!(heat(&job, 5, 0), Err(Refusal::JobLength));
     }
     let mut stated = vec![0xff; 50];
     stated[..5].copy_from_slice(&[0, 0, 0, 50, 1]);

@@ -216,7 +216,7 @@ fn misuse_has_status_2_and_says_why() {
         (&["--version", "--record"], "`--version` has no option --record"),
         (&["show", "--text", HOUSE], "`show` has no option --text"),
         (&["choose", HOUSE, TABLE, "--text"], "`--record` or `--text` stands before the file that it is about"),
-        (&["kinds", "hotel-75"], "`kinds` takes no words, but `hotel-75` is given\nusage: office kinds"),
+        (&["kinds", "hotel-75"], "`hotel-75` is no service; `kinds` gives the norms of total, cold or hot"),
         (&["flow", "no-such-file"], "no-such-file can't be read"),
         (&["flow", HOUSE, "-o", "no-such-folder/file"], "no-such-folder/file can't be written"),
         (&["flow", TABLE], "is a table of sizes; a house is expected"),

@@ -41,10 +41,12 @@ fn replaying_says_what_came_out() {
         losses: Vec::new(),
         cat: Vec::new(),
         sizes: Vec::new(),
+        t: 0,
+        loss: 0,
         work: Buffer::default(),
         out: Buffer { length: 4, pattern: vec![9] },
     };
     assert_eq!(replay(&short.text()).as_deref(), Ok("flow: library and model agree: number 1, result []"));
-    let calls = "line 1: the calls are flow, duty, meter, losses, heads, rate, choose and copy";
+    let calls = "line 1: the calls are flow, duty, meter, losses, heads, rate, choose, heat and copy";
     assert_eq!(replay("call walk"), Err(calls.to_string()));
 }

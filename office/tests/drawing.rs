@@ -85,6 +85,14 @@ fn great(parent: impl Fn(u8) -> u8) -> Vec<u8> {
     record.bytes()
 }
 
+/// A house as the job of a service.
+fn served(job: &[u8], service: u8) -> Vec<u8> {
+    let mut record = Record::read(job).expect("a record");
+    (record.version, record.service) = (2, service);
+    record.stated = record.len() as u32;
+    record.bytes()
+}
+
 fn houses() -> Vec<Vec<u8>> {
     let example = concat!(env!("CARGO_MANIFEST_DIR"), "/../examples/house.txt");
     let hotel = house::pack(&std::fs::read_to_string(example).expect("the example is there")).expect("a house");
@@ -95,7 +103,9 @@ fn houses() -> Vec<Vec<u8>> {
     let low = short(&hotel);
     let plain =
         [hotel, low, one, great(|_| 0), great(|number| number - 1), halves, great(|number| number.saturating_sub(3))];
-    plain.into_iter().chain(marked()).collect()
+    let plain: Vec<Vec<u8>> = plain.into_iter().chain(marked()).collect();
+    let lines: Vec<Vec<u8>> = plain.iter().flat_map(|job| [0, 1, 2].map(|service| served(job, service))).collect();
+    [plain, lines].concat()
 }
 
 /// The kinds of each Z, most of them at once.
@@ -153,6 +163,27 @@ fn too_little_head_is_said_in_the_title_and_above_the_drawing() {
     let cat = table::pack(CAT).expect("a table");
     let required = calls::rate(hotel, &cat, &vec![2; sections]).expect("rated").required;
     assert_eq!(printed, [format!("TOO LITTLE HEAD: 0 cm are delivered, {required} cm are missing")]);
+}
+
+/// Title and heading name the line; nothing else of a drawing of all water is another than without a service.
+#[test]
+fn a_line_is_named_in_the_title_and_above_the_drawing() {
+    let hotel = &houses()[0];
+    for (service, line) in [(0, "all water"), (1, "the cold line"), (2, "the hot line")] {
+        let job = served(hotel, service);
+        let (svg, sections) = drawn(&job);
+        assert!(svg.contains(&format!("<title>House network of {sections} sections, {line}</title>")), "{svg}");
+        let duty = calls::duty(&job).expect("accepted");
+        assert!(svg.contains(&format!(">pump set for {line}: {duty} ml/s at ")), "{svg}");
+        let (low, _) = drawn(&short(&job));
+        assert!(low.contains(&format!("sections, {line}: TOO LITTLE HEAD</title>")), "{low}");
+        let sketched = sketch_of(&job, NONE);
+        assert!(sketched.contains(&format!("sections, {line}: NO SIZE SERVES</title>")), "{sketched}");
+        assert!(sketched.contains(&format!(">pump set for {line}: {duty} ml/s; without a size")), "{sketched}");
+    }
+    let (plain, total) = (drawn(hotel).0, drawn(&served(hotel, 0)).0);
+    assert!(plain.contains("<title>House network of 12 sections</title>") && plain.contains(">pump set: "), "{plain}");
+    assert_eq!(total.replace(" sections, all water<", " sections<").replace(" for all water: ", ": "), plain);
 }
 
 #[test]

@@ -2,7 +2,7 @@
 
 use office::catalogue::{self, Catalogue};
 use office::mistake::{Mistake, Mistakes};
-use office::record::{HEAD, Record, SECTION};
+use office::record::{HEAD, Record, SECTION, length, sections_from};
 use office::{calls, house, table};
 
 /// A small generator of numbers: the tests need many values, the same in each run.
@@ -25,15 +25,26 @@ impl Dice {
     }
 }
 
-/// Any bytes of a job record's length; now and then with the length, version and zeros that accepted records have.
+/// Any bytes of a version and of the length that it asks for.
+fn of_version(dice: &mut Dice, version: u8, sections: u8) -> Vec<u8> {
+    let mut bytes = dice.bytes(length(version, sections));
+    (bytes[4], bytes[6]) = (version, sections);
+    bytes
+}
+
+/// Any bytes of a job record's length, of version 1, 2 or any other; now and then with the length, the services and the zeros that
+/// accepted records have.
 fn record(dice: &mut Dice) -> Vec<u8> {
     let sections = if dice.below(4) == 0 { dice.below(256) } else { dice.below(8) };
-    let mut bytes = dice.bytes(HEAD + SECTION * sections);
-    bytes[6] = sections as u8;
+    let any = dice.next() as u8;
+    let version = [1, 2, any][dice.below(3)];
+    let mut bytes = of_version(dice, version, sections as u8);
     if dice.below(2) == 0 {
         let length = bytes.len() as u32;
         bytes[..4].copy_from_slice(&length.to_be_bytes());
-        bytes[4] = 1;
+    }
+    if version == 2 && dice.below(2) == 0 {
+        bytes[HEAD] = dice.below(4) as u8;
     }
     if dice.below(2) == 0 {
         for _ in 0..bytes.len() / 2 {
@@ -60,11 +71,49 @@ fn every_record_of_its_length_comes_back() {
 fn section_counts_from_none_to_all_that_the_byte_holds() {
     let mut dice = Dice(77);
     for sections in 0..=255 {
-        let mut bytes = dice.bytes(HEAD + SECTION * sections);
-        bytes[6] = sections as u8;
+        for version in [1, 2, 3] {
+            let bytes = of_version(&mut dice, version, sections);
+            let text = house::show(&bytes).expect("the length is right");
+            assert_eq!(house::pack(&text), Ok(bytes));
+        }
+    }
+}
+
+/// All versions and all services that their bytes hold: the same record comes back, and no line says what it would say without.
+#[test]
+fn every_version_and_every_service_comes_back() {
+    let mut dice = Dice(4_040);
+    for byte in 0..=255_u8 {
+        let bytes = of_version(&mut dice, byte, 2);
+        assert_eq!(bytes.len(), if byte == 2 { 61 } else { 60 });
         let text = house::show(&bytes).expect("the length is right");
+        assert_eq!(text.contains("version "), ![1, 2].contains(&byte), "{text}");
+        assert_eq!(text.contains("service "), byte == 2, "{text}");
+        assert_eq!(house::pack(&text), Ok(bytes));
+        let mut bytes = of_version(&mut dice, 2, 2);
+        bytes[40] = byte;
+        let text = house::show(&bytes).expect("the length is right");
+        let service = ["total", "cold", "hot"].get(usize::from(byte)).map_or(byte.to_string(), |name| name.to_string());
+        assert!(text.contains(&format!("service {service}\n")) && !text.contains("version "), "{text}");
         assert_eq!(house::pack(&text), Ok(bytes));
     }
+}
+
+/// Version 1 is 40 + 10 × S bytes and version 2 is 41 + 10 × S, and neither is shown in the other's length.
+#[test]
+fn a_version_has_its_own_length() {
+    let mut dice = Dice(41);
+    for (version, other) in [(1, 2), (2, 1), (3, 2), (0, 2)] {
+        for sections in [0, 1, 63, 255] {
+            let mut bytes = of_version(&mut dice, other, sections);
+            bytes[4] = version;
+            let asked = if version == 2 { 41 } else { 40 } + 10 * usize::from(sections);
+            let said = house::show(&bytes).expect_err("of another version's length").to_string();
+            let words = format!("{} bytes, but a job record with section count {sections} has {asked}", bytes.len());
+            assert_eq!(said, words + if version == 2 { " in version 2" } else { "" });
+        }
+    }
+    assert_eq!((sections_from(1), sections_from(2), SECTION), (40, 41, 10));
 }
 
 #[test]
@@ -87,7 +136,8 @@ fn every_catalogue_of_its_length_comes_back() {
 #[test]
 fn a_job_and_a_catalogue_never_have_the_same_length() {
     for (second, third) in (0..=255_u8).flat_map(|second| (0..=255_u8).map(move |third| (second, third))) {
-        assert_ne!(HEAD + SECTION * usize::from(third), catalogue::length(second, third));
+        assert_ne!(length(1, third), catalogue::length(second, third));
+        assert_ne!(length(2, third), catalogue::length(second, third));
     }
 }
 
@@ -127,6 +177,38 @@ fn the_own_case_is_document_01s() {
     assert_eq!(calls::flow(&bytes).expect("accepted").flows, [2_052]);
 }
 
+/// The own case as a cold line, a hot one, and all water in version 2: the record of document 02, byte by byte.
+#[test]
+fn a_service_is_a_byte_before_the_sections() {
+    let head = "03011800 3201f404b005dc0000000000000000000000000047 00000000000000000000".replace(' ', "");
+    let section = "000700500064025800c8";
+    for (service, byte) in [("total", "00"), ("cold", "01"), ("hot", "02"), ("3", "03"), ("255", "ff")] {
+        let hex = format!("0000003302{head}{byte}{section}");
+        let bytes = house::pack(&format!("service {service}\n{OWN}")).expect("a house");
+        assert_eq!(bytes.iter().map(|byte| format!("{byte:02x}")).collect::<String>(), hex, "{service}");
+        let shown = house::show(&bytes).expect("a record");
+        assert!(shown.starts_with(&format!("service {service}\nlocal losses 0.3\n")), "{shown}");
+        assert_eq!(house::pack(&shown), Ok(bytes));
+    }
+    let plain = house::show(&house::pack(OWN).expect("a house")).expect("a record");
+    assert!(plain.starts_with("local losses 0.3\n"), "version 1 shows neither: {plain}");
+}
+
+/// The flows of the own case's lines, by hand from document 02. Hot: m is 25,000 × 150 × 71 / (9 × 20), 1,479,167 up, and α of it lies
+/// between those of 1.4 and 1.5; the day is 150 × 71, the mean hour 10,650 / 24 up. Cold: the day is 100 × 71.
+#[test]
+fn a_line_has_its_own_norms() {
+    let flow = |service: &str| {
+        let job = house::pack(&format!("service {service}\n{OWN}")).expect("a house");
+        calls::flow(&job).expect("accepted")
+    };
+    let own = calls::flow(&house::pack(OWN).expect("a house")).expect("accepted");
+    assert_eq!(flow("total"), own);
+    assert_eq!((own.day, own.mean_hour), (17_750, 740));
+    assert_eq!((flow("hot").day, flow("hot").mean_hour), (10_650, 444));
+    assert_eq!((flow("cold").day, flow("cold").mean_hour), (7_100, 296));
+}
+
 #[test]
 fn what_is_forgiven() {
     let plain = house::pack(OWN).expect("a house");
@@ -144,8 +226,18 @@ fn what_is_forgiven() {
         ("residents hotel-75", "Residents  HOTEL-75"),
         ("hours 24", "  hours 24   # all day"),
         ("hours 24", "version 1\nhours 24\nstated length 50 bytes"),
+        ("hours 24", "service total\nversion 1\nhours 24"),
     ] {
         assert_eq!(house::pack(&OWN.replacen(from, to, 1)).as_ref(), Ok(&plain), "{to}");
+    }
+    let hot = house::pack(&format!("service hot\n{OWN}")).expect("a house");
+    for line in ["Service: HOT", "  service\thot;  # the heater's", "version 2\nservice hot", "service hot\nversion 2"]
+    {
+        assert_eq!(
+            house::pack(&OWN.replacen("hours 24", &format!("hours 24\n{line}"), 1)).as_ref(),
+            Ok(&hot),
+            "{line}"
+        );
     }
 }
 
@@ -183,6 +275,61 @@ const SLIPS_OF_THE_HOUSE: &[Slip] = &[
     ("velocity limit 1500 mm/s", "velocity limit 1.5", 7, "is missing", "for example 1500 mm/s or 1.5 m/s"),
     ("meter loss 50 cm", "meter loss 50 bar", 4, "`bar` is no unit", "cm or m"),
     ("1200 cm", "1,200 cm", 6, "has a comma", "nothing between thousands"),
+    ("hours 24", "hours 24\nservice", 4, "`service` names nothing", "`service total` (cold and hot together)"),
+    ("hours 24", "hours 24\nservice warm", 4, "`warm` is no service", "`service cold` or `service hot`"),
+    ("hours 24", "hours 24\nservice dhw", 4, "`dhw` is no service", "`service cold` or `service hot`"),
+    ("hours 24", "hours 24\nservice both", 4, "`both` is no service", "(cold and hot together)"),
+    (
+        "hours 24",
+        "hours 24\nservice cold and hot",
+        4,
+        "`and` is one word too many",
+        "one service on its line: `service total`",
+    ),
+    ("hours 24", "hours 24\nservice cold hot", 4, "`hot` is one word too many", "(cold and hot together)"),
+    ("hours 24", "hours 24\nservice hot water", 4, "`water` is one word too many", "`service hot`"),
+    ("hours 24", "hours 24\nservice cold,hot", 4, "`cold,hot` is no service", "`service total`"),
+    ("hours 24", "hours 24\nservice cold/hot", 4, "`cold/hot` is no service", "`service total`"),
+    ("hours 24", "hours 24\nservice hotel-75", 4, "`hotel-75` is no service", "`service hot`"),
+    ("hours 24", "hours 24\nservice 0", 4, "`0` is no service; it is given by its name", "`service total`"),
+    ("hours 24", "hours 24\nservice 1", 4, "`1` is no service; it is given by its name", "`service cold`"),
+    ("hours 24", "hours 24\nservice 02", 4, "`02` is no service; it is given by its name", "`service hot`"),
+    ("hours 24", "hours 24\nservice 256", 4, "`256` is no service", "`service hot`"),
+    ("hours 24", "hours 24\nservice -1", 4, "`-1` is no service", "`service hot`"),
+    ("hours 24", "hours 24\nservice h\u{43e}t", 4, "a Cyrillic letter that looks like o", "`service hot`"),
+    ("hours 24", "hours 24\nservice hot\nservice hot", 5, "`service` is given twice", "the first is line 4"),
+    ("hours 24", "hours 24\nservice hot\nservice cold", 5, "`service` is given twice", "the first is line 4"),
+    ("hours 24", "hours 24\nhot", 4, "`hot` begins no line", "velocity limit, service, residents"),
+    ("hours 24", "hours 24\nservices hot", 4, "`services` begins no line", "service"),
+    (
+        "hours 24",
+        "version 1\nhours 24\nservice hot",
+        5,
+        "`service hot` is not for `version 1`: version 1 is always total",
+        "no line `version`",
+    ),
+    (
+        "hours 24",
+        "service cold\nversion 1\nhours 24",
+        3,
+        "`service cold` is not for `version 1`",
+        "packed as version 2",
+    ),
+    (
+        "hours 24",
+        "service total\nversion 3\nhours 24",
+        3,
+        "`service total` is not for `version 3`: only version 2",
+        "no line `version`",
+    ),
+    ("hours 24", "service 7\nversion 1\nhours 24", 3, "`service 7` is not for `version 1`", "no line `version`"),
+    (
+        "hours 24",
+        "hours 24\nversion 2",
+        4,
+        "`version 2` has a service, and no line gives it",
+        "`service cold` or `service hot`; then",
+    ),
     ("residents hotel-75 71", "residents hotel 71", 8, "`hotel` is no kind", "hotel-75"),
     ("residents hotel-75 71", "residents none 71", 8, "`none` is no kind that has residents", "dwelling"),
     ("residents hotel-75 71", "residents hotel-75 70000", 8, "`residents hotel-75 70000`", "1 to 65535"),
@@ -253,8 +400,27 @@ fn a_missing_line_is_named() {
 #[test]
 fn any_text_is_taken() {
     let mut dice = Dice(99);
-    let pieces =
-        ["section", " ", "\n", "#", "-", "9", ".", ",", "cm", "m", "pump", "kind", "hotel-75", "é", "\u{2212}", "1e9"];
+    let pieces = [
+        "section",
+        "service ",
+        "hot\n",
+        "version 2\n",
+        " ",
+        "\n",
+        "#",
+        "-",
+        "9",
+        ".",
+        ",",
+        "cm",
+        "m",
+        "pump",
+        "kind",
+        "hotel-75",
+        "é",
+        "\u{2212}",
+        "1e9",
+    ];
     for turn in 0..20_000 {
         let start = if turn % 2 == 0 { OWN } else { SIZES };
         let mut text = start.to_string();

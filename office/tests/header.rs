@@ -4,6 +4,7 @@
 #[path = "tools/run.rs"]
 mod run;
 
+use office::model::faults::LAST;
 use office::{ffi, house, table};
 use run::{read, scratch, top};
 use std::process::Command;
@@ -40,6 +41,19 @@ fn the_example_in_c_is_compiled_and_run_against_all_calls() {
     for call in calls {
         assert!(source.contains(&format!("{call}(")), "the example does not call {call}");
     }
+}
+
+/// Each number has one line, and the ABI's number is the one that the example prints.
+#[test]
+fn the_header_lists_every_refusal() {
+    let header = read("office/include/order.h");
+    for number in 1..=LAST {
+        let line = format!(" *   {number:2}  ");
+        assert_eq!(header.lines().filter(|text| text.starts_with(&line)).count(), 1, "{number}");
+    }
+    assert!(!header.contains(&format!(" *   {:2}  ", LAST + 1)));
+    let version = header.lines().find_map(|line| line.strip_prefix("#define ORDER_VERSION ")).expect("a number");
+    assert!(read("examples/order.c").contains(&format!("is(\"version\", ORDER_VERSION, {version});")));
 }
 
 #[test]

@@ -7,6 +7,7 @@ mod run;
 
 use json::Value;
 use office::record::Record;
+use office::service::TOTAL;
 use office::{Refusal, calls, house, kinds, losses, meters, table};
 use run::{Ran, office, office_with, read, scratch};
 
@@ -38,7 +39,8 @@ fn kinds_in_words_in_json_and_on_the_page() {
         assert_eq!((listed.get("name"), listed.get("what")), (&Value::Text(name.into()), &Value::Text(what.into())));
         let keys = ["day_l", "hour_tenths_l", "fixture_hundredths_l_per_s", "fixture_l_per_h"];
         let [day, hour, fixture, fixture_hour] = keys.map(|key| listed.number(key));
-        let own = [kind.norm.day, kind.norm.hour, kind.norm.fixture, kind.norm.fixture_hour];
+        let norm = kind.norm(TOTAL);
+        let own = [norm.day, norm.hour, norm.fixture, norm.fixture_hour];
         assert_eq!([day, hour, fixture, fixture_hour], own.map(|norm| norm as i64));
         let line = printed.lines().find(|line| line.starts_with(&format!("{name} "))).expect("a line for each kind");
         let litres = format!("{}.{} 0.{fixture:02} {fixture_hour}", hour / 10, hour % 10);
@@ -338,12 +340,12 @@ fn help_on_what_there_is_not_says_what_there_is() {
 fn versions_a_line_each() {
     let version = env!("CARGO_PKG_VERSION");
     let wanted =
-        format!("command {version}\nlibrary {version}\nspecification document 01 with L1, L2 and L3 of document 02\n");
+        format!("command {version}\nlibrary {version}\nspecification document 01 with L1 to L4 of document 02\n");
     assert_eq!(answered(&["--version"]), wanted);
     let parsed = json::parse(&answered(&["--version", "--json"]));
     assert_eq!(parsed.get("command_version"), &Value::Text(version.into()));
     assert_eq!(parsed.get("library_version"), &Value::Text(version.into()));
-    assert_eq!(parsed.get("specification"), &Value::Text("document 01 with L1, L2 and L3 of document 02".into()));
+    assert_eq!(parsed.get("specification"), &Value::Text("document 01 with L1 to L4 of document 02".into()));
     misused(office(&["flow", "examples/house.txt", "--version"]), "`--version` stands alone");
     misused(office(&["--version", "please"]), "`--version` takes no words, but `please` is given");
 }

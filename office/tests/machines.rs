@@ -12,6 +12,7 @@ const HOUSE: &str = "examples/house.txt";
 const TABLE: &str = "examples/table.csv";
 const METERS: &str = "examples/meters.csv";
 const LOSSES: &str = "examples/losses.csv";
+const HOT: &str = "examples/hotel-hot.txt";
 const WIDE: &str = "6,6,6,6,6,6,6,6,6,6,6,6";
 
 fn keys(value: &Value) -> Vec<String> {
@@ -26,17 +27,21 @@ fn texts(value: &Value, key: &str) -> Vec<String> {
     value.list(key).iter().map(text).collect()
 }
 
+/// The name of a file with the record of a text.
+fn packed(text: &str, name: &str) -> String {
+    let record = scratch(name);
+    assert_eq!(office(&["pack", text, "-o", &record]).status, 0);
+    record
+}
+
 /// Every key that the page has for a command is in its object, and none that it has not.
 #[test]
 fn the_keys_are_those_of_the_page() {
     let page = read("docs/COMMAND.md");
-    let record = scratch("machines.job");
-    assert_eq!(office(&["pack", HOUSE, "-o", &record]).status, 0);
-    let list = scratch("machines.meters");
-    assert_eq!(office(&["pack", METERS, "-o", &list]).status, 0);
-    let lost = scratch("machines.losses");
-    assert_eq!(office(&["pack", LOSSES, "-o", &lost]).status, 0);
-    let rows: [(&str, &[&str]); 14] = [
+    let record = packed(HOUSE, "machines.job");
+    let (list, lost) = (packed(METERS, "machines.meters"), packed(LOSSES, "machines.losses"));
+    let heat = ["heat", HOT, "--cold-water", "5", "--loss", "1200"];
+    let rows: [(&str, &[&str]); 18] = [
         ("|`pack`|", &["pack", HOUSE]),
         ("|`pack`|", &["pack", METERS]),
         ("|`pack`|", &["pack", LOSSES]),
@@ -47,6 +52,10 @@ fn the_keys_are_those_of_the_page() {
         ("|`show` of meters|", &["show", &list]),
         ("|`meter`|", &["meter", HOUSE, METERS]),
         ("|`flow`|", &["flow", HOUSE]),
+        ("|`flow`|", &["flow", HOT]),
+        ("|`pack`|", &["pack", HOT]),
+        ("|`meter`|", &["meter", HOT, METERS]),
+        ("|`heat`|", &heat),
         ("|`rate`, `choose`|", &["rate", HOUSE, TABLE, WIDE]),
         ("|`rate`, `choose`|", &["choose", HOUSE, TABLE]),
         ("|`kinds`|", &["kinds"]),
@@ -76,6 +85,8 @@ fn files_are_named_in_every_answer() {
     let by_file = format!("@{sizes}");
     for (words, files) in [
         (&["flow", HOUSE][..], vec![HOUSE]),
+        (&["heat", HOT, "--cold-water", "5", "--loss", "1200"], vec![HOT]),
+        (&["heat", HOUSE, "--cold-water", "5", "--loss", "1200"], vec![HOUSE]),
         (&["choose", HOUSE, TABLE], vec![HOUSE, TABLE]),
         (&["meter", HOUSE, METERS], vec![HOUSE, METERS]),
         (&["heads", HOUSE, LOSSES], vec![HOUSE, LOSSES]),
@@ -116,8 +127,7 @@ fn mistakes_of_a_text_come_as_json_too() {
 fn the_keys_of_a_meter_are_those_of_the_page() {
     let page = read("docs/COMMAND.md");
     let row = |start: &str| page.lines().find(|line| line.starts_with(start)).expect("the page has it");
-    let list = scratch("machines-keys.meters");
-    assert_eq!(office(&["pack", METERS, "-o", &list]).status, 0);
+    let list = packed(METERS, "machines-keys.meters");
     let shown = json::parse(&office(&["show", &list, "--json"]).text());
     let picked = json::parse(&office(&["meter", HOUSE, METERS, "--json"]).text());
     let (shown, picked) = (keys(&shown.list("meters")[0]), keys(&picked.list("meters")[0]));

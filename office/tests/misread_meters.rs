@@ -8,7 +8,8 @@ mod run;
 
 use lists::line;
 use office::mistake::{Mistake, Mistakes};
-use office::{meters, table};
+use office::which::Which;
+use office::{house, meters, table};
 use run::{office_with, read};
 
 const OWN: &str = "examples/own-case.txt";
@@ -253,6 +254,20 @@ fn an_unknown_column_is_no_mistake_of_the_rows() {
     assert!(longer.list.iter().any(|mistake| mistake.wrong == "`zenner` stands under no column"), "{longer}");
     let empty = only("type,resistance m/(l/s)2,service flow l/h,", "vane,1.3,4000,Zenner");
     assert_eq!(empty.expected, "a name over the column, `notes` if it is for people");
+}
+
+/// A list may begin with its service flows, and a house with its service; neither is taken for the other.
+#[test]
+fn a_service_flow_is_no_service() {
+    let text = "service flow l/h,type,resistance m/(l/s)2\n6400,vane,0.5\n";
+    assert_eq!((Which::of(text), meters::pack(text)), (Which::Meters, Ok(vec![1, 0x13, 0x88, 0x19, 0x00])));
+    assert_eq!(Which::of("Service  Flow (l/h);typ\n6400;vane\n"), Which::Meters, "a nearly right header");
+    for first in ["service hot", "service: hot", "SERVICE\tcold", "service hot, of the hotel", "service hot,cold,total"]
+    {
+        assert_eq!(Which::of(&format!("{first}\n{}", read(OWN))), Which::House, "{first}");
+    }
+    let mistakes = house::pack(&format!("service flow 6400\n{}", read(OWN))).expect_err("no service");
+    assert_eq!(mistakes.list[0].wrong, "`flow` is no service");
 }
 
 #[test]

@@ -25,6 +25,7 @@ fn examples() -> Vec<String> {
     let files = [
         "house.txt",
         "attic.txt",
+        "hotel-hot.txt",
         "table.csv",
         "mistakes/falling-velocity.csv",
         "mistakes/circle.txt",
@@ -66,6 +67,7 @@ fn of_job(bytes: &[u8]) -> Fields {
     let mut put = |name: String, value: i64| assert!(fields.insert(name, value).is_none());
     put("stated length".into(), record.stated.into());
     put("version".into(), record.version.into());
+    put("service".into(), record.service.into());
     put("local losses".into(), record.tenths.into());
     put("hours".into(), record.hours.into());
     put("meter loss".into(), record.meter.into());
@@ -234,7 +236,7 @@ impl Shell {
 }
 
 /// The calls that a file goes through: those that take a file of its kind, and one that takes another.
-fn calls(file: &str, which: Which) -> [String; 5] {
+fn calls(file: &str, which: Which) -> [String; 6] {
     let sizes = "6,6,6,6,6,6,6,6,6,6,6,6";
     match which {
         Which::House => [
@@ -243,6 +245,7 @@ fn calls(file: &str, which: Which) -> [String; 5] {
             format!("choose {file} $examples/table.csv"),
             format!("draw {file} $examples/table.csv"),
             format!("meter {file} $examples/meters.csv"),
+            format!("heat {file} --cold-water 5 --loss 1200"),
         ],
         Which::Table => [
             format!("rate $examples/house.txt {file} {sizes}"),
@@ -250,6 +253,7 @@ fn calls(file: &str, which: Which) -> [String; 5] {
             format!("draw $examples/house.txt {file}"),
             format!("draw $examples/house.txt {file} {sizes}"),
             format!("flow {file}"),
+            format!("heat {file} --cold-water 5 --loss 1200"),
         ],
         Which::Losses => [
             format!("heads $examples/house.txt {file}"),
@@ -257,6 +261,7 @@ fn calls(file: &str, which: Which) -> [String; 5] {
             format!("heads $examples/attic.txt {file}"),
             format!("meter $examples/house.txt {file}"),
             format!("flow {file}"),
+            format!("heat {file} --cold-water 5 --loss 1200"),
         ],
         Which::Meters => [
             format!("meter $examples/house.txt {file}"),
@@ -264,6 +269,7 @@ fn calls(file: &str, which: Which) -> [String; 5] {
             format!("meter $examples/attic.txt {file}"),
             format!("choose $examples/house.txt {file}"),
             format!("flow {file}"),
+            format!("heat {file} --cold-water 5 --loss 1200"),
         ],
     }
 }
@@ -271,7 +277,7 @@ fn calls(file: &str, which: Which) -> [String; 5] {
 /// How many of these calls take a file of that kind.
 fn own_calls(which: Which) -> usize {
     match which {
-        Which::House => 5,
+        Which::House => 6,
         Which::Table => 4,
         Which::Meters | Which::Losses => 3,
     }
@@ -354,6 +360,10 @@ fn answers_alike(shell: &mut Shell, record: &[u8], which: Which, status: i32) {
             0 if which != Which::Meters => assert!(one.output == other.output, "{text}"),
             _ => assert_eq!(line(&one.output), line(&other.output), "{text}"),
         }
+    }
+    // Bytes of version 0 may be a list of losses as well, and are shown as that.
+    if which == Which::House && loss::is_list(record) {
+        return;
     }
     assert_eq!(shell.run(&format!("show {name} -o again")).status, status);
     let again = shell.file("again").expect("shown");

@@ -8,7 +8,7 @@ use mixed::{branch, flat};
 use office::at::{At, Field};
 use office::case::{Call, Case};
 use office::model::faults::LAST;
-use office::places::{Asked, Place, places};
+use office::places::{Asked, Heating, Place, places};
 use office::record::{Record, Section};
 use office::{Refusal, calls, generate, house, table};
 
@@ -52,7 +52,8 @@ fn jobs() {
     let section = At::Section(1);
     check(of_job(&own[..49]), 1, At::Field(Field::Stated), "states 50 bytes and has 49");
     check(of_job(&[]), 1, At::Job, "0 bytes; the least is 40");
-    check(of_job(&with(&own, &[(4, 2)])), 2, At::Field(Field::Version), "2, not 1");
+    check(of_job(&with(&own, &[(4, 3)])), 2, At::Field(Field::Version), "it is 3, neither 1 nor 2");
+    check(of_job(&with(&own, &[(4, 0)])), 2, At::Field(Field::Version), "it is 0, neither 1 nor 2");
     check(of_job(&with(&own, &[(5, 4)])), 3, At::Field(Field::Losses), "4 is outside 2 to 3");
     check(of_job(&with(&own, &[(6, 64)])), 3, At::Field(Field::Sections), "64 is outside 1 to 63");
     check(of_job(&with(&own, &[(7, 25)])), 3, At::Field(Field::Hours), "25 is outside 1 to 24");
@@ -77,6 +78,88 @@ fn jobs() {
     check(of_job(&with(&own, &[(17, 1)])), 7, At::Residents(1), "1 given, but no section");
     let crowd = [(28, 255), (29, 255), (42, 255), (43, 255)];
     check(of_job(&with(&own, &crowd)), 8, At::House, "over 400000000");
+}
+
+/// The own case as the job of a service, and of a number that is none.
+fn served(service: &str) -> Vec<u8> {
+    house::pack(&format!("service {service}\n{JOB}")).expect("the own case with a service")
+}
+
+#[test]
+fn jobs_of_version_2() {
+    let (own, hot) = (job(), served("hot"));
+    let (service, sections) = (At::Field(Field::Service), At::Field(Field::Sections));
+    check(of_job(&served("3")), 3, service, "3 is none of 0 (total), 1 (cold), 2 (hot)");
+    check(of_job(&served("255")), 3, service, "255 is none of");
+    // Version 1 has no service: its byte 40 is the parent of section 1.
+    check(of_job(&with(&own, &[(40, 3)])), 5, At::Section(1), "it hangs from section 3");
+    // The other version's length.
+    check(
+        of_job(&with(&own, &[(4, 2)])),
+        4,
+        sections,
+        "the record has 50 bytes; section count 1 asks for 51 in version 2",
+    );
+    check(of_job(&with(&own, &[(4, 2)])), 4, sections, "version 1 has as many: is the service's byte missing?");
+    check(
+        of_job(&with(&hot, &[(4, 1)])),
+        4,
+        sections,
+        "section count 1 asks for 50, and version 2, which has a service",
+    );
+    check(of_job(&with(&hot, &[(6, 2)])), 4, sections, "section count 2 asks for 61 in version 2");
+    // Forty bytes of version 2 end before the service.
+    check(
+        of_job(&with(&own[..40], &[(3, 40), (4, 2)])),
+        4,
+        sections,
+        "the record has 40 bytes; section count 1 asks for 51",
+    );
+    check(of_job(&with(&own[..40], &[(3, 40), (4, 2), (7, 25)])), 3, At::Field(Field::Hours), "25 is outside 1 to 24");
+    // The sections lie one byte further on.
+    check(of_job(&with(&hot, &[(41, 1)])), 5, At::Section(1), "hangs from itself");
+    check(of_job(&with(&hot, &[(42, 13)])), 5, At::Section(1), "kind 13 is none of 0 to 12");
+}
+
+#[test]
+fn heat() {
+    let of = |job: &[u8], cold: u32, loss: u32| {
+        let refusal = calls::heat(job, cold, loss).expect_err("refused");
+        let heating = Some(Heating { cold, loss });
+        (refusal.number(), places(&refusal, &Asked { job, heating, ..Asked::default() }))
+    };
+    let service = At::Field(Field::Service);
+    check(
+        of(&job(), 5, 0),
+        20,
+        service,
+        "none is given, which means cold and hot water together; a hot line has a house",
+    );
+    check(of(&served("total"), 5, 0), 20, service, "it is total, cold and hot water together; ");
+    check(of(&served("cold"), 5, 0), 20, service, "it is cold; a hot line has a house of its own, with `service hot`");
+    // 20 comes before 21, and 1 to 9 before both.
+    check(of(&job(), 31, 1_000_001), 20, service, "none is given");
+    check(of(&served("hot")[..50], 31, 0), 1, At::Field(Field::Stated), "states 51 bytes and has 50");
+    let (cold, loss) = (At::ColdWater, At::HeatLoss);
+    check(of(&served("hot"), 31, 0), 21, cold, "31 is outside 0 to 30 degrees C");
+    check(of(&served("hot"), 0, 1_000_001), 21, loss, "1000001 is outside 0 to 1000000 W");
+    let both = of(&served("hot"), u32::MAX, u32::MAX);
+    assert_eq!(both.1.iter().map(|place| place.at).collect::<Vec<_>>(), [cold, loss]);
+    assert_eq!(of(&served("hot"), 31, 1_000_000).1.len(), 1);
+}
+
+/// A cold line of 80 fixtures carries 8,000,000 millionths in the hour. Of a resident of kind 7 it has Q 130 and O 190, 100,000 × 130
+/// / 190 = 68,421.05 for each; 116 residents weigh 7,936,843 and 117 weigh 8,005,264. Of all water it is Q 280 and O 280, 80 residents.
+#[test]
+fn nine_goes_by_the_norms_of_the_line() {
+    for (service, pass, weight) in [("total", 80, 11_700_000_u64), ("cold", 116, 8_005_264), ("hot", 101, 9_236_843)] {
+        let job = with(&served(service), &[(29, 117)]);
+        let found = of_job(&job);
+        check((found.0, found.1.clone()), 9, At::House, &format!("the hour's sum is {weight} millionths"));
+        check((found.0, found.1), 9, At::Residents(7), &format!("; {pass} residents would pass"));
+        assert!(calls::flow(&with(&job, &[(29, pass)])).is_ok(), "{service}");
+        assert_eq!(calls::flow(&with(&job, &[(29, pass + 1)])), Err(Refusal::DemandOverFixtures), "{service}");
+    }
 }
 
 /// The number before these words in the reason of a place.
@@ -282,8 +365,8 @@ fn no_meter_is_refused_for_one_tap() {
 }
 
 fn asked(case: &Case) -> Asked<'_> {
-    let Case { job, cat, sizes, meters, losses, .. } = case;
-    Asked { job, cat, sizes, meters, losses }
+    let Case { job, cat, sizes, meters, losses, t, loss, .. } = case;
+    Asked { job, cat, sizes, meters, losses, heating: Some(Heating { cold: *t, loss: *loss }) }
 }
 
 /// Every refusal of the made-up orders has a place, and its place is of its own kind.
@@ -301,6 +384,7 @@ fn every_refusal_has_a_place() {
             Call::Heads => calls::heads(&case.job, &case.losses).err(),
             Call::Rate => calls::rate(&case.job, &case.cat, &case.sizes).err(),
             Call::Choose => calls::choose(&case.job, &case.cat).err(),
+            Call::Heat => calls::heat(&case.job, case.t, case.loss).err(),
         };
         let Some(refusal) = refusal else { continue };
         let found = places(&refusal, &asked(&case));
@@ -310,7 +394,7 @@ fn every_refusal_has_a_place() {
             the_least_head_is_true(&case.job, &case.cat, &found);
         }
     }
-    for number in (1..=13).chain([16, 17, 18, 19]) {
+    for number in (1..=13).chain(16..=21) {
         assert!(seen[number] > 20, "refusal {number} came {} times", seen[number]);
     }
 }
@@ -339,10 +423,11 @@ fn any_bytes_are_taken() {
             let found = places(&refusal, &asked(&case));
             assert!(found.iter().all(|place| !place.why.is_empty()));
             let Case { job, meters, cat, .. } = &case;
-            let crossed = places(&refusal, &Asked { job: cat, cat: job, sizes: job, meters: job, losses: job });
+            let none = Asked::default();
+            let crossed = places(&refusal, &Asked { job: cat, cat: job, sizes: job, meters: job, losses: job, ..none });
             assert!(crossed.iter().all(|place| !place.why.is_empty()));
             let crossed =
-                places(&refusal, &Asked { job: meters, cat: meters, sizes: meters, meters: cat, losses: cat });
+                places(&refusal, &Asked { job: meters, cat: meters, sizes: meters, meters: cat, losses: cat, ..none });
             assert!(crossed.iter().all(|place| !place.why.is_empty()));
         }
     }

@@ -95,14 +95,14 @@ fn the_own_case() {
 #[test]
 fn the_largest_input() {
     let (input, text) = (largest(), text("crates/sheet/stdout"));
-    assert_eq!(input.len(), 6_932);
+    assert_eq!(input.len(), 6_933);
     assert_eq!(sheet::of(&input).0, text);
     assert_eq!(printed(&input), text);
     for piece in [1, 7, 4_095, 4_096, 4_097] {
         assert_eq!(printed_in_pieces(&input, piece), text, "in pieces of {piece}");
     }
     // Each byte counts: with the last one off, and with one more, the list of sizes is wrong.
-    assert_eq!(printed(&input[..6_931]), "refused 12\n");
+    assert_eq!(printed(&input[..6_932]), "refused 12\n");
     assert_eq!(printed(&[&input[..], &[1]].concat()), "refused 12\n");
 }
 

@@ -9,7 +9,7 @@ mod stored;
 use office::case::{Buffer, Call, Case};
 use office::model::bytes::put;
 use office::model::faults::{Faults, LAST};
-use office::model::house::House;
+use office::model::house::{House, SERVICE, sections_from};
 use office::model::{Expected, alpha, judge};
 use office::{ffi, replay};
 use stored::{Vector, hex, vectors};
@@ -31,6 +31,7 @@ fn call_of(letter: char) -> Option<Call> {
         'p' => Some(Call::Rate),
         'e' => Some(Call::Losses),
         'h' => Some(Call::Heads),
+        't' => Some(Call::Heat),
         'l' | 'k' => Some(Call::Choose),
         _ => None,
     }
@@ -39,6 +40,7 @@ fn call_of(letter: char) -> Option<Call> {
 fn case(call: Call, vector: &Vector) -> Case {
     let lent = |length| Buffer { length, pattern: vec![vector.fill] };
     let second = |taken: bool| if taken { vector.second.clone() } else { Vec::new() };
+    let (t, loss) = if call == Call::Heat { heat_asked(vector) } else { (0, 0) };
     Case {
         call,
         job: vector.first.clone(),
@@ -46,9 +48,18 @@ fn case(call: Call, vector: &Vector) -> Case {
         losses: second(call == Call::Heads),
         cat: second(call.takes_catalogue()),
         sizes: vector.third.clone(),
+        t,
+        loss,
         work: lent(vector.length),
         out: lent(vector.room),
     }
+}
+
+/// What the heat call is asked beside its job: the second part has t and the loss, 4 bytes each.
+fn heat_asked(vector: &Vector) -> (u32, u32) {
+    let both: [u8; 8] = vector.second[..].try_into().expect("t and the loss have 8 bytes");
+    let four = |at: usize| u32::from_be_bytes([both[at], both[at + 1], both[at + 2], both[at + 3]]);
+    (four(0), four(4))
 }
 
 /// The result buffer with these bytes at its front.
@@ -102,13 +113,17 @@ fn by_the_library(call: Call, vector: &Vector) -> String {
         Call::Heads => ffi::heads(&vector.first, &vector.second, &mut out),
         Call::Rate => ffi::rate(&vector.first, &vector.second, &vector.third, &mut out),
         Call::Choose => ffi::choose(&vector.first, &vector.second, &mut work, &mut out),
+        Call::Heat => {
+            let (t, loss) = heat_asked(vector);
+            ffi::heat(&vector.first, t, loss, &mut out)
+        }
     };
     shown(vector, number, &out, work.iter().all(|byte| *byte == vector.fill))
 }
 
 #[test]
 fn exported_calls() {
-    for vector in with("cfdmpehlk") {
+    for vector in with("cfdmpehlkt") {
         let call = call_of(vector.letter).expect("an exported call");
         assert_eq!(by_the_model(call, &vector), vector.answer, "the model: {}", vector.name);
         assert_eq!(by_the_library(call, &vector), vector.answer, "the library: {}", vector.name);
@@ -119,10 +134,10 @@ fn exported_calls() {
     }
 }
 
-/// The fields in the order of the record, from k on.
+/// Version and service, then the fields in the order of the record, from k on.
 fn fields(house: &House) -> Vec<u8> {
     let mut bytes = Vec::new();
-    let head = [house.k, house.count(), house.hours];
+    let head = [house.version, house.service, house.k, house.count(), house.hours];
     head.iter().for_each(|value| put(&mut bytes, *value, 1));
     let head = [house.meter, house.guaranteed, house.delivered, house.limit];
     head.iter().chain(&house.residents[1..]).for_each(|value| put(&mut bytes, *value, 2));
@@ -150,35 +165,67 @@ fn records_read() {
     }
 }
 
-/// The record that the writer's fields would make.
-fn record(vector: &Vector) -> Vec<u8> {
-    let count = usize::from(vector.first[1]);
-    let mut bytes = Vec::new();
-    put(&mut bytes, 40 + 10 * count as i128, 4);
-    put(&mut bytes, 1, 1);
-    bytes.extend(&vector.first);
-    bytes.resize(40 + 10 * count, 0);
-    bytes
+/// What the writer is given: version, service, and the other fields in the order of the record, sections past S behind them.
+struct Given<'a> {
+    version: u8,
+    service: u8,
+    rest: &'a [u8],
 }
 
-fn writing_faults(vector: &Vector) -> Faults {
-    let record = record(vector);
-    let mut faults = House::of(&record).faults();
-    faults.note(14, vector.room < record.len());
-    faults
+/// The bytes of k to the residents.
+const HEAD: usize = SERVICE - 5;
+
+impl Given<'_> {
+    fn of(vector: &Vector) -> Given<'_> {
+        Given { version: vector.first[0], service: vector.first[1], rest: &vector.first[2..] }
+    }
+
+    /// The record that the fields make. The service of version 1 has no place in it.
+    fn record(&self) -> Vec<u8> {
+        let from = sections_from(self.version.into());
+        let length = from + 10 * usize::from(self.rest[1]);
+        let mut bytes = Vec::new();
+        put(&mut bytes, length as i128, 4);
+        put(&mut bytes, self.version.into(), 1);
+        bytes.extend(&self.rest[..HEAD]);
+        bytes.extend([self.service].iter().take(from - SERVICE));
+        bytes.extend(&self.rest[HEAD..]);
+        bytes.resize(length, 0);
+        bytes
+    }
+
+    /// "With version 1 service must be 0."
+    fn service_without_a_place(&self) -> bool {
+        self.version == 1 && self.service != 0
+    }
+
+    fn faults(&self, room: usize) -> Faults {
+        let record = self.record();
+        let mut faults = House::of(&record).faults();
+        faults.note(3, faults.has(3) || self.service > 2 || self.service_without_a_place());
+        faults.note(14, room < record.len());
+        faults
+    }
 }
 
-/// Writing is not exported; copying the record that the fields would make gives its number and its bytes.
+/// Writing is not exported; copying the record that the fields would make gives its number and its bytes. Of version 1 with a
+/// service there is no record.
 #[test]
 fn fields_written() {
+    let mut unwritable = 0;
     for mut vector in with("w") {
-        let record = record(&vector);
-        let number = writing_faults(&vector).first(&[3, 5, 6, 7, 14]);
+        let given = Given::of(&vector);
+        let (record, without) = (given.record(), given.service_without_a_place());
+        let number = given.faults(vector.room).first(&[2, 3, 5, 6, 7, 14]);
         let written = line(number, &buffer(&vector, if number == 0 { &record } else { &[] }));
         assert_eq!(written, vector.answer, "the model: {}", vector.name);
-        vector.first = record;
-        assert_eq!(by_the_library(Call::Copy, &vector), vector.answer, "the library: {}", vector.name);
+        unwritable += usize::from(without);
+        if !without {
+            vector.first = record;
+            assert_eq!(by_the_library(Call::Copy, &vector), vector.answer, "the library: {}", vector.name);
+        }
     }
+    assert!(unwritable > 0, "no line w has version 1 with a service");
 }
 
 /// The model has no coefficient past the table, where 8 lets nobody reach.
@@ -208,7 +255,7 @@ fn sheets() {
 fn applying(vector: &Vector) -> Vec<u32> {
     let faults = match vector.letter {
         'r' => House::of(&vector.first).faults(),
-        'w' => writing_faults(vector),
+        'w' => Given::of(vector).faults(vector.room),
         's' => sheet::of(&vector.sheet_input()).1,
         'a' => Faults::default(),
         letter => judge(&case(call_of(letter).expect("an exported call"), vector)).faults,
@@ -217,7 +264,7 @@ fn applying(vector: &Vector) -> Vec<u32> {
 }
 
 /// The refusals that a vector says to hold are by hand. Each call has each of its numbers in a vector where no other one holds;
-/// in a sheet 1 never holds alone.
+/// in a sheet 1 never holds alone, and in the heat call 2 never holds without 20, since a version that there is not has no service.
 #[test]
 fn refusals_that_hold() {
     let mut alone = Vec::new();
@@ -230,9 +277,9 @@ fn refusals_that_hold() {
             alone.push((vector.letter, number));
         }
     }
-    let numbers: [(char, &[u32]); 11] = [
+    let numbers: [(char, &[u32]); 12] = [
         ('r', &[1, 2, 3, 4, 5, 6, 7]),
-        ('w', &[3, 5, 6, 7, 14]),
+        ('w', &[2, 3, 5, 6, 7, 14]),
         ('c', &[1, 2, 3, 4, 5, 6, 7, 14]),
         ('f', &[1, 2, 3, 4, 5, 6, 7, 8, 9, 14]),
         ('d', &[1, 2, 3, 4, 5, 6, 7, 8, 9, 14]),
@@ -240,6 +287,7 @@ fn refusals_that_hold() {
         ('p', &[1, 2, 3, 4, 5, 6, 7, 8, 9, 10, 11, 12, 13, 14]),
         ('e', &[1, 2, 3, 4, 5, 6, 7, 8, 9, 10, 11, 12, 13, 14]),
         ('h', &[1, 2, 3, 4, 5, 6, 7, 8, 9, 14, 19]),
+        ('t', &[1, 3, 4, 5, 6, 7, 8, 9, 14, 20, 21]),
         ('s', &[2, 3, 4, 5, 6, 7, 8, 9, 10, 11, 12, 13]),
         ('l', &[1, 2, 3, 4, 5, 6, 7, 8, 9, 10, 11, 14, 15, 16]),
     ];

@@ -1,5 +1,5 @@
-//! Document 01's own case and edits of it with the numbers they give, and a house where widening pipes one by one ends
-//! dearer. Here the numbers are written down; library and model must both give them.
+//! Document 01's own case and its cold and hot line, edits of them with the numbers they give, and a house where widening pipes
+//! one by one ends dearer. Here the numbers are written down; library and model must both give them.
 
 use office::case::{Buffer, Call, Case};
 use office::replay;
@@ -38,36 +38,44 @@ fn edited(call: Call, edits: &[Edit]) -> Case {
     case
 }
 
+/// Edits of the own case, each with the number that it gives.
+const JOB_EDITS: &[(u32, &[Edit])] = &[
+    (0, &[]),
+    (1, &[(3, &[51])]),
+    (2, &[(4, &[0])]),
+    (2, &[(4, &[3])]),
+    (2, &[(4, &[3]), (5, &[4])]),
+    (3, &[(4, &[2]), (5, &[4])]),
+    (3, &[(4, &[2]), (40, &[3])]),
+    (4, &[(4, &[2])]),
+    (3, &[(5, &[4])]),
+    (3, &[(7, &[0])]),
+    (3, &[(7, &[25])]),
+    (3, &[(8, &[3, 0xe9])]),
+    (3, &[(14, &[0, 0])]),
+    (3, &[(6, &[64])]),
+    (4, &[(6, &[2])]),
+    (5, &[(44, &[0, 0])]),
+    (5, &[(40, &[1])]),
+    (5, &[(40, &[2])]),
+    (5, &[(40, &[3])]),
+    (5, &[(41, &[13])]),
+    (5, &[(48, &[3, 0xe9])]),
+    (5, &[(46, &[0xfc, 0x17])]),
+    (0, &[(46, &[0xfc, 0x18])]),
+    (5, &[(41, &[0])]),
+    (6, &[(41, &[0, 0, 0]), (48, &[0, 0])]),
+    (7, &[(28, &[0, 0])]),
+    (7, &[(16, &[0, 1])]),
+    (8, &[(28, &[0xff, 0xff]), (42, &[0xff, 0xff])]),
+    (9, &[(42, &[0, 18])]),
+    (9, &[(42, &[0, 70])]),
+    (0, &[(42, &[0, 71])]),
+];
+
 #[test]
 fn edits_of_the_job() {
-    let edits: &[(u32, &[Edit])] = &[
-        (0, &[]),
-        (1, &[(3, &[51])]),
-        (2, &[(4, &[2])]),
-        (2, &[(4, &[2]), (5, &[4])]),
-        (3, &[(5, &[4])]),
-        (3, &[(7, &[0])]),
-        (3, &[(7, &[25])]),
-        (3, &[(8, &[3, 0xe9])]),
-        (3, &[(14, &[0, 0])]),
-        (3, &[(6, &[64])]),
-        (4, &[(6, &[2])]),
-        (5, &[(44, &[0, 0])]),
-        (5, &[(40, &[1])]),
-        (5, &[(41, &[13])]),
-        (5, &[(48, &[3, 0xe9])]),
-        (5, &[(46, &[0xfc, 0x17])]),
-        (0, &[(46, &[0xfc, 0x18])]),
-        (5, &[(41, &[0])]),
-        (6, &[(41, &[0, 0, 0]), (48, &[0, 0])]),
-        (7, &[(28, &[0, 0])]),
-        (7, &[(16, &[0, 1])]),
-        (8, &[(28, &[0xff, 0xff]), (42, &[0xff, 0xff])]),
-        (9, &[(42, &[0, 18])]),
-        (9, &[(42, &[0, 70])]),
-        (0, &[(42, &[0, 71])]),
-    ];
-    for (expected, edit) in edits {
+    for (expected, edit) in JOB_EDITS {
         for call in [Call::Flow, Call::Duty, Call::Meter, Call::Losses, Call::Heads] {
             assert_eq!(number(&edited(call, edit)), *expected, "{}: {edit:?}", call.name());
         }
@@ -79,6 +87,159 @@ fn edits_of_the_job() {
         case.job.truncate(length);
         assert_eq!(number(&case), 1);
     }
+}
+
+/// The own case in version 2 with this service.
+fn line(call: Call, service: u8) -> Case {
+    let mut case = own(call);
+    case.job.insert(40, service);
+    (case.job[3], case.job[4]) = (51, 2);
+    (case.t, case.loss) = (5, 1_200);
+    case
+}
+
+fn edited_line(call: Call, service: u8, edits: &[Edit]) -> Case {
+    let mut case = line(call, service);
+    for (at, bytes) in edits {
+        case.job[*at..at + bytes.len()].copy_from_slice(bytes);
+    }
+    case
+}
+
+/// The hot line's hour sum is 71 x 150 x 100,000 / 190, up: 5,605,264, so that 56 fixtures are crowded by the hour alone, and 14 by m
+/// too, which is 1,479,167.
+#[test]
+fn edits_of_a_hot_job() {
+    let edits: &[(u32, &[Edit])] = &[
+        (0, &[]),
+        (1, &[(3, &[50])]),
+        (2, &[(4, &[0])]),
+        (2, &[(4, &[3])]),
+        (2, &[(4, &[3]), (40, &[3])]),
+        (3, &[(40, &[3])]),
+        (3, &[(40, &[255])]),
+        (3, &[(40, &[3]), (6, &[2])]),
+        (3, &[(5, &[4])]),
+        (4, &[(4, &[1])]),
+        (4, &[(4, &[1]), (40, &[3])]),
+        (4, &[(6, &[2])]),
+        (5, &[(41, &[1])]),
+        (5, &[(42, &[13])]),
+        (5, &[(45, &[0, 0])]),
+        (5, &[(47, &[0xfc, 0x17])]),
+        (0, &[(47, &[0xfc, 0x18])]),
+        (6, &[(42, &[0, 0, 0]), (49, &[0, 0])]),
+        (7, &[(28, &[0, 0])]),
+        (8, &[(28, &[0xff, 0xff]), (43, &[0xff, 0xff])]),
+        (9, &[(43, &[0, 14])]),
+        (9, &[(43, &[0, 56])]),
+        (0, &[(43, &[0, 57])]),
+    ];
+    for (expected, edit) in edits {
+        for call in [Call::Flow, Call::Duty, Call::Meter, Call::Losses, Call::Heads, Call::Choose, Call::Heat] {
+            assert_eq!(number(&edited_line(call, 2, edit)), *expected, "{}: {edit:?}", call.name());
+        }
+        let read = if [8, 9].contains(expected) { 0 } else { *expected };
+        assert_eq!(number(&edited_line(Call::Copy, 2, edit)), read, "copied: {edit:?}");
+    }
+    // A record that ends before its service: 3 by its head, else 4.
+    for (k, length, expected) in [(3, 40, 4), (4, 40, 3), (3, 39, 1), (4, 39, 1), (3, 50, 4)] {
+        let mut case = edited_line(Call::Heat, 2, &[(3, &[length]), (5, &[k])]);
+        case.job.truncate(length.into());
+        assert_eq!(number(&case), expected, "{length} bytes, k {k}");
+    }
+}
+
+/// Four numbers of 4 bytes.
+fn four_numbers(bytes: &[u8]) -> Vec<u32> {
+    bytes.chunks(4).map(|four| u32::from_be_bytes([four[0], four[1], four[2], four[3]])).collect()
+}
+
+/// Hour, day, mean hour and the section's flow. Hot: 71 residents of 15 l in the hour and 150 l, with fixtures of 0.2 l/s and 190 l/h;
+/// cold: of 13 l and 100 l.
+#[test]
+fn flows_of_the_lines() {
+    let of = |service: u8| four_numbers(&result(&line(Call::Flow, service)));
+    assert_eq!(of(0), [4_542, 17_750, 740, 2_052]);
+    assert_eq!(of(1), [2_385, 7_100, 296, 1_112]);
+    assert_eq!(of(2), [2_624, 10_650, 444, 1_206]);
+    for (service, duty) in [(0, 2_052), (1, 1_112), (2, 1_206)] {
+        assert_eq!(four_numbers(&result(&line(Call::Duty, service))), [duty], "service {service}");
+    }
+}
+
+/// Size 1 at 1,206 ml/s: 800 + 206 x 0.8 mm/s, up to 965, a slope of 40 + 206 x 0.13, up to 67, and 87.1 cm; at 1,112: 890 mm/s, a slope
+/// of 55 and 71.5 cm. It costs 900 x 100.
+#[test]
+fn pipes_of_the_lines() {
+    let narrow = |call: Call, service: u8| result(&Case { sizes: vec![1], ..line(call, service) });
+    assert_eq!(narrow(Call::Losses, 2), [0, 0, 4, 0xb6, 3, 0xc5, 0, 0, 0, 88]);
+    assert_eq!(narrow(Call::Losses, 1), [0, 0, 4, 0x58, 3, 0x7a, 0, 0, 0, 72]);
+    assert_eq!(narrow(Call::Rate, 2)[..9], [0, 0, 3, 0xaa, 0, 0, 1, 0xb6, 1]);
+    assert_eq!(number(&Case { sizes: vec![1], ..line(Call::Rate, 0) }), 13);
+    // Heads of given losses are the same in every service.
+    for service in 0..3 {
+        assert_eq!(result(&line(Call::Heads, service)), result(&own(Call::Heads)), "service {service}");
+    }
+    for (service, chosen) in [(0, [0, 1, 251, 208, 2]), (1, [0, 1, 95, 144, 1]), (2, [0, 1, 95, 144, 1])] {
+        assert_eq!(result(&line(Call::Choose, service)), chosen, "service {service}");
+    }
+}
+
+/// At 1,206 ml/s a resistance of 5,000 loses 72.7 cm, at 1,112 61.8 and at 2,052 210.5. The mean hours are 740, 296 and 444 l/h.
+#[test]
+fn meters_of_the_lines() {
+    for (service, mean, loss) in [(0, 740_u16, 211), (1, 296, 62), (2, 444, 73)] {
+        let with = |service_flow: u16| {
+            let meters = [&[1, 0x13, 0x88][..], &service_flow.to_be_bytes()].concat();
+            Case { meters, ..line(Call::Meter, service) }
+        };
+        assert_eq!(won(&with(mean)), (1, loss, true), "service {service}");
+        assert_eq!(number(&with(mean - 1)), 18, "service {service}");
+    }
+}
+
+/// 444 and 2,624 l/h, each times 1.16 and 55 less t: 28,327.2 and 167,411.2 at 0 °C, 25,752 and 152,192 at 5, 23,176.8 and 136,972.8 at
+/// 10, 12,876 and 76,096 at 30.
+#[test]
+fn heat_of_the_hot_line() {
+    for (t, loss, expected) in [
+        (0, 0, [28_328, 167_412]),
+        (5, 0, [25_752, 152_192]),
+        (5, 1_200, [26_952, 153_392]),
+        (10, 0, [23_177, 136_973]),
+        (30, 1_000_000, [1_012_876, 1_076_096]),
+    ] {
+        let case = Case { t, loss, ..line(Call::Heat, 2) };
+        assert_eq!(four_numbers(&result(&case)), expected, "{t} °C, {loss} W");
+    }
+    // On one hour of use the mean hour is the day of 10,650 l.
+    let one_hour = edited_line(Call::Heat, 2, &[(7, &[1])]);
+    assert_eq!(four_numbers(&result(&one_hour)), [618_900, 153_392]);
+}
+
+/// 9 before 20 before 21 before 14.
+#[test]
+fn refused_heat() {
+    for (service, t, loss, out, expected) in [
+        (2, 30, 1_000_000, 8, 0),
+        (2, 30, 1_000_000, 7, 14),
+        (2, 31, 0, 8, 21),
+        (2, 31, 0, 0, 21),
+        (2, 0, 1_000_001, 8, 21),
+        (2, u32::MAX, 0, 8, 21),
+        (2, 0, u32::MAX, 8, 21),
+        (2, 261, 0, 8, 21),
+        (1, 5, 0, 8, 20),
+        (0, 5, 0, 8, 20),
+        (1, 31, 0, 0, 20),
+    ] {
+        let mut case = Case { t, loss, ..line(Call::Heat, service) };
+        case.out.length = out;
+        assert_eq!(number(&case), expected, "service {service}, {t} °C, {loss} W, {out} bytes");
+    }
+    assert_eq!(number(&own(Call::Heat)), 20, "version 1");
+    assert_eq!(number(&Case { t: 31, ..edited_line(Call::Heat, 1, &[(43, &[0, 9])]) }), 9);
 }
 
 #[test]

@@ -3,13 +3,17 @@
 use super::Answer;
 use crate::measure::{LENGTH, TENTHS};
 use crate::record::Record;
+use crate::service;
 
 impl Answer {
     /// The first thing in which a house is not the one that the losses were worked out for, in words. What was written comes before
     /// what the library works out from it.
     pub fn difference(&self, record: &Record, flows: &[u32]) -> Option<String> {
         let own = || record.numbered().zip(&self.sections);
-        let house = Fact::new("the house", "local losses of", self.tenths, record.tenths, tenths);
+        let house = [
+            Fact::new("the house", "as its service", self.service.into(), record.service, service),
+            Fact::new("the house", "local losses of", self.tenths, record.tenths, tenths),
+        ];
         let shape = own().flat_map(|((number, section), stated)| {
             let whose = format!("section {number}");
             [
@@ -20,7 +24,7 @@ impl Answer {
         let mut flowing = own().zip(flows).map(|(((number, _), stated), flow)| {
             Fact::new(&format!("section {number}"), "a flow of", stated.flow, *flow, flow_in_words)
         });
-        let written = [house].into_iter().chain(shape).find(Fact::differs).map(|fact| fact.words());
+        let written = house.into_iter().chain(shape).find(Fact::differs).map(|fact| fact.words());
         let flow = || flowing.find(Fact::differs).map(|fact| fact.words() + OF_A_FLOW);
         written.or_else(flow).or_else(|| self.too_fast(record))
     }
@@ -59,6 +63,10 @@ impl Fact {
         let Fact { whose, what, there, here, show } = self;
         format!("{whose} has {what} {} there and {} here", show(*there), show(*here))
     }
+}
+
+fn service(service: i64) -> String {
+    service::name(service as u8)
 }
 
 fn tenths(tenths: i64) -> String {

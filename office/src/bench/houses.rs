@@ -1,5 +1,6 @@
 //! The benchmark's houses, meters, losses and catalogues.
 
+use crate::model::house::SERVICE;
 use crate::model::norms;
 use std::fmt;
 
@@ -99,7 +100,7 @@ fn job(meter: usize, head: usize, sections: &[Section]) -> Vec<u8> {
     let mut put = |field: usize| job.extend((field as u16).to_be_bytes());
     [meter, 500, head, 3_000].into_iter().for_each(&mut put);
     for kind in 1..=12 {
-        let norm = norms::of(kind);
+        let norm = norms::of(norms::TOTAL, kind);
         let all: usize = sections.iter().filter(|s| s.kind == kind).map(|s| s.fixtures).sum();
         // Half of the residents at which each fixture's probability in the hour is 0.1.
         put(all * norm.fixture_hour as usize / norm.hour as usize / 2);
@@ -112,6 +113,13 @@ fn job(meter: usize, head: usize, sections: &[Section]) -> Vec<u8> {
         job.extend((s.free as u16).to_be_bytes());
     }
     state_length(job)
+}
+
+/// The hot line of a house: a record of version 2 with the same fields.
+pub fn hot_line(job: &[u8]) -> Vec<u8> {
+    let mut hot = [&job[..SERVICE], &[norms::HOT as u8], &job[SERVICE..]].concat();
+    hot[4] = 2;
+    state_length(hot)
 }
 
 /// So many of twelve sizes, from the narrowest to the widest, with prices that rise with the bore; one size is the widest.

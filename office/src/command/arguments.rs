@@ -18,6 +18,9 @@ pub struct Arguments {
     pub json: bool,
     pub strict: bool,
     pub seed: Option<u64>,
+    /// What `heat` is given beside its file, as it was written.
+    pub cold_water: Option<OsString>,
+    pub loss: Option<OsString>,
     pub help: bool,
 }
 
@@ -37,10 +40,7 @@ pub fn parse(words: &[OsString]) -> Result<Arguments, Misuse> {
             "-h" | "--help" => found.help = true,
             "--record" => set_reading(&mut next, Reading::Record)?,
             "--text" => set_reading(&mut next, Reading::Text)?,
-            "-o" => found.set_out(value(rest.next(), "-o", "a file")?)?,
-            "--seed" => {
-                found.seed = Some(number(&value(rest.next(), "--seed", "a number")?.to_string_lossy(), "--seed")?)
-            }
+            option @ ("-o" | "--seed" | "--cold-water" | "--loss") => found.set(option, rest.next())?,
             // It takes the command's place, or that of the command on which there is to be help.
             "--version" if plain.iter().all(|(word, _)| word == "help") => {
                 plain.push((word.clone(), Reading::ByContent))
@@ -71,6 +71,14 @@ fn set_reading(next: &mut Reading, reading: Reading) -> Result<(), Misuse> {
     Ok(())
 }
 
+/// Takes the value of an option that may be given once only: of two only one could be meant.
+fn set_once(place: &mut Option<OsString>, value: OsString, option: &str) -> Result<(), Misuse> {
+    match place.replace(value) {
+        None => Ok(()),
+        Some(_) => Err(Misuse::Words(format!("`{option}` is given twice"))),
+    }
+}
+
 fn value(word: Option<&OsString>, option: &str, what: &str) -> Result<OsString, Misuse> {
     word.cloned().ok_or_else(|| Misuse::Words(format!("`{option}` wants {what}")))
 }
@@ -83,6 +91,20 @@ pub fn number(given: &str, what: &str) -> Result<u64, Misuse> {
 }
 
 impl Arguments {
+    /// An option with the word behind it.
+    fn set(&mut self, option: &str, word: Option<&OsString>) -> Result<(), Misuse> {
+        let value = |what: &str| value(word, option, what);
+        match option {
+            "-o" => self.set_out(value("a file")?),
+            "--cold-water" => set_once(&mut self.cold_water, value("a temperature in degrees C")?, option),
+            "--loss" => set_once(&mut self.loss, value("a number of W")?, option),
+            seed => {
+                self.seed = Some(number(&value("a number")?.to_string_lossy(), seed)?);
+                Ok(())
+            }
+        }
+    }
+
     /// There is one answer, so it has one file. A dash is standard output, where it goes anyway.
     fn set_out(&mut self, file: OsString) -> Result<(), Misuse> {
         match self.out.replace(file) {
@@ -144,6 +166,8 @@ impl Arguments {
             (forced(Reading::Text), "--text"),
             (self.out.is_some(), "-o"),
             (self.seed.is_some(), "--seed"),
+            (self.cold_water.is_some(), "--cold-water"),
+            (self.loss.is_some(), "--loss"),
         ];
         if let Some((_, option)) = options.iter().find(|(given, option)| *given && !known.usage.contains(option)) {
             return misuse(format!("`{}` has no option {option}", self.command));

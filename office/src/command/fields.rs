@@ -6,6 +6,7 @@ use office::catalogue::{Catalogue, Size};
 use office::kinds;
 use office::meter::{self, Meter};
 use office::record::{Record, Section};
+use office::service;
 
 pub fn job(record: &Record) -> Fields {
     let residents = (1_u8..).zip(record.residents).filter(|(_, count)| *count != 0).map(|(kind, count)| {
@@ -14,6 +15,7 @@ pub fn job(record: &Record) -> Fields {
     vec![
         ("stated_length", record.stated.into()),
         ("version", record.version.into()),
+        ("service", Json::text(service::name(record.service))),
         ("local_losses_tenths", record.tenths.into()),
         ("hours", record.hours.into()),
         ("meter_loss_cm", record.meter.into()),

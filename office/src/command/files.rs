@@ -13,7 +13,7 @@ use office::at::Lines;
 use office::calls::MOST_SECTIONS;
 use office::loss::{self, LOSS};
 use office::which::Which;
-use office::{Refusal, answer, calls, house, losses, meters, table};
+use office::{Refusal, answer, calls, house, losses, meters, service, table};
 use std::io::IsTerminal;
 
 /// A readable file as a record's bytes, with the library's refusal beside it.
@@ -73,7 +73,9 @@ fn of_answer(arguments: &Arguments, lent: Lent, form: Form) -> Result<Outcome, M
             done(arguments, given, Which::Losses, packed(source, Which::Losses), source.bytes.clone())
         }
         Form::Text => {
-            let from = format!("# the losses of {}, an answer of `office {command}`\n", source.name);
+            let line = list.answer.as_ref().and_then(|answer| answer.line());
+            let line = line.map_or(String::new(), |line| format!(" for {}", service::words(line)));
+            let from = format!("# the losses of {}, an answer of `office {command}`{line}\n", source.name);
             let text = from + &losses::show(&source.bytes).unwrap_or_default();
             let fields = shown(Which::Losses, fields::losses(&loss::read(&source.bytes).unwrap_or_default()));
             done(arguments, given, Which::Losses, fields, text.into_bytes())

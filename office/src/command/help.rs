@@ -45,7 +45,8 @@ and the status is 1.
 RECORD is a job record or a catalogue, told apart by their length, a list of meters, told by its first byte, a meter's type, or a
 list of losses, told by a 0 as the first of each four bytes; also where the library refuses it. Packing what is shown gives the
 same bytes. If the library refuses the record, a warning on standard error says why and where, and the status is 1. Bytes that are
-neither 40 + 10 x S nor 7 + sizes x (4 + 8 x rows) long, nor 5 for each meter or 4 for each loss, can't be shown: status 2.
+neither 40 + 10 x S (in version 2, 41 + 10 x S) nor 7 + sizes x (4 + 8 x rows) long, nor 5 for each meter or 4 for each loss, can't
+be shown: status 2.
 
 Of what `losses`, `rate`, `choose` or `heads` has printed with --json, the losses are shown as a readable list, in which those
 that were measured can be put: office show answer.json -o losses.csv
@@ -60,15 +61,17 @@ that were measured can be put: office show answer.json -o losses.csv
         reads: true,
         brief: "the house's design flow, hour, day and mean hour, and each section's design flow",
         text: "\
-JOB is a readable house or a job record. The house's design flow is what its pump set has to deliver.
+JOB is a readable house or a job record. The house's design flow is what its pump set has to deliver. A house with a line
+`service cold` or `service hot` is that line alone: its flows are worked out with that line's norms (`office kinds hot`), and every
+table says so.
 
 A design flow is what the standard's formula gives for all the fixtures that the section, or the house, serves, but never less
 than what one fixture of any of their kinds draws (Z, `office kinds`). Where one fixture sets it, `one tap of` and the kind stand
 behind it; of several kinds with the same Z all are named. A pipe may have a greater flow than the one that it hangs from: the
 formula goes by the mean of what the kinds' fixtures draw, and a kind that draws little brings it down.
 
---json: duty_ml_per_s (the house's design flow), duty_one_tap_kinds (the kinds of which one tap sets it, by number; empty where
-none does), hour_l_per_h, day_l, mean_hour_l_per_h, sections (section, flow_ml_per_s, one_tap_kinds).",
+--json: service (total, cold or hot), duty_ml_per_s (the house's design flow), duty_one_tap_kinds (the kinds of which one tap sets
+it, by number; empty where none does), hour_l_per_h, day_l, mean_hour_l_per_h, sections (section, flow_ml_per_s, one_tap_kinds).",
     },
     Command {
         name: "meter",
@@ -90,7 +93,7 @@ much, and what would do. `office help flow` explains the design flow, and `one t
 house one number is another and all else stays, comments too; a record stays a record. `-o -` sends the house to standard
 output in place of the answer: office meter house.txt meters.csv -o - | office choose - table.csv
 
---json: duty_ml_per_s (the house's design flow), duty_one_tap_kinds, mean_hour_l_per_h, meter (the winner's place),
+--json: service, duty_ml_per_s (the house's design flow), duty_one_tap_kinds, mean_hour_l_per_h, meter (the winner's place),
 meter_loss_cm, former_meter_loss_cm, record (the job with the meter, in hex), meters (meter, type, type_name,
 resistance_ten_thousandths, service_flow_l_per_h, name, loss_cm, limit_cm, over_limit_cm, over_service_flow_l_per_h, qualifies).",
     },
@@ -116,9 +119,9 @@ when the delivered head is delivered, less meter loss, losses and elevation. An 
 `office losses` and `office heads` give the same in two steps. `office help flow` explains the design flow, and `one tap of`
 behind it.
 
---json: duty_ml_per_s, duty_one_tap_kinds, hour_l_per_h, day_l, mean_hour_l_per_h, local_losses_tenths, cost_tenths (in tenths of
-the price unit), sizes, suits, required_head_cm, pump_head_cm, guaranteed_head_cm, delivered_head_cm, dictating_section, sections
-(section, parent, size, bore_mm, length_dm, flow_ml_per_s, one_tap_kinds, velocity_mm_per_s, loss_cm, head_left_cm, free_head_cm).",
+--json: service, duty_ml_per_s, duty_one_tap_kinds, hour_l_per_h, day_l, mean_hour_l_per_h, local_losses_tenths, cost_tenths (in
+tenths of the price unit), sizes, suits, required_head_cm, pump_head_cm, guaranteed_head_cm, delivered_head_cm,
+dictating_section, sections (section, parent, size, bore_mm, length_dm, flow_ml_per_s, one_tap_kinds, velocity_mm_per_s, loss_cm, head_left_cm, free_head_cm).",
     },
     Command {
         name: "losses",
@@ -142,7 +145,7 @@ office losses house.txt table.csv 2,2,1,1 --json | office heads house.txt -
 
 `office help flow` explains the design flow, and `one tap of` behind it.
 
---json: local_losses_tenths, sizes, sections (section, parent, size, bore_mm, length_dm, flow_ml_per_s, one_tap_kinds,
+--json: service, local_losses_tenths, sizes, sections (section, parent, size, bore_mm, length_dm, flow_ml_per_s, one_tap_kinds,
 velocity_mm_per_s, loss_cm).",
     },
     Command {
@@ -165,10 +168,11 @@ design flow = measured loss x (design flow / measured flow) squared, rounded up 
 differ by 343 cm; where the end lies 300 cm higher the loss is 43 cm; at 300 ml/s, with a design flow of 495 ml/s, it becomes
 43 x (495 / 300) squared = 117.07, so 118 cm.
 
-The losses of an answer come with what they were worked out from. Where the local losses are others, a section begins elsewhere in
-the house or has another length or flow, the answer was made for another house or before a change; where a velocity is over the
-house's limit, `rate` would refuse it. `heads` gives no answer then (status 2), and the message names the first difference. The
-answer's warnings are repeated, and count for --strict; a refusal that was handed on is shown with its places (status 1).
+The losses of an answer come with what they were worked out from. Where the service is another, as of an answer of the cold line for
+the house of the hot one, the local losses are others, a section begins elsewhere in the house or has another length or flow, the
+answer was made for another house or before a change; where a velocity is over the house's limit, `rate` would refuse it. `heads`
+gives no answer then (status 2), and the message names the first difference. An answer from before there were services is of all
+water. The answer's warnings are repeated, and count for --strict; a refusal that was handed on is shown with its places (status 1).
 
 A readable list and a record say nothing of the house but how many sections it has: check yourself that they are of this one. They,
 and answers of `heads`, get warnings: a loss of 0; one over 100 cm and more than the pipe's length; losses that look like running
@@ -178,8 +182,9 @@ rises loses at least its rise. A fault that more than three sections share is on
 
 `office help flow` explains the design flow, and `one tap of` behind it.
 
---json: duty_ml_per_s, duty_one_tap_kinds, hour_l_per_h, day_l, mean_hour_l_per_h, local_losses_tenths, suits, required_head_cm,
-pump_head_cm, guaranteed_head_cm, delivered_head_cm, dictating_section, dictating_path (the sections from there to the pump),
+--json: service, duty_ml_per_s, duty_one_tap_kinds, hour_l_per_h, day_l, mean_hour_l_per_h, local_losses_tenths, suits,
+required_head_cm, pump_head_cm, guaranteed_head_cm, delivered_head_cm, dictating_section, dictating_path (the sections from
+there to the pump),
 path_loss_cm (what these lose together), sections (section, parent, length_dm, flow_ml_per_s, one_tap_kinds, loss_cm, head_left_cm,
 free_head_cm).",
     },
@@ -198,6 +203,26 @@ suits, rated; which of equally cheap lists comes is left free. Its line `sizes` 
 --json: as `rate`.",
     },
     Command {
+        name: "heat",
+        usage: "office heat JOB --cold-water T --loss W [-o FILE] [--json] [--strict] [--record|--text]",
+        least: 1,
+        most: 1,
+        reads: true,
+        brief: "the heat flow of a hot line in its mean hour and in its greatest",
+        text: "\
+JOB is the house of a hot line: a readable house with a line `service hot`, or a job record of version 2 with service 2. T is the
+temperature of the cold water in whole degrees C, 0 to 30; where it is not known, SNiP 2.04.01-85 takes 5. W is the heat that the
+line's pipes lose, with their circulation if there is one, in whole W, 0 to 1000000; 0 is for none. Both are given, in digits alone:
+nothing is assumed, and 5C, 5.5 and 1.2kW are refused.
+
+A heat flow is 116 x l/h x (55 - T) / 100 in W, rounded up, plus the loss, of the mean hour and of the greatest (formulas 10 and 11
+of SNiP 2.04.01-85). How each comes about stands below the figures. A house that is no hot line is refused with 20, a number out of
+its range with 21. A loss of 1 to 99 W gets a warning: it may be in kW.
+
+--json: service, cold_water_celsius, heat_loss_w, mean_hour_l_per_h, mean_hour_heat_w, hour_l_per_h (the greatest hour),
+hour_heat_w.",
+    },
+    Command {
         name: "draw",
         usage: "office draw JOB CAT [SIZES] [-o FILE] [--strict] [--record|--text]",
         least: 2,
@@ -205,23 +230,26 @@ suits, rated; which of equally cheap lists comes is left free. Its line `sizes` 
         reads: true,
         brief: "the network as an SVG drawing",
         text: "\
-JOB, CAT and SIZES as for `rate`; without SIZES a cheapest list is drawn. The pump is at the left. Each pipe has its number,
-bore, size and length above it, flow, velocity and loss below it, and the head left at its end against the free head. The
-dictating path is red and wide. Below a flow that one tap sets (`office help flow`) stand the tap's kinds, in brackets behind
-the flow of the pump set where it is the house's; where their names don't fit, their numbers (`office kinds`) stand there, with
-the names at the foot and under a pointer that rests on the section. Where no list suits (refusal 16, status 1) the house is
-drawn all the same, and the refusal stands on standard error.",
+JOB, CAT and SIZES as for `rate`; without SIZES a cheapest list is drawn. Where the house has a service, title and heading name the
+line. The pump is at the left. Each pipe has its number, bore, size and length above it, flow, velocity and loss below it, and the
+head left at its end against the free head. The dictating path is red and wide. Below a flow that one tap sets (`office help flow`)
+stand the tap's kinds, in brackets behind the flow of the pump set where it is the house's; where their names don't fit, their
+numbers (`office kinds`) stand there, with the names at the foot and under a pointer that rests on the section. Where no list suits
+(refusal 16, status 1) the house is drawn all the same, and the refusal stands on standard error.",
     },
     Command {
         name: "kinds",
-        usage: "office kinds [-o FILE] [--json]",
+        usage: "office kinds [total|cold|hot] [-o FILE] [--json]",
         least: 0,
-        most: 0,
+        most: 1,
         reads: false,
         brief: "the kinds of consumer: their names in a house, and their norms",
         text: "\
---json: kinds (kind, name, what, day_l, hour_tenths_l, fixture_hundredths_l_per_s, fixture_l_per_h), in document 01's units:
-tenths of a litre in the hour, hundredths of a litre in the second.",
+The norms are those of all water, or of the line that is named. A resident's cold water is what is left of all water without the
+hot; a fixture draws the same from either line.
+
+--json: service, kinds (kind, name, what, day_l, hour_tenths_l, fixture_hundredths_l_per_s, fixture_l_per_h), in document 01's
+units: tenths of a litre in the hour, hundredths of a litre in the second.",
     },
     Command {
         name: "new",
@@ -307,6 +335,16 @@ come as mistakes and more_mistakes.
 /// Names for a message.
 fn joined(names: impl Iterator<Item = &'static str>) -> String {
     names.collect::<Vec<_>>().join(", ")
+}
+
+/// How a command is used.
+pub fn usage(name: &str) -> &'static str {
+    COMMANDS.iter().find(|command| command.name == name).map_or("", |command| command.usage)
+}
+
+/// Whether the words of a command name files.
+pub fn reads(name: &str) -> bool {
+    COMMANDS.iter().any(|command| command.name == name && command.reads)
 }
 
 fn names() -> String {

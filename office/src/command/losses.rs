@@ -1,7 +1,7 @@
 //! `office losses`: what each section loses with a list of sizes, without heads.
 
 use super::arguments::Arguments;
-use super::network::{Demand, legend};
+use super::network::{Demand, legend, service_fields};
 use super::outcome::{Misuse, Outcome};
 use super::rating::{bytes, sizes_line, sizes_of};
 use super::refused::Given;
@@ -9,7 +9,7 @@ use super::report::{self, Fields, Unanswered};
 use super::sections::{self, Known};
 use office::pipes::{Pipe, without_heads};
 use office::record::Record;
-use office::{SectionLoss, calls};
+use office::{SectionLoss, calls, service};
 
 pub fn losses(arguments: &Arguments) -> Result<Outcome, Misuse> {
     let (job, cat) = (arguments.file(0).job()?, arguments.file(1).catalogue()?);
@@ -44,17 +44,20 @@ impl Lost {
     }
 
     fn fields(&self) -> Fields {
-        vec![
+        let mut fields = service_fields(&self.demand);
+        fields.extend([
             ("local_losses_tenths", self.record.tenths.into()),
             ("sizes", sizes_of(&self.sizes)),
             ("sections", sections::list(&self.pipes, Known::Sizes)),
-        ]
+        ]);
+        fields
     }
 
     fn chart(&self) -> String {
         let marked = self.demand.taps.sections.iter().any(|kinds| !kinds.is_empty());
         let (table, legend) = (sections::table(&self.pipes, Known::Sizes), legend(marked));
-        format!("{}\n{table}{LEGEND}{legend}", sizes_line(&self.sizes))
+        let service = self.demand.service.map(|service| format!("service  {}\n", service::name(service)));
+        format!("{}{}\n{table}{LEGEND}{legend}", sizes_line(&self.sizes), service.unwrap_or_default())
     }
 }
 

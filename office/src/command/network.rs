@@ -10,6 +10,7 @@ use super::refused::Given;
 use super::report::{self, Fields, Unanswered};
 use office::pipes::sketch;
 use office::record::Record;
+use office::service::{self, TOTAL};
 use office::taps::{self, Taps};
 use office::{Flow, Refusal, calls, draw as drawing, kinds};
 
@@ -31,6 +32,8 @@ pub struct Demand {
     pub duty: u32,
     /// Which of these one tap sets.
     pub taps: Taps,
+    /// The service, where the record has one.
+    pub service: Option<u8>,
 }
 
 impl Demand {
@@ -41,13 +44,39 @@ impl Demand {
     /// With the library's answers to the job. No flow of them is shown unless it is known what sets it.
     fn with(job: &[u8], flow: Flow, duty: u32) -> Result<Demand, Unanswered> {
         let taps = Taps::of(job, &flow, duty).map_err(Unanswered::Differs)?;
-        Ok(Demand { flow, duty, taps })
+        let service = Record::read(job).ok().and_then(|record| record.stated_service());
+        Ok(Demand { flow, duty, taps, service })
     }
 }
 
-/// The house's design flow.
+/// The service, which is always there for machines.
+pub fn service_fields(demand: &Demand) -> Fields {
+    vec![("service", Json::text(service::name(demand.service.unwrap_or(TOTAL))))]
+}
+
+/// The service for people, where the house has one.
+pub fn service_figure(demand: &Demand) -> Option<Figure> {
+    let service = demand.service?;
+    let name = service::name(service);
+    let remark = match service {
+        TOTAL => service::words(TOTAL),
+        _ => format!("line; `office kinds {name}` has its norms"),
+    };
+    Some(("service", name, remark))
+}
+
+/// The line that a pump set feeds, behind its flow and head; nothing where it feeds the whole house.
+pub fn for_the_line(demand: &Demand) -> String {
+    let line = demand.service.filter(|service| *service != TOTAL);
+    line.map_or(String::new(), |line| format!(" for {}", service::words(line)))
+}
+
+/// The house's service and design flow.
 pub fn duty_fields(demand: &Demand) -> Fields {
-    vec![("duty_ml_per_s", demand.duty.into()), ("duty_one_tap_kinds", kinds_of(&demand.taps.house))]
+    let mut fields = service_fields(demand);
+    fields.push(("duty_ml_per_s", demand.duty.into()));
+    fields.push(("duty_one_tap_kinds", kinds_of(&demand.taps.house)));
+    fields
 }
 
 /// The kinds of which one tap sets a flow.
@@ -81,12 +110,14 @@ pub fn legend(marked: bool) -> String {
 /// What the house asks for as a whole, for people.
 pub fn house_figures(demand: &Demand) -> Vec<Figure> {
     let flow = &demand.flow;
-    vec![
+    let mut rows: Vec<Figure> = service_figure(demand).into_iter().collect();
+    rows.extend([
         duty_figure(demand),
         ("greatest hour", flow.hour.to_string(), "l/h".to_string()),
         ("greatest day", flow.day.to_string(), "l".to_string()),
         ("mean hour", flow.mean_hour.to_string(), "l/h".to_string()),
-    ]
+    ]);
+    rows
 }
 
 fn flow_fields(demand: &Demand) -> Fields {
@@ -177,7 +208,7 @@ pub fn draw(arguments: &Arguments) -> Result<Outcome, Misuse> {
 /// all, without heads.
 fn unsuitable(given: &Given) -> Result<String, Unanswered> {
     let (job, cat) = (bytes(given.job), bytes(given.cat));
-    let Demand { flow, duty, taps } = Demand::of(job)?;
+    let Demand { flow, duty, taps, .. } = Demand::of(job)?;
     // What the library has searched can be read; were it otherwise there would be no pipes to draw.
     let pipes = sketch(job, cat, (&flow, &taps)).unwrap_or_default();
     let sizes: Vec<u8> = pipes.iter().map(|pipe| pipe.size).collect();

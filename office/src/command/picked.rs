@@ -4,7 +4,7 @@ use super::charts::{chart, figures, number, words};
 use super::fields::of_meter;
 use super::input::Meters;
 use super::json::Json;
-use super::network::{Demand, duty_fields, duty_figure, legend};
+use super::network::{Demand, duty_fields, duty_figure, legend, service_figure};
 use super::report::{Fields, Unanswered};
 use office::measure::RESISTANCE;
 use office::meter::{self, Fit};
@@ -94,12 +94,13 @@ impl Picked {
             Some(_) => format!("cm; the house had {} cm", self.former),
             None => format!("cm; the house has {} cm", self.former),
         };
-        let rows = [
+        let mut rows: Vec<_> = service_figure(&self.demand).into_iter().collect();
+        rows.extend([
             duty_figure(&self.demand),
             ("mean hour", self.demand.flow.mean_hour.to_string(), "l/h".to_string()),
             ("meter", self.place.to_string(), self.name(self.place).to_string()),
             ("meter loss", self.loss.to_string(), former),
-        ];
+        ]);
         let written = written.map(|file| format!("The house with this meter loss was written to {file}.\n"));
         let tap = legend(!self.demand.taps.house.is_empty());
         format!("{}\n{}{LEGEND}{tap}{}", figures(&rows), self.listed(), written.unwrap_or_default())

@@ -48,7 +48,7 @@ impl Rated {
     }
 
     pub fn drawing(&self) -> String {
-        let Demand { flow, duty, taps } = &self.demand;
+        let Demand { flow, duty, taps, .. } = &self.demand;
         let totals = Totals { duty: *duty, taps: &taps.house, flow, cost: self.cost };
         draw::draw(&self.record, &self.pipes, &self.rating, &totals)
     }

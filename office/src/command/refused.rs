@@ -11,10 +11,10 @@ use office::catalogue::Catalogue;
 use office::echo;
 use office::loss::{self, LOSS};
 use office::meter;
-use office::places::{Asked, Place, places};
+use office::places::{Asked, Heating, Place, places};
 use office::readable;
 use office::record::Record;
-use office::warnings::{off_losses, off_service, off_velocity, warnings};
+use office::warnings::{off_heat, off_losses, off_service, off_velocity, warnings};
 use office::which::Which;
 
 /// What the refused call was given.
@@ -25,6 +25,7 @@ pub struct Given<'a> {
     pub sizes: &'a [u8],
     pub meters: Option<&'a Source>,
     pub losses: Option<&'a Source>,
+    pub heating: Option<Heating>,
     /// What the command has printed, where the losses come from that.
     pub answer: Option<&'a Answer>,
 }
@@ -39,7 +40,8 @@ impl Given<'_> {
     fn places(&self, refusal: &Refusal) -> Vec<Place> {
         let bytes = |source: Option<&Source>| source.map_or(Vec::new(), |source| source.bytes.clone());
         let [job, cat, meters, losses] = [self.job, self.cat, self.meters, self.losses].map(bytes);
-        let asked = Asked { job: &job, cat: &cat, sizes: self.sizes, meters: &meters, losses: &losses };
+        let heating = self.heating;
+        let asked = Asked { job: &job, cat: &cat, sizes: self.sizes, meters: &meters, losses: &losses, heating };
         let found = places(refusal, &asked);
         match refusal {
             Refusal::LossList => in_bytes(&losses, Record::read(&job).ok(), found),
@@ -51,7 +53,7 @@ impl Given<'_> {
     fn file(&self, at: At) -> Option<(&str, Option<usize>)> {
         let source = match at {
             At::Catalogue | At::Size(_) | At::Row(..) => self.cat,
-            At::List | At::Entry(_) => None,
+            At::List | At::Entry(_) | At::ColdWater | At::HeatLoss => None,
             At::Meters | At::Meter(_) => self.meters,
             At::Losses | At::Loss(_) => self.losses,
             _ => self.job,
@@ -82,7 +84,8 @@ impl Given<'_> {
         Json::Object(place_fields(&place.at.to_string(), &place.why, file, line))
     }
 
-    /// What is nearly always a slip in the lists. Losses that were worked out from a table are none that somebody wrote.
+    /// What is nearly always a slip in the lists and in the numbers beside them. Losses that were worked out from a table are none
+    /// that somebody wrote.
     fn of_lists(&self) -> Vec<Place> {
         let record = self.job.and_then(|job| Record::read(&job.bytes).ok());
         // Bytes that are no list of meters have a refusal, and nothing that they hold is a slip.
@@ -92,6 +95,7 @@ impl Given<'_> {
         let written = self.losses.filter(|_| !self.answer.is_some_and(Answer::is_worked_out));
         let losses = written.and_then(|losses| loss::read(&losses.bytes).ok()).unwrap_or_default();
         found.extend(record.iter().flat_map(|record| off_losses(record, &losses)));
+        found.extend(self.heating.and_then(off_heat));
         found
     }
 

@@ -1,6 +1,7 @@
 //! The JSON object of an answer: what every one has, and beside it the answer's own keys.
 
 use super::arguments::Arguments;
+use super::help;
 use super::input::{behind_at, name};
 use super::json::Json;
 use super::lent::Handed;
@@ -15,7 +16,8 @@ pub type Fields = Vec<(&'static str, Json)>;
 /// The object on its line.
 fn object(arguments: &Arguments, refusal: Json, warnings: Json, rest: Fields) -> String {
     let sizes = |place: usize| place == 2 && behind_at(&arguments.words[place]).is_none();
-    let files = (0..arguments.words.len()).filter(|place| !sizes(*place)).map(|place| {
+    let words = if help::reads(&arguments.command) { arguments.words.len() } else { 0 };
+    let files = (0..words).filter(|place| !sizes(*place)).map(|place| {
         let file = &arguments.words[place];
         Json::text(name(behind_at(file).as_ref().filter(|_| place == 2).unwrap_or(file)))
     });

@@ -2,7 +2,7 @@
 
 use super::charts::Figure;
 use super::json::Json;
-use super::network::Demand;
+use super::network::{Demand, for_the_line};
 use super::report::Fields;
 use office::Heads;
 use office::record::Record;
@@ -14,7 +14,7 @@ fn spare(record: &Record, heads: &Heads) -> i64 {
 
 /// The pump set that is asked for, on a line of its own.
 pub fn set(demand: &Demand, heads: &Heads) -> String {
-    format!("pump set: {} ml/s at {} cm\n", demand.duty, heads.pump)
+    format!("pump set: {} ml/s at {} cm{}\n", demand.duty, heads.pump, for_the_line(demand))
 }
 
 pub fn figures(record: &Record, heads: &Heads) -> Vec<Figure> {

@@ -54,6 +54,10 @@ const HOUSE: &str = "\
 Sections have their numbers written out, from 1 without a gap. A section comes from the pump or from a section with a lower
 number. Each has all of its fields, in any order; only a pipe that ends at a branch, `kind none`, has no fixtures and no
 free head. A kind that the house does not have gets no line `residents`. `office kinds` lists the kinds.
+
+A set for the cold or the hot line alone has a house of its own, with a line `service cold` or `service hot`, the pipes of that line
+and its fixtures. Its residents are all residents of the house: the norms of a line are of its part of their water. Without such a
+line the house is for cold and hot water together, which `service total` says in so many words.
 ";
 
 const TABLE: &str = "\

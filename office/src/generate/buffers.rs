@@ -7,11 +7,10 @@ use crate::model::{self, house::House};
 /// The buffers: exactly enough, longer, or short, and filled with anything.
 pub fn lend(rng: &Rng, case: &mut Case, spoilt: [u32; 2]) {
     let house = House::of(&case.job);
-    let sections = house.sections.len();
-    let needed = model::result_bytes(case.call, sections);
+    let needed = model::result_bytes(case.call, &house);
     case.out = buffer(rng, needed, spoilt.contains(&14));
     if case.call == Call::Choose {
-        let needed = model::work_bytes(sections.min(63), house.delivered.min(6_000) as usize);
+        let needed = model::work_bytes(house.sections.len().min(63), house.delivered.min(6_000) as usize);
         case.work = buffer(rng, needed, spoilt.contains(&15));
     }
 }

@@ -1,15 +1,17 @@
 //! Faults put into a case on purpose, one maker for each number, and random damage.
 
 use super::draft::restate;
+use super::heat;
 use super::rng::Rng;
 use crate::case::{Call, Case};
 use crate::model::heads::MOST_LOSS;
+use crate::model::house::{SERVICE, sections_from};
 
 /// Puts the fault of this number into the case, as far as its bytes allow. 14 and 15 are made with the buffers.
 pub fn spoil(rng: &Rng, case: &mut Case, number: u32) {
     match number {
         1 => length(rng, &mut case.job, 40),
-        2 => set(&mut case.job, 4, rng.pick(&[0, 2, 3, 255])),
+        2 => set(&mut case.job, 4, rng.pick(&[0, 3, 4, 255])),
         3 => head(rng, &mut case.job),
         4 => sections(rng, &mut case.job),
         5 => section(rng, &mut case.job),
@@ -31,6 +33,8 @@ pub fn spoil(rng: &Rng, case: &mut Case, number: u32) {
         17 => meters(rng, &mut case.meters),
         18 => small_meters(rng, &mut case.meters),
         19 => losses(rng, &mut case.losses),
+        20 => not_hot(rng, &mut case.job),
+        21 => heat::out_of_range(rng, &mut case.t, &mut case.loss),
         _ => {}
     }
 }
@@ -62,7 +66,7 @@ pub fn scratch(rng: &Rng, case: &mut Case) {
 
 /// Bytes that were never a record.
 pub fn junk(rng: &Rng, case: &mut Case) {
-    let length = rng.pick(&[0, 3, 6, 7, 39, 40, 50, 60, 670, 700]);
+    let length = rng.pick(&[0, 3, 6, 7, 39, 40, 41, 50, 51, 60, 670, 671, 700]);
     let bytes = rng.bytes(length);
     if case.call.takes_catalogue() && rng.once_in(2) {
         case.cat = bytes;
@@ -77,7 +81,7 @@ pub fn junk(rng: &Rng, case: &mut Case) {
             restate(&mut case.job);
         }
         if let (Some(version), false) = (case.job.get_mut(4), rng.once_in(4)) {
-            *version = 1;
+            *version = rng.pick(&[1, 2]);
         }
     }
     if rng.once_in(2) {
@@ -87,21 +91,23 @@ pub fn junk(rng: &Rng, case: &mut Case) {
 
 /// A head field at or beside the ends of its range.
 pub fn edge(rng: &Rng, job: &mut [u8]) {
-    match rng.below(8) {
+    match rng.below(9) {
         0 => set(job, 5, rng.pick(&[1, 2, 3, 4])),
         1 => set(job, 7, rng.pick(&[0, 1, 24, 25])),
         2 => set16(job, 8, rng.pick(&[0, 1_000, 1_001])),
         3 => set16(job, 10, rng.pick(&[0, 6_000, 6_001])),
         4 => set16(job, 12, rng.pick(&[0, 6_000, 6_001])),
         5 => set16(job, 14, rng.pick(&[0, 1, 3_000, 3_001])),
+        6 if from(job) > SERVICE => set(job, SERVICE, rng.pick(&[0, 1, 2, 3])),
         _ => section_edge(rng, job),
     }
 }
 
 fn section_edge(rng: &Rng, job: &mut [u8]) {
     let at = some_section(rng, job);
+    let before = ((at - from(job)) / 10) as u8;
     match rng.below(6) {
-        0 => set(job, at, ((at - 40) / 10) as u8 + rng.pick(&[0, 1])),
+        0 => set(job, at, before + rng.pick(&[0, 1])),
         1 => set(job, at + 1, rng.pick(&[0, 1, 12, 13])),
         2 => set16(job, at + 2, rng.pick(&[0, 1, 65_535])),
         3 => set16(job, at + 4, rng.pick(&[0, 1, 5_000, 5_001])),
@@ -127,7 +133,7 @@ fn length(rng: &Rng, bytes: &mut Vec<u8>, least: usize) {
 
 /// 3: one field of the head out of its range.
 fn head(rng: &Rng, job: &mut Vec<u8>) {
-    match rng.below(8) {
+    match rng.below(9) {
         0 => set(job, 5, rng.pick(&[0, 1, 4, 255])),
         1 => set(job, 6, rng.pick(&[0, 64, 255])),
         2 => set(job, 7, rng.pick(&[0, 25, 255])),
@@ -135,28 +141,34 @@ fn head(rng: &Rng, job: &mut Vec<u8>) {
         4 => set16(job, 10, rng.pick(&[6_001, 65_535])),
         5 => set16(job, 12, rng.pick(&[6_001, 65_535])),
         6 => set16(job, 14, rng.pick(&[0, 3_001, 65_535])),
+        7 if from(job) > SERVICE => set(job, SERVICE, rng.pick(&[3, 3, 4, 255])),
         _ => recount(job, rng.pick(&[0, 64, 65])),
     }
 }
 
 /// Another number of sections, all of them there and the length right: the last one is repeated.
 fn recount(job: &mut Vec<u8>, count: usize) {
-    if job.len() >= 50 {
+    let from = from(job);
+    if job.len() >= from + 10 {
         let last = job[job.len() - 10..].to_vec();
-        job.truncate(40 + 10 * count);
-        while job.len() < 40 + 10 * count {
-            job.extend(&last[..last.len().min(40 + 10 * count - job.len())]);
+        job.truncate(from + 10 * count);
+        while job.len() < from + 10 * count {
+            job.extend(&last[..last.len().min(from + 10 * count - job.len())]);
         }
         set(job, 6, count as u8);
         restate(job);
     }
 }
 
-/// 4: another length than the sections', stated truly; or another section count.
+/// 4: another length than the sections', stated truly; another section count; or a service byte too many or too few.
 fn sections(rng: &Rng, job: &mut Vec<u8>) {
-    match rng.below(3) {
+    match rng.below(6) {
         0 => job.extend(rng.bytes(rng.pick(&[1, 5, 10]))),
         1 if job.len() > 40 => drop(job.pop()),
+        2 => swap_version(job),
+        3 if from(job) > SERVICE => job.truncate(SERVICE),
+        4 if from(job) > SERVICE && job.len() > SERVICE => drop(job.remove(SERVICE)),
+        4 if job.len() >= SERVICE => job.insert(SERVICE, rng.pick(&[0, 1, 2])),
         _ => {
             let other = job.get(6).map_or(1, |count| count % 63 + 1);
             set(job, 6, other);
@@ -165,10 +177,33 @@ fn sections(rng: &Rng, job: &mut Vec<u8>) {
     restate(job);
 }
 
+/// Version 1 for 2 or the reverse, and the sections where they were.
+fn swap_version(job: &mut [u8]) {
+    if let Some(version) = job.get_mut(4) {
+        *version = if *version == 2 { 1 } else { 2 };
+    }
+}
+
+/// 20: another service, or a record of version 1.
+fn not_hot(rng: &Rng, job: &mut Vec<u8>) {
+    if from(job) == SERVICE || job.len() <= SERVICE {
+        return;
+    }
+    match rng.below(3) {
+        0 => set(job, SERVICE, 0),
+        1 => set(job, SERVICE, 1),
+        _ => {
+            job.remove(SERVICE);
+            set(job, 4, 1);
+            restate(job);
+        }
+    }
+}
+
 /// 5: one field of one section against its rules.
 fn section(rng: &Rng, job: &mut [u8]) {
     let at = some_section(rng, job);
-    let own = ((at - 40) / 10 + 1) as u8;
+    let own = ((at - from(job)) / 10 + 1) as u8;
     match rng.below(8) {
         0 => set(job, at, rng.pick(&[own, own + 1, 63, 255])),
         1 => set(job, at + 1, rng.pick(&[13, 14, 255])),
@@ -182,7 +217,7 @@ fn section(rng: &Rng, job: &mut [u8]) {
 
 /// 6: the last section, which is nobody's parent, gets kind 0 with what belongs to it.
 fn childless(job: &mut [u8]) {
-    let at = job.len().max(50) - 10;
+    let at = job.len().max(from(job) + 10) - 10;
     set(job, at + 1, 0);
     set16(job, at + 2, 0);
     set16(job, at + 8, 0);
@@ -204,7 +239,7 @@ fn crowd(job: &mut [u8]) {
     for kind in kinds(job) {
         set16(job, 14 + 2 * kind, 300);
     }
-    for at in (40..job.len()).step_by(10) {
+    for at in (from(job)..job.len()).step_by(10) {
         if job.get(at + 1).is_some_and(|kind| *kind > 0) {
             set16(job, at + 2, 1);
         }
@@ -338,15 +373,21 @@ fn losses(rng: &Rng, list: &mut Vec<u8>) {
     }
 }
 
+/// Where the record's sections begin.
+fn from(job: &[u8]) -> usize {
+    sections_from(job.get(4).copied().unwrap_or(0).into())
+}
+
 /// Where a section of the record starts.
 fn some_section(rng: &Rng, job: &[u8]) -> usize {
-    let count = (job.len().max(50) - 40) / 10;
-    40 + 10 * rng.below(count as u64) as usize
+    let from = from(job);
+    let count = (job.len().max(from + 10) - from) / 10;
+    from + 10 * rng.below(count as u64) as usize
 }
 
 /// The kinds that the record's sections name.
 fn kinds(job: &[u8]) -> Vec<usize> {
-    let named = |kind: &usize| (41..job.len()).step_by(10).any(|at| usize::from(job[at]) == *kind);
+    let named = |kind: &usize| (from(job) + 1..job.len()).step_by(10).any(|at| usize::from(job[at]) == *kind);
     (1..=12).filter(named).collect()
 }
 

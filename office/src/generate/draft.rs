@@ -1,5 +1,7 @@
 //! A job, a list of meters and a catalogue as fields, before they become bytes.
 
+use super::lines::Line;
+
 #[derive(Clone, Debug)]
 pub struct DraftSection {
     pub parent: u8,
@@ -12,6 +14,7 @@ pub struct DraftSection {
 
 #[derive(Clone, Debug)]
 pub struct Draft {
+    pub line: Line,
     pub k: u8,
     pub hours: u8,
     pub meter: u16,
@@ -25,9 +28,10 @@ pub struct Draft {
 
 impl Draft {
     pub fn bytes(&self) -> Vec<u8> {
-        let mut job = vec![0, 0, 0, 0, 1, self.k, self.sections.len() as u8, self.hours];
+        let mut job = vec![0, 0, 0, 0, self.line.version(), self.k, self.sections.len() as u8, self.hours];
         let head = [self.meter, self.guaranteed, self.delivered, self.limit];
         head.iter().chain(&self.residents).for_each(|field| job.extend(field.to_be_bytes()));
+        job.extend(self.line.service());
         for s in &self.sections {
             job.extend([s.parent, s.kind]);
             job.extend(s.fixtures.to_be_bytes());

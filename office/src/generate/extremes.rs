@@ -2,11 +2,12 @@
 
 use super::draft::{Draft, DraftSize};
 use super::houses;
+use super::lines::Line;
 use super::rng::Rng;
 
 /// A house of many sections with the longest pipes and the greatest head.
-pub fn longest(rng: &Rng) -> Draft {
-    let mut draft = houses::house(rng, 1);
+pub fn longest(rng: &Rng, line: Line) -> Draft {
+    let mut draft = houses::house(rng, line, 1);
     draft.delivered = 6_000;
     draft.sections.iter_mut().for_each(|s| s.length = rng.pick(&[5_000, 5_000, 4_999]));
     draft

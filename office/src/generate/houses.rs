@@ -1,8 +1,8 @@
 //! Houses that document 01 accepts, most of the time: trees of several forms, fixtures and residents in proportion.
 
 use super::draft::{Draft, DraftSection};
+use super::lines::Line;
 use super::rng::Rng;
-use crate::model::norms;
 
 /// How many sections: mostly few, so that many cases fit into a second, and sometimes as many as there may be.
 fn count(rng: &Rng, large_once_in: u64) -> usize {
@@ -14,7 +14,7 @@ fn count(rng: &Rng, large_once_in: u64) -> usize {
 }
 
 /// A house with its fields in range. `large_once_in` says how rare houses of many sections are.
-pub fn house(rng: &Rng, large_once_in: u64) -> Draft {
+pub fn house(rng: &Rng, line: Line, large_once_in: u64) -> Draft {
     let count = count(rng, large_once_in);
     let parents = tree(rng, count);
     let palette = palette(rng);
@@ -34,6 +34,7 @@ pub fn house(rng: &Rng, large_once_in: u64) -> Draft {
         }
     });
     let mut draft = Draft {
+        line,
         k: rng.pick(&[2, 3]),
         hours: rng.between(1, 24) as u8,
         meter: heads.meter(rng),
@@ -85,7 +86,7 @@ fn palette(rng: &Rng) -> Vec<u8> {
 fn people(rng: &Rng, draft: &mut Draft) {
     let kinds = draft.kinds();
     for kind in &kinds {
-        let norm = norms::of(*kind);
+        let norm = draft.line.norm(*kind);
         let (hour, fixture_hour) = (norm.hour as i64, norm.fixture_hour as i64);
         // At this many residents each fixture's probability in the hour is 0.1, where 9 begins.
         let crowd = |draft: &Draft| draft.fixtures(*kind) * fixture_hour / hour;

@@ -1,16 +1,17 @@
-//! The lines of the house itself: losses, hours, heads, limit and residents.
+//! The lines of the house itself: service, losses, hours, heads, limit and residents.
 
 use crate::at::{At, Field, Lines};
 use crate::kinds;
 use crate::line::Line;
 use crate::measure::{self, Measure, Quantity};
 use crate::mistake::Mistake;
-use crate::record::Record;
+use crate::record::{Record, SERVED};
+use crate::service::{self, TOTAL};
 
 /// The fields that have a line of their own, in the order in which they are shown.
 const FIELDS: [(Field, &Measure); 8] = [
     (Field::Stated, &measure::BYTES),
-    (Field::Version, &measure::VERSION),
+    (Field::Version, &measure::JOB_VERSION),
     (Field::Losses, &measure::TENTHS),
     (Field::Hours, &measure::HOURS),
     (Field::Meter, &measure::METER),
@@ -24,6 +25,10 @@ const FIELDS: [(Field, &Measure); 8] = [
 pub struct Head {
     values: [Option<i64>; FIELDS.len()],
     residents: [Option<u16>; 12],
+    service: Option<u8>,
+    /// The lines of version and service, for what the two say together.
+    version_line: Option<(usize, String)>,
+    service_line: Option<(usize, String)>,
 }
 
 impl Head {
@@ -32,17 +37,23 @@ impl Head {
         if line.begins("residents") {
             return self.take_residents(line, places);
         }
+        if line.begins(Field::Service.name()) {
+            return self.take_service(line, places);
+        }
         for (place, (field, measure)) in FIELDS.iter().enumerate() {
             if line.begins(field.name()) {
                 once(line, places, At::Field(*field))?;
                 self.values[place] = Some(line.quantity(field.name(), measure, &[])?);
+                if *field == Field::Version {
+                    self.version_line = Some((line.number, line.text.to_string()));
+                }
                 return line.end(&format!("one `{}` on its line; comments begin with #", field.name()));
             }
         }
         let known = FIELDS.iter().skip(2).map(|(field, _)| field.name()).collect::<Vec<_>>().join(", ");
         Err(line.mistake(
             format!("`{}` begins no line of a house", line.first()),
-            format!("one of: {known}, residents, section; comments begin with #"),
+            format!("one of: {known}, service, residents, section; comments begin with #"),
         ))
     }
 
@@ -60,6 +71,50 @@ impl Head {
         line.end("one kind and its residents on a line; comments begin with #")
     }
 
+    fn take_service(&mut self, line: &mut Line, places: &mut Lines) -> Result<(), Mistake> {
+        once(line, places, At::Field(Field::Service))?;
+        let Some(word) = line.word() else {
+            return Err(line.mistake("`service` names nothing", SERVICES));
+        };
+        let Some(found) = service::service(&word) else {
+            let number = !word.is_empty() && word.bytes().all(|b| b.is_ascii_digit());
+            let why = if number { "; it is given by its name" } else { "" };
+            return Err(line.mistake(format!("`{word}` is no service{why}"), SERVICES));
+        };
+        line.end(&format!("one service on its line: {SERVICES}"))?;
+        self.service = Some(found);
+        self.service_line = Some((line.number, line.text.to_string()));
+        Ok(())
+    }
+
+    /// A version and a service that don't go together. Version 1 has no byte for a service, so that a line of it would be packed
+    /// as all water without a word; and version 2 has one, which nobody gave.
+    pub fn contradiction(&self, places: &Lines) -> Option<Mistake> {
+        let (version, (number, text)) = (self.version()?, self.version_line.as_ref()?);
+        match (&self.service, &self.service_line) {
+            (Some(service), Some((number, text))) if version != SERVED && (version, *service) != (1, TOTAL) => {
+                let always = if version == 1 { "version 1 is always total" } else { "only version 2 has a service" };
+                let wrong = format!("`service {}` is not for `version {version}`: {always}", service::name(*service));
+                Some(Mistake::on(
+                    *number,
+                    text,
+                    wrong,
+                    "no line `version`: a house with a service is packed as version 2",
+                ))
+            }
+            (None, _) if version == SERVED && places.of(At::Field(Field::Service)).is_none() => {
+                let expected = format!("{SERVICES}; then the line `version` may go");
+                Some(Mistake::on(*number, text, "`version 2` has a service, and no line gives it", expected))
+            }
+            _ => None,
+        }
+    }
+
+    /// The version, where a line gives it.
+    fn version(&self) -> Option<u8> {
+        self.values[1].map(|version| version as u8)
+    }
+
     /// The stated length, where a line gives it.
     pub fn stated(&self) -> Option<i64> {
         self.values[0]
@@ -75,12 +130,13 @@ impl Head {
             .collect()
     }
 
-    /// The record without its sections. The version is 1 unless a line says otherwise; residents that no line gives are 0.
+    /// The record without its sections. Unless a line says otherwise the version is 2 where there is a service and 1 where there is
+    /// none; residents that no line gives are 0.
     pub fn record(&self) -> Record {
         let value = |place: usize| self.values[place].unwrap_or(0);
         Record {
             stated: value(0) as u32,
-            version: self.values[1].unwrap_or(1) as u8,
+            version: self.version().unwrap_or(if self.service.is_some() { SERVED } else { 1 }),
             tenths: value(2) as u8,
             hours: value(3) as u8,
             meter: value(4) as u16,
@@ -88,10 +144,14 @@ impl Head {
             delivered: value(6) as u16,
             limit: value(7) as u16,
             residents: self.residents.map(|count| count.unwrap_or(0)),
+            service: self.service.unwrap_or(TOTAL),
             sections: Vec::new(),
         }
     }
 }
+
+/// What a line `service` may say.
+const SERVICES: &str = "`service total` (cold and hot together), `service cold` or `service hot`";
 
 /// What is wrong with a file that lacks a field's line.
 pub fn lacks(field: Field) -> String {
@@ -100,8 +160,9 @@ pub fn lacks(field: Field) -> String {
 
 /// The quantities of the house's own lines; the first two are for odd records alone.
 pub fn quantities() -> impl Iterator<Item = Quantity> {
+    let service = Quantity { name: Field::Service.name(), units: String::new(), taken: service::TAKEN };
     let own = FIELDS.iter().skip(2).map(|(field, measure)| Quantity::new(field.name(), measure));
-    own.chain([Quantity::new("residents", &measure::COUNT)])
+    [service].into_iter().chain(own).chain([Quantity::new("residents", &measure::COUNT)])
 }
 
 /// Notes the line of a place, which may be given once only.
@@ -109,7 +170,8 @@ pub fn once(line: &Line, places: &mut Lines, at: At) -> Result<(), Mistake> {
     places.once(at, line.number).map_err(|(wrong, expected)| line.mistake(wrong, expected))
 }
 
-/// The house's lines. The stated length and the version have a line only where they are not what packing would write.
+/// The house's lines. The stated length and the version have a line only where they are not what packing would write; the
+/// service has one in version 2.
 pub fn show(record: &Record) -> String {
     let values = [
         i64::from(record.stated),
@@ -121,11 +183,15 @@ pub fn show(record: &Record) -> String {
         i64::from(record.delivered),
         i64::from(record.limit),
     ];
-    let usual = [record.len() as i64, 1];
+    let service = record.stated_service();
+    let usual = [record.len() as i64, if service.is_some() { SERVED.into() } else { 1 }];
     let mut text = String::new();
     for (place, (field, measure)) in FIELDS.iter().enumerate() {
         if usual.get(place) != Some(&values[place]) {
             text.push_str(&format!("{} {}\n", field.name(), measure.show(values[place])));
+        }
+        if let (Field::Version, Some(service)) = (field, service) {
+            text.push_str(&format!("service {}\n", service::name(service)));
         }
     }
     for (kind, count) in (1..).zip(record.residents) {

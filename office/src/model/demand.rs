@@ -16,6 +16,8 @@ pub struct Served {
     weighted: i128,
     /// The kinds served whose Z is the largest, rising.
     largest: Vec<u8>,
+    /// That Z, in hundredths of l/s; 0 where nothing is served.
+    fixture: i128,
 }
 
 impl Served {
@@ -26,7 +28,7 @@ impl Served {
 
     /// What one tap of the largest Z draws, ml/s; 0 where nothing is served.
     pub fn one_tap(&self) -> i128 {
-        self.largest.first().map_or(0, |kind| 10 * norms::of(usize::from(*kind)).fixture)
+        10 * self.fixture
     }
 
     /// ml/s
@@ -55,16 +57,17 @@ impl Demand {
         let totals = by_kind(|kind| house.fixtures(kind));
         let sections =
             (1..=house.sections.len()).map(|at| served(house, &totals, by_kind(|kind| house.served(at, kind))));
+        let norm = |kind| norms::of(house.service, kind);
         let hour_share = by_kind(|kind| match totals[kind] {
             0 => 0,
-            _ => up(100_000 * norms::of(kind).hour * house.residents[kind], norms::of(kind).fixture_hour),
+            _ => up(100_000 * norm(kind).hour * house.residents[kind], norm(kind).fixture_hour),
         });
         Demand {
             house: served(house, &totals, totals),
             sections: sections.collect(),
             hour_sum: hour_share.iter().sum(),
-            hour_weighted: (1..=12).map(|kind| hour_share[kind] * norms::of(kind).fixture_hour).sum(),
-            day: (1..=12).map(|kind| norms::of(kind).day * house.residents[kind]).sum(),
+            hour_weighted: (1..=12).map(|kind| hour_share[kind] * norm(kind).fixture_hour).sum(),
+            day: (1..=12).map(|kind| norm(kind).day * house.residents[kind]).sum(),
             hours: house.hours,
         }
     }
@@ -127,26 +130,20 @@ fn by_kind(of: impl Fn(usize) -> i128) -> [i128; 13] {
 }
 
 fn served(house: &House, totals: &[i128; 13], fixtures: [i128; 13]) -> Served {
+    let norm = |kind| norms::of(house.service, kind);
     let share = by_kind(|kind| match totals[kind] {
         0 => 0,
-        total => {
-            let norm = norms::of(kind);
-            up(25_000 * norm.hour * house.residents[kind] * fixtures[kind], 9 * norm.fixture * total)
-        }
+        total => up(25_000 * norm(kind).hour * house.residents[kind] * fixtures[kind], 9 * norm(kind).fixture * total),
     });
+    let with: Vec<usize> = (1..=12).filter(|kind| fixtures[*kind] > 0).collect();
+    let fixture = with.iter().map(|kind| norm(*kind).fixture).max().unwrap_or(0);
     Served {
         fixtures: fixtures.iter().sum(),
         m: share.iter().sum(),
-        weighted: (1..=12).map(|kind| share[kind] * norms::of(kind).fixture).sum(),
-        largest: largest(&fixtures),
+        weighted: (1..=12).map(|kind| share[kind] * norm(kind).fixture).sum(),
+        largest: with.iter().filter(|kind| norm(**kind).fixture == fixture).map(|kind| *kind as u8).collect(),
+        fixture,
     }
-}
-
-/// The kinds that have fixtures and whose Z no other such kind surpasses.
-fn largest(fixtures: &[i128; 13]) -> Vec<u8> {
-    let with: Vec<usize> = (1..=12).filter(|kind| fixtures[*kind] > 0).collect();
-    let unsurpassed = |kind: &usize| with.iter().all(|other| norms::of(*other).fixture <= norms::of(*kind).fixture);
-    with.iter().filter(|kind| unsurpassed(kind)).map(|kind| *kind as u8).collect()
 }
 
 #[cfg(test)]
@@ -155,13 +152,29 @@ mod tests {
 
     /// The demand of an accepted job with these sections, given as parent, kind and fixtures.
     fn demand(ends: &[(u8, u8, u8)], residents: &[(usize, u8)]) -> Demand {
+        demand_of(&job(ends, residents))
+    }
+
+    fn job(ends: &[(u8, u8, u8)], residents: &[(usize, u8)]) -> Vec<u8> {
         let mut job = vec![0; 40 + 10 * ends.len()];
         (job[3], job[4], job[5], job[6], job[7], job[15]) = (job.len() as u8, 1, 2, ends.len() as u8, 24, 1);
         residents.iter().for_each(|(kind, number)| job[15 + 2 * kind] = *number);
         for (section, (parent, kind, fixtures)) in job[40..].chunks_mut(10).zip(ends) {
             (section[0], section[1], section[3], section[5]) = (*parent, *kind, *fixtures, 1);
         }
-        let house = House::of(&job);
+        job
+    }
+
+    /// The same as a job of version 2 with this service.
+    fn in_line(service: u8, ends: &[(u8, u8, u8)], residents: &[(usize, u8)]) -> Demand {
+        let mut job = job(ends, residents);
+        job.insert(40, service);
+        (job[3], job[4]) = (job[3] + 1, 2);
+        demand_of(&job)
+    }
+
+    fn demand_of(job: &[u8]) -> Demand {
+        let house = House::of(job);
         let demand = Demand::of(&house);
         assert!(!house.faults().any() && !demand.faults().any());
         demand
@@ -195,5 +208,29 @@ mod tests {
         let demand = demand(&ends, &[(4, 1), (8, 1), (10, 1), (11, 2)]);
         assert_eq!(demand.section_taps()[0], [4, 8]);
         assert_eq!(demand.house_taps(), []);
+    }
+    /// Document 01's own case: 71 residents of kind 7 have the shares 25,000 × 150 × 71 / (9 × 20) and 100,000 × 150 × 71 / 190 in
+    /// the hot line, 25,000 × 130 × 71 / 180 and 100,000 × 130 × 71 / 190 in the cold one.
+    #[test]
+    fn the_lines_of_the_own_case() {
+        let own = |service: u8| in_line(service, &[(0, 7, 80)], &[(7, 71)]);
+        let figures =
+            |demand: &Demand| (demand.house.m, demand.hour_sum, demand.house_flow(), demand.hour(), demand.mean_hour());
+        assert_eq!(figures(&own(2)), (1_479_167, 5_605_264, 1_206, 2_624, 444));
+        assert_eq!(figures(&own(1)), (1_281_945, 4_857_895, 1_112, 2_385, 296));
+        assert_eq!(figures(&own(0)), (1_840_741, 7_100_000, 2_052, 4_542, 740));
+        assert_eq!(figures(&demand(&[(0, 7, 80)], &[(7, 71)])), figures(&own(0)));
+        assert_eq!([0, 1, 2].map(|service| own(service).day), [17_750, 7_100, 10_650]);
+    }
+
+    /// In a line a bath draws 200 ml/s and a basin 100.
+    #[test]
+    fn one_tap_of_a_line() {
+        for service in [1, 2] {
+            let demand = in_line(service, &[(0, 4, 2), (1, 11, 20)], &[(4, 1), (11, 2)]);
+            assert_eq!((demand.flows()[0], demand.house_flow()), (200, 200), "service {service}");
+            assert_eq!(demand.section_taps(), [vec![4], vec![]], "service {service}");
+            assert!(demand.averages()[0] < 200 && demand.flows()[1] == demand.averages()[1], "service {service}");
+        }
     }
 }

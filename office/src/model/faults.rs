@@ -1,13 +1,18 @@
 //! A set of refusals, and the order in which the calls give them back.
 
 /// The greatest number of a refusal.
-pub const LAST: u32 = 19;
+pub const LAST: u32 = 21;
 
 /// The refusals that apply to one input, all of them and not only the first.
 #[derive(Clone, Copy, Debug, Default, PartialEq, Eq)]
 pub struct Faults(u32);
 
 impl Faults {
+    /// This one and no other.
+    pub fn only(number: u32) -> Faults {
+        Faults(1 << number)
+    }
+
     pub fn note(&mut self, number: u32, applies: bool) {
         self.0 |= u32::from(applies) << number;
     }

@@ -1,4 +1,4 @@
-//! The job record: its fields, its tree as sets of sections, and the refusals 1 to 7.
+//! The job record of version 1 or 2: its fields, its tree as sets of sections, and the refusals 1 to 7.
 
 use super::bytes::{number, signed};
 use super::faults::Faults;
@@ -17,7 +17,9 @@ pub struct Section {
 pub struct House {
     lent: i128,
     stated: i128,
-    version: i128,
+    pub version: i128,
+    /// 0 total, 1 cold, 2 hot; 0 where the version has no service.
+    pub service: i128,
     pub k: i128,
     pub hours: i128,
     pub meter: i128,
@@ -34,10 +36,19 @@ pub struct House {
     pub below: Vec<Set>,
 }
 
+/// Where the service stands in a record of version 2.
+pub const SERVICE: usize = 40;
+
+/// Where the sections begin. A version that there is not, which 2 refuses, has no service.
+pub fn sections_from(version: i128) -> usize {
+    if version == 2 { SERVICE + 1 } else { SERVICE }
+}
+
 impl House {
     pub fn of(job: &[u8]) -> House {
-        let count = number(job, 6, 1) as usize;
-        let sections: Vec<Section> = (0..count).map(|place| section(job, 40 + 10 * place)).collect();
+        let version = number(job, 4, 1);
+        let (from, count) = (sections_from(version), number(job, 6, 1) as usize);
+        let sections: Vec<Section> = (0..count).map(|place| section(job, from + 10 * place)).collect();
         let paths: Vec<Vec<usize>> = (1..=count).map(|from| path(&sections, from)).collect();
         let mut below = vec![Set::default(); count];
         for (place, path) in paths.iter().enumerate() {
@@ -48,7 +59,8 @@ impl House {
         House {
             lent: job.len() as i128,
             stated: number(job, 0, 4),
-            version: number(job, 4, 1),
+            version,
+            service: number(job, SERVICE, from - SERVICE),
             k: number(job, 5, 1),
             hours: number(job, 7, 1),
             meter: number(job, 8, 2),
@@ -66,6 +78,11 @@ impl House {
         self.sections.len() as i128
     }
 
+    /// The bytes of a record of this version with this many sections.
+    pub fn record_bytes(&self) -> usize {
+        sections_from(self.version) + 10 * self.sections.len()
+    }
+
     /// The house's fixtures of a kind.
     pub fn fixtures(&self, kind: usize) -> i128 {
         self.sections.iter().filter(|s| s.kind == kind).map(|s| s.fixtures).sum()
@@ -81,9 +98,9 @@ impl House {
     pub fn faults(&self) -> Faults {
         let mut faults = Faults::default();
         faults.note(1, self.lent < 40 || self.stated != self.lent);
-        faults.note(2, self.version != 1);
-        faults.note(3, !self.head_in_range());
-        faults.note(4, self.lent != 40 + 10 * self.count());
+        faults.note(2, ![1, 2].contains(&self.version));
+        faults.note(3, !self.head_in_range() || self.service > 2);
+        faults.note(4, self.lent != self.record_bytes() as i128);
         faults.note(5, self.sections.iter().zip(1..).any(|(s, own)| breaks_rules(s, own)));
         let parents: Vec<usize> = self.sections.iter().map(|s| s.parent).collect();
         faults.note(6, self.sections.iter().zip(1..).any(|(s, own)| s.kind == 0 && !parents.contains(&own)));
@@ -91,7 +108,8 @@ impl House {
         faults
     }
 
-    fn head_in_range(&self) -> bool {
+    /// Whether all fields but the service are in range.
+    pub fn head_in_range(&self) -> bool {
         [2, 3].contains(&self.k)
             && (1..=63).contains(&self.count())
             && (1..=24).contains(&self.hours)

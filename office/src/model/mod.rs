@@ -1,7 +1,7 @@
 //! An independent model of document 01 and of the requests of document 02 that have landed, written from the papers alone and
 //! by other means than the proved library: whole numbers of 128 bits, sets of sections, every rule asked of every input, brute
-//! force and fronts in place of rows of heads, meters put in order, each loss counted at the ends below it. The tests compare the
-//! two.
+//! force and fronts in place of rows of heads, meters put in order, each loss counted at the ends below it, heat by whole lots and the
+//! rest. The tests compare the two.
 
 pub mod alpha;
 pub mod brute;
@@ -11,6 +11,7 @@ pub mod demand;
 pub mod faults;
 pub mod fronts;
 pub mod heads;
+pub mod heat;
 pub mod house;
 pub mod meters;
 pub mod norms;
@@ -23,6 +24,7 @@ use catalogue::Catalogue;
 use demand::Demand;
 use faults::Faults;
 use heads::{Heads, Losses};
+use heat::Asked;
 use house::House;
 use meters::Meters;
 use rating::{Order, Rating, losses_bytes};
@@ -48,7 +50,7 @@ pub struct Judged {
 pub enum Expected {
     /// The call is refused and writes nothing.
     Nothing,
-    /// A copy, a flow result, a duty, a place with a job, flow, velocity and loss of each section.
+    /// A copy, a flow result, a duty, a place with a job, flow, velocity and loss of each section, heat flows.
     Bytes(Vec<u8>),
     Headed(Heads),
     Rated(Rating),
@@ -68,20 +70,23 @@ pub fn order_of(call: Call) -> &'static [u32] {
         Call::Losses | Call::Rate => &[1, 2, 3, 4, 5, 6, 7, 8, 9, 10, 11, 12, 14, 13],
         Call::Heads => &[1, 2, 3, 4, 5, 6, 7, 8, 9, 19, 14],
         Call::Choose => &[1, 2, 3, 4, 5, 6, 7, 8, 9, 10, 11, 14, 15, 16],
+        Call::Heat => &[1, 2, 3, 4, 5, 6, 7, 8, 9, 20, 21, 14],
     }
 }
 
-/// The bytes of a call's result for this many sections.
-pub fn result_bytes(call: Call, sections: usize) -> usize {
+/// The bytes of a call's result for a house.
+pub fn result_bytes(call: Call, house: &House) -> usize {
+    let sections = house.sections.len();
     match call {
-        Call::Copy => 40 + 10 * sections,
+        Call::Copy => house.record_bytes(),
         Call::Flow => 12 + 4 * sections,
         Call::Duty => 4,
-        Call::Meter => 41 + 10 * sections,
+        Call::Meter => 1 + house.record_bytes(),
         Call::Losses => 10 * sections,
         Call::Heads => 9,
         Call::Rate => 9 + 6 * sections,
         Call::Choose => 4 + sections,
+        Call::Heat => 8,
     }
 }
 
@@ -105,6 +110,7 @@ pub fn judge(case: &Case) -> Judged {
         Call::Meter => faults.join(meters.faults()),
         Call::Heads => faults.join(losses.faults(&house)),
         Call::Losses | Call::Rate | Call::Choose => faults.join(cat.faults()),
+        Call::Heat => faults.join(Asked::of(case.t, case.loss).faults(&house)),
     }
     let nothing = Expected::Nothing;
     let mut judged = Judged { house, demand, meters, losses, cat, flows, faults, number: 0, result: nothing };
@@ -115,9 +121,8 @@ pub fn judge(case: &Case) -> Judged {
             Err(number) => faults.note(number, true),
         }
     }
-    let sections = judged.house.sections.len();
-    faults.note(14, case.out.length < result_bytes(case.call, sections));
-    let work = work_bytes(sections, judged.house.delivered as usize);
+    faults.note(14, case.out.length < result_bytes(case.call, &judged.house));
+    let work = work_bytes(judged.house.sections.len(), judged.house.delivered as usize);
     faults.note(15, case.call == Call::Choose && case.work.length < work);
     judged.faults = faults;
     judged.number = faults.first(order_of(case.call));
@@ -156,6 +161,7 @@ impl Judged {
                 let (cost, list) = fronts::least(&order).ok_or(16u32)?;
                 Expected::Chosen { cost, list }
             }
+            Call::Heat => Expected::Bytes(Asked::of(case.t, case.loss).bytes(demand)),
         })
     }
 }

@@ -4,6 +4,7 @@ use super::Place;
 use crate::at::At;
 use crate::kinds::{self, Norm};
 use crate::record::Record;
+use crate::service::HOT;
 
 /// The end of Table 2, and the greatest demand for one fixture, in millionths.
 const TABLE_END: u64 = 400_000_000;
@@ -92,7 +93,13 @@ impl Demand {
     fn of(job: &[u8]) -> Option<Demand> {
         let record = Record::read(job).ok()?;
         let sound = record.numbered().all(|(number, section)| section.parent < number && section.kind <= 12);
+        let sound = sound && record.service <= HOT;
         sound.then_some(Demand { record })
+    }
+
+    /// The norms of the house's service, of the kind at a place.
+    fn norm(&self, kind: usize) -> Norm {
+        kinds::ALL[kind].norm(self.record.service)
     }
 
     fn house(&self) -> Counts {
@@ -122,7 +129,7 @@ impl Demand {
         std::array::from_fn(|kind| match house[kind] {
             0 => 0,
             all => {
-                let Norm { hour, fixture, .. } = kinds::ALL[kind].norm;
+                let Norm { hour, fixture, .. } = self.norm(kind);
                 (25_000 * hour * u64::from(self.record.residents[kind]) * served[kind]).div_ceil(9 * fixture * all)
             }
         })
@@ -136,7 +143,7 @@ impl Demand {
     /// The hour's sum by kind, each share rounded up.
     fn hour_sum(&self) -> Sum {
         let shares = std::array::from_fn(|kind| {
-            let Norm { hour, fixture_hour, .. } = kinds::ALL[kind].norm;
+            let Norm { hour, fixture_hour, .. } = self.norm(kind);
             (100_000 * hour * u64::from(self.record.residents[kind])).div_ceil(fixture_hour)
         });
         Sum { at: At::House, what: "the hour's sum", shares, served: self.house() }

@@ -4,7 +4,8 @@ use super::{Asked, Place};
 use crate::at::{At, Field};
 use crate::catalogue::Catalogue;
 use crate::loss;
-use crate::record::{HEAD, Record, SECTION};
+use crate::record::{self, HEAD, Record, SERVED};
+use crate::service::{self, HOT};
 
 /// 1: too short, or the stated length is another.
 pub fn length(job: &[u8]) -> Vec<Place> {
@@ -29,8 +30,8 @@ pub fn length(job: &[u8]) -> Vec<Place> {
 /// 2: the version's byte.
 pub fn version(job: &[u8]) -> Vec<Place> {
     let mut found = Vec::new();
-    if let Some(version) = job.get(4).filter(|version| **version != 1) {
-        found.push(Place::new(At::Field(Field::Version), format!("it is {version}, not 1")));
+    if let Some(version) = job.get(4).filter(|version| ![1, SERVED].contains(*version)) {
+        found.push(Place::new(At::Field(Field::Version), format!("it is {version}, neither 1 nor {SERVED}")));
     }
     found
 }
@@ -54,20 +55,39 @@ pub fn ranges(job: &[u8]) -> Vec<Place> {
     let found = wrong.map(|(field, value, least, most, unit)| {
         Place::new(At::Field(*field), format!("{value} is outside {least} to {most} {unit}"))
     });
-    found.collect()
+    found.chain(no_service(job)).collect()
 }
 
-/// 4: the length against the count.
+/// A service that there is not. In version 1 the byte is the first section's.
+fn no_service(job: &[u8]) -> Option<Place> {
+    let service = job.get(HEAD).filter(|service| job[4] == SERVED && **service > HOT)?;
+    let known: Vec<String> = (0..=HOT).map(|known| format!("{known} ({})", service::name(known))).collect();
+    let why = format!("{service} is none of {}", known.join(", "));
+    Some(Place::new(At::Field(Field::Service), why))
+}
+
+/// 4: the length against the version and the count.
 pub fn count(job: &[u8]) -> Vec<Place> {
     let mut found = Vec::new();
     if let Some(count) = job.get(6) {
-        let asked = HEAD + SECTION * usize::from(*count);
-        if asked != job.len() {
-            let why = format!("the record has {} bytes; section count {count} asks for {asked}", job.len());
+        let (given, version) = (job.len(), job[4]);
+        let (asked, of) = (record::length(version, *count), record::in_version(version));
+        if asked != given {
+            let other = the_other(version, *count, given);
+            let why = format!("the record has {given} bytes; section count {count} asks for {asked}{of}{other}");
             found.push(Place::new(At::Field(Field::Sections), why));
         }
     }
     found
+}
+
+/// What is said of a length that the other version has: the service's byte is missing, or one too many is there.
+fn the_other(version: u8, count: u8, given: usize) -> &'static str {
+    match version {
+        SERVED if given == record::length(1, count) => ", and version 1 has as many: is the service's byte missing?",
+        1 if given == record::length(SERVED, count) => ", and version 2, which has a service, has as many",
+        _ => "",
+    }
 }
 
 /// What bytes are that state their own length, as a job record and a catalogue do: by which of them it is.

@@ -34,7 +34,7 @@ pub const ROWS: &[Row] = &[
     },
     Row {
         refusal: JobVersion,
-        text: "The version of the job record is not 1.",
+        text: "The version of the job record is neither 1 nor 2.",
         plain: "The record of the house has a layout that this program does not know.",
         causes: &["Another program, or a newer one, wrote the record.", "A readable house has a line `version`."],
         remedies: &[
@@ -47,13 +47,15 @@ pub const ROWS: &[Row] = &[
         refusal: HeaderRange,
         text: "A field of the house is out of range. The local-loss tenths k are 2 or 3, the section count is 1 to 63, \
                the hours of use a day are 1 to 24, the meter loss is 0 to 1,000 cm, the guaranteed head and the \
-               delivered head are 0 to 6,000 cm, and the velocity limit is 1 to 3,000 mm/s.",
-        plain: "A figure for the house as a whole can't be right: a head, the hours, the local losses, the velocity limit or the \
-                number of pipes.",
+               delivered head are 0 to 6,000 cm, and the velocity limit is 1 to 3,000 mm/s; in version 2 the service is 0 \
+               (total), 1 (cold) or 2 (hot).",
+        plain: "A figure for the house as a whole can't be right: a head, the hours, the local losses, the velocity limit, the \
+                number of pipes or the line that it is.",
         causes: &[
             "A head or the velocity limit has the wrong unit: m where cm were meant, or m/s where mm/s were.",
             "The local losses are a percentage or those of another kind of network.",
             "The house is drawn in more sections than the library takes.",
+            "Another program wrote the record, with a service that there is not, or with its sections where the service stands.",
         ],
         remedies: &[
             "Correct the field that is named, in its unit.",
@@ -63,9 +65,12 @@ pub const ROWS: &[Row] = &[
     },
     Row {
         refusal: SectionBytes,
-        text: "The length of the job record is not 40 bytes and 10 bytes for each of its sections.",
+        text: "The length of the job record is not 40 bytes, or 41 in version 2, and 10 bytes for each of its sections.",
         plain: "The record of the house has more or fewer pipes than it says.",
-        causes: &["Another program wrote the record, with a wrong section count or with bytes behind the sections."],
+        causes: &[
+            "Another program wrote the record, with a wrong section count or with bytes behind the sections.",
+            "The version was changed and the service's byte was not: a house with a service has one more.",
+        ],
         remedies: &[
             "Make the record again from the readable house (`office pack`), which counts the sections itself.",
             "`office show` says how many bytes the section count asks for.",
@@ -292,6 +297,34 @@ pub const ROWS: &[Row] = &[
             "Work the losses out again with `office losses`, for the house as it is now.",
             "Correct the loss that is named, in the unit of the list's header.",
             "Look whether the files are in their order: the house first, then the losses.",
+        ],
+    },
+    Row {
+        refusal: NotHot,
+        text: "The heat flow is asked for a job that isn't hot. A hot line's job has version 2 and service 2.",
+        plain: "Only a hot line has its water heated, and the house that was given is not written as one.",
+        causes: &[
+            "The house has no line `service`, so that it is for cold and hot water together.",
+            "The house of the cold line was given.",
+        ],
+        remedies: &[
+            "Give the house of the hot line: a file of its own with a line `service hot`, and the pipes and fixtures of that \
+             line.",
+            "Give all residents in it: the norms of a hot line are of its part of their water (`office kinds hot`).",
+        ],
+    },
+    Row {
+        refusal: HeatRange,
+        text: "The cold water's temperature or the heat loss is out of range. The temperature is 0 to 30 degrees C, and the loss \
+               0 to 1,000,000 W.",
+        plain: "The cold water can't be as warm as that, or the pipes can't lose as much heat.",
+        causes: &[
+            "The temperature is that of the hot water, or it is in degrees F.",
+            "The loss is in another unit than W.",
+        ],
+        remedies: &[
+            "Give the temperature of the water that the waterworks deliver in winter, in degrees C.",
+            "Give the heat that the line's own pipes lose, and their circulation if there is one, in W.",
         ],
     },
 ];

@@ -10,7 +10,7 @@ impl Counters {
     /// A case of the losses call.
     pub(super) fn note_losses(&mut self, case: &Case, judged: &Judged) {
         use Situation::*;
-        let rating = result_bytes(Call::Rate, judged.house.sections.len());
+        let rating = result_bytes(Call::Rate, &judged.house);
         self.saw(LossesInLess, judged.number == 0 && case.out.length < rating);
         self.saw(LossesNeedMore, judged.number == 14 && case.out.length >= rating);
         if let Expected::Bytes(bytes) = &judged.result {

@@ -14,10 +14,13 @@ impl Counters {
             self.pairs[case.call as usize][judged.number as usize][later as usize] += 1;
         }
         self.note_lent(case, judged);
+        self.note_version(case, judged);
+        self.note_crowded_line(case, judged);
         self.note_marks(judged);
         if !judged.flows.is_empty() {
             self.note_house(judged);
             self.note_taps(case, judged);
+            self.note_line(case, judged);
         }
         match &judged.result {
             Expected::Rated(rating) => self.note_rating(judged, &rating.heads),
@@ -32,6 +35,7 @@ impl Counters {
             Call::Meter => self.note_meters(case, judged),
             Call::Losses => self.note_losses(case, judged),
             Call::Heads => self.note_given(case, judged),
+            Call::Heat => self.note_heat(case, judged),
             _ => {}
         }
         if case.call.takes_catalogue() && (1..=12).all(|number| !judged.faults.has(number)) {
@@ -46,7 +50,7 @@ impl Counters {
     fn note_lent(&mut self, case: &Case, judged: &Judged) {
         use Situation::*;
         let sections = judged.house.sections.len();
-        let needed = model::result_bytes(case.call, sections);
+        let needed = model::result_bytes(case.call, &judged.house);
         let work = model::work_bytes(sections, judged.house.delivered as usize);
         let (done, chosen) = (judged.number == 0, judged.number == 0 && case.call == Call::Choose);
         self.saw(OutExact, done && case.out.length == needed);

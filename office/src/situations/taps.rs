@@ -11,7 +11,7 @@ impl Counters {
     /// An accepted job.
     pub(super) fn note_taps(&mut self, case: &Case, judged: &Judged) {
         match case.call {
-            Call::Copy | Call::Heads => {}
+            Call::Copy | Call::Heads | Call::Heat => {}
             Call::Flow | Call::Losses | Call::Rate | Call::Choose => self.note_tapped_sections(case, judged),
             Call::Duty | Call::Meter => self.note_tapped_house(case, judged),
         }
@@ -56,8 +56,11 @@ impl Counters {
         let tapped = |own: usize| !taps[own - 1].is_empty();
         let any = |of: &dyn Fn(usize) -> bool| (1..=taps.len()).any(of);
         let draws = |own: usize| demand.sections[own - 1].one_tap();
-        self.saw(Tap200, any(&|own| tapped(own) && draws(own) == 200));
-        self.saw(Tap300, any(&|own| tapped(own) && draws(own) == 300));
+        let total = house.service == norms::TOTAL;
+        self.saw(Tap200, any(&|own| total && tapped(own) && draws(own) == 200));
+        self.saw(Tap300, any(&|own| total && tapped(own) && draws(own) == 300));
+        self.saw(TapLine140, any(&|own| !total && tapped(own) && draws(own) == 140));
+        self.saw(TapLine200, any(&|own| !total && tapped(own) && draws(own) == 200));
         self.saw(TapOfOwnEnd, any(&|own| of_own_end(house, own, &taps[own - 1])));
         let from_below = |own: usize| !taps[own - 1].contains(&(house.sections[own - 1].kind as u8));
         self.saw(TapFromBelow, any(&|own| tapped(own) && from_below(own)));
@@ -108,9 +111,9 @@ impl Counters {
     }
 }
 
-/// Whether kinds of several Z have fixtures.
+/// Whether kinds of several Z have fixtures. Kinds that differ in it in one service differ in all of them.
 fn several(fixtures: impl Fn(usize) -> i128) -> bool {
-    let mut rates = (1..=12).filter(|kind| fixtures(*kind) > 0).map(|kind| norms::of(kind).fixture);
+    let mut rates = (1..=12).filter(|kind| fixtures(*kind) > 0).map(|kind| norms::of(norms::TOTAL, kind).fixture);
     let first = rates.next();
     rates.any(|rate| Some(rate) != first)
 }
@@ -160,7 +163,7 @@ mod tests {
         let lent = |length| Buffer { length, pattern: Vec::new() };
         let (job, none) = (job.to_vec(), Vec::new());
         let (meters, losses, cat) = (none.clone(), none.clone(), none.clone());
-        Case { call, job, meters, losses, cat, sizes: none, work: lent(60_000), out: lent(200) }
+        Case { call, job, meters, losses, cat, sizes: none, t: 0, loss: 0, work: lent(60_000), out: lent(200) }
     }
 
     fn reached<const N: usize>(case: &Case, situations: [Situation; N]) -> [u64; N] {
@@ -171,6 +174,28 @@ mod tests {
 
     fn in_flow<const N: usize>(job: &[u8], situations: [Situation; N]) -> [u64; N] {
         reached(&case(Call::Flow, job), situations)
+    }
+
+    /// The same job as one of version 2 with this service.
+    fn in_line(service: u8, job: &[u8]) -> Vec<u8> {
+        let mut line = job.to_vec();
+        line.insert(40, service);
+        (line[3], line[4]) = (job[3] + 1, 2);
+        line
+    }
+
+    /// In a line a tap of a clinic draws 140 ml/s and a bath 200.
+    #[test]
+    fn taps_of_the_lines() {
+        let ask = [Tap200, Tap300, TapLine140, TapLine200];
+        let clinic = job(&[(0, 12, 20), (1, 10, 2)], &[(10, 1), (12, 1)]);
+        assert_eq!(in_flow(&clinic, ask), [1, 0, 0, 0]);
+        assert_eq!(in_flow(&in_line(0, &clinic), ask), [1, 0, 0, 0]);
+        assert_eq!(in_flow(&in_line(1, &clinic), ask), [0, 0, 1, 0]);
+        assert_eq!(in_flow(&in_line(2, &clinic), ask), [0, 0, 1, 0]);
+        assert_eq!(in_flow(&baths_over_basins(), ask), [0, 1, 0, 0]);
+        assert_eq!(in_flow(&in_line(1, &baths_over_basins()), ask), [0, 0, 0, 1]);
+        assert_eq!(in_flow(&in_line(2, &baths_over_basins()), ask), [0, 0, 0, 1]);
     }
 
     #[test]

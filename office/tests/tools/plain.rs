@@ -75,9 +75,12 @@ fn is_a_line(part: &str) -> bool {
     let parted = part.chars().filter(|c| ",;\t".contains(*c)).count();
     let fields = "local hours meter guaranteed delivered residents version";
     let words = fields.split(' ').chain(["velocity limit", "section ", "section\t", "stated length"]);
+    // A list of meters has a column of this name.
+    let service = part.starts_with("service") && !part["service".len()..].trim_start().starts_with("flow");
     let meter = part.split([',', ';', '\t']).any(|cell| ["vane", "turbine"].contains(&cell.trim_matches([' ', '"'])));
     (parted >= 2 && meter)
         || (parted >= 1 && "0123456789,;\"".contains(part.chars().next().unwrap_or('x')))
+        || service
         || words.into_iter().any(|w| part.starts_with(w))
 }
 
@@ -140,8 +143,16 @@ pub fn house(bytes: &[u8]) -> Option<Fields> {
     let sections = fields.keys().filter(|name| name.ends_with(" parent")).count();
     (1..=sections).all(|number| fields.contains_key(&format!("section {number} parent"))).then_some(())?;
     fields.insert("sections".to_string(), sections as i64);
-    fields.entry("stated length".to_string()).or_insert(40 + 10 * sections as i64);
-    fields.entry("version".to_string()).or_insert(1);
+    let service = fields.get("service").copied();
+    let version = *fields.entry("version".to_string()).or_insert(if service.is_some() { 2 } else { 1 });
+    let together = match service {
+        Some(service) => version == 2 || (version, service) == (1, 0),
+        None => version != 2,
+    };
+    together.then_some(())?;
+    fields.entry("service".to_string()).or_insert(0);
+    let head = if version == 2 { 41 } else { 40 };
+    fields.entry("stated length".to_string()).or_insert(head + 10 * sections as i64);
     for kind in 1..=12 {
         fields.entry(format!("residents {kind}")).or_insert(0);
     }
@@ -223,6 +234,11 @@ fn of_house(words: &[&str]) -> Option<(String, i64)> {
         }
         ["hours", hours] => Some(("hours".to_string(), count(hours, 255)?)),
         ["version", version] => Some(("version".to_string(), count(version, 255)?)),
+        ["service", service] => {
+            let named = ["total", "cold", "hot"].iter().position(|known| known == service);
+            let number = || plain(service).filter(|number| *number > 2);
+            Some(("service".to_string(), named.map(|place| place as i64).or_else(number)?))
+        }
         ["residents", of, people] => {
             let kind = kind(of, 12).filter(|kind| *kind > 0)?;
             Some((format!("residents {kind}"), count(people, 65_535)?))

@@ -21,6 +21,8 @@ pub fn of(input: &[u8]) -> (String, Faults) {
         losses: Vec::new(),
         cat: cat.to_vec(),
         sizes: sizes.to_vec(),
+        t: 0,
+        loss: 0,
         work: Buffer::default(),
         // Longer than any result, also of a record that states 255 sections: 14 has no meaning here.
         out: Buffer { length: 2_000, pattern: Vec::new() },
