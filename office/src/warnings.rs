@@ -111,8 +111,10 @@ const LITTLE_HEAT: u32 = 100;
 /// The warning of a heat loss, which may be in kW. None is stated with 0.
 pub fn off_heat(heating: Heating) -> Option<Place> {
     let loss = heating.loss;
-    let why =
-        format!("{loss} W, which a few metres of pipe lose; is it in kW? {loss} kW are {} W", 1_000 * u64::from(loss));
+    let why = format!(
+        "{loss} W, which a few metres of pipe lose; is it in kW? {loss} kW would be {} W",
+        1_000 * u64::from(loss)
+    );
     (1..LITTLE_HEAT).contains(&loss).then(|| Place::new(At::HeatLoss, why))
 }
 

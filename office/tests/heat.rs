@@ -221,7 +221,7 @@ fn a_loss_that_may_be_in_kilowatts_gets_a_warning() {
     for (loss, warned) in [("0", false), ("1", true), ("12", true), ("99", true), ("100", false), ("1200", false)] {
         let ran = heat(HOT, "5", loss);
         let why = format!(
-            "warning: heat loss: {loss} W, which a few metres of pipe lose; is it in kW? {loss} kW are {loss}000 W\n"
+            "warning: heat loss: {loss} W, which a few metres of pipe lose; is it in kW? {loss} kW would be {loss}000 W\n"
         );
         assert_eq!((ran.status, ran.error.as_str()), (0, if warned { why.as_str() } else { "" }), "{loss}");
         let strict = office(&["heat", HOT, "--cold-water", "5", "--loss", loss, "--strict"]);

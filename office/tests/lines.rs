@@ -57,6 +57,24 @@ fn packed(file: &str) -> Vec<u8> {
     house::pack(&read(file)).expect("a house")
 }
 
+/// One tap draws 10 × Z of the line: 200 ml/s of kind 8, and not the 300 of all water. In the wing of the mixed house, section 5, the
+/// hot line has the shares 25,000 × 160 × 24 / (9 × 20 × 48), 11,112 up, and 25,000 × 20 × 30 × 6 / (9 × 10 × 30), 33,334 up; α of
+/// 44,446 is 263,892, and the formula gives (11,112 × 20 + 33,334 × 10) × 263,892 / (20,000 × 44,446), 165 ml/s up. The cold line has
+/// 9,723 and 33,334, α 261,114, and 161 ml/s up. Section 7 has the bath alone, and the formula itself gives 200.
+#[test]
+fn one_tap_is_that_of_the_line() {
+    let mixed = read("examples/mixed.txt");
+    for (service, tap) in [("hot", 200), ("cold", 200), ("total", 300)] {
+        let text = format!("service {service}\n{mixed}");
+        let parsed = json::parse(&office_with(&["flow", "-", "--json"], text.as_bytes()).text());
+        let wing = &parsed.list("sections")[4..];
+        let found = wing.iter().map(|own| (own.number("flow_ml_per_s"), own.list("one_tap_kinds").len()));
+        let found: Vec<_> = found.collect();
+        assert_eq!((found[0], found[2]), ((tap, 1), (tap, 0)), "{service}");
+        assert_eq!(wing[0].list("one_tap_kinds"), [Value::Number(8)]);
+    }
+}
+
 /// The words of each command on a house, with its own sizes and the losses that they give.
 fn commands(file: &str, sizes: &str) -> Vec<Vec<String>> {
     let lost = answered(&["losses", file, TABLE, sizes, "--json"]);
