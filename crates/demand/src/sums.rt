@@ -4,13 +4,11 @@ use numbers::greater;
 use numbers::long16;
 use numbers::long32;
 ghost use mathlib.Core.Path.{_≡_};
-ghost use mathlib.Core.Bool.{cond};
-ghost use Prim.Native.Nat.{_+_, _*_, _≤_, _<_};
-ghost use lib.Dec.{eqb, ltb};
-ghost use Rattle.basis.specs.Round.{up};
+ghost use Prim.Native.Nat.{_≤_, _<_};
 ghost use Rattle.norms.specs.Norms.{normOf};
 ghost use Rattle.tree.specs.Tree.{servedOf, Rooted};
 ghost use Rattle.tree.specs.Rows.{Counted};
+ghost use Rattle.demand.specs.Contracts.{Adds};
 ghost use Rattle.demand.specs.Demand.{mOf, fixtureSumOf, oneTapOf, hourSumOf, hourlySumOf};
 
 // Of a section or the house: m, the sum of share × Z, and one tap in ml/s.
@@ -26,25 +24,33 @@ pub struct HourSums {
     pub weighted: u64,
 }
 
-// A kind's share of n of its fixtures, of which the house has so many, for a service. Most sections serve few kinds, and without
-// fixtures nothing is divided. Everything is multiplied before it is divided.
-fn share(service: u8, kind: usize, residents: u64, n: u64, house: u64) -> u64
-    requires { ⌜ (1 ≤ kind) × (kind ≤ 12) × (residents < 65536) × (n ≤ house) × (house ≤ 4128705) ⌝ }
-    ensures { λ r. ⌜ (r ≡ cond (eqb house 0) 0 (up (25000 * normOf service kind .hour * residents * n) (9 * normOf service kind .fixture * house)))
-        × (r ≤ 22547890181250000) ⌝ }
-{
-    if n == 0 {
-        return 0;
-    }
-    let norm = norms::norm_of(service, kind);
-    round::divide_up(25000 * norm.hour * residents * n, 9 * norm.fixture * house)
+// What a kind adds to the sums: its share, share × Z, and Z where it is served.
+struct Part {
+    share: u64,
+    weighted: u64,
+    z: usize,
 }
 
-// Z of a kind that is served, and 0 for a kind without fixtures.
-fn served_z(n: u64, z: u64) -> usize
-    ensures { λ r. ⌜ r ≡ cond (ltb 0 n) z 0 ⌝ }
+// The part of a kind with n of the house's fixtures, for a service. Most sections serve few kinds, and without fixtures nothing is
+// looked up or divided. Everything is multiplied before it is divided.
+fn part_of(service: u8, kind: usize, residents: u64, n: u64, house: u64) -> Part
+    requires { ⌜ (1 ≤ kind) × (kind ≤ 12) × (residents < 65536) × (n ≤ house) × (house ≤ 4128705) ⌝ }
+    ensures { λ r. ⌜ Adds (normOf service kind) residents n house (r .share) (r .weighted) (r .z) ⌝ }
 {
-    if 0 < n { z as usize } else { 0 }
+    if n == 0 {
+        return Part {
+            share: 0,
+            weighted: 0,
+            z: 0,
+        };
+    }
+    let norm = norms::norm_of(service, kind);
+    let share = round::divide_up(25000 * norm.hour * residents * n, 9 * norm.fixture * house);
+    Part {
+        share,
+        weighted: share * norm.fixture,
+        z: norm.fixture as usize,
+    }
 }
 
 // The sums of row i of the counts: section i's, or the house's where i is 0. An index into a job's own array would copy the whole job.
@@ -63,11 +69,10 @@ pub fn sums_of(job: Job, counts: &[u32; 768], i: usize) -> Sums
         let residents = job.residents;
         let n = long32(counts[i * 12 + c]);
         let house = long32(counts[c]);
-        let part = share(service, kind, long16(residents[c]), n, house);
-        let norm = norms::norm_of(service, kind);
-        m = m + part;
-        weighted = weighted + part * norm.fixture;
-        largest = greater(largest, served_z(n, norm.fixture));
+        let part = part_of(service, kind, long16(residents[c]), n, house);
+        m = m + part.share;
+        weighted = weighted + part.weighted;
+        largest = greater(largest, part.z);
         kind += 1;
     }
     Sums {

@@ -8,12 +8,10 @@ use lib.Dec.{ltb}
 use Rattle.basis.specs.Range.{mostTo}
 use Rattle.basis.proofs.Within.{Within}
 use Rattle.basis.proofs.Most.{most-none}
-use Rattle.fields.specs.Fields.{serviceOf}
 use Rattle.tree.specs.Tree.{servedOf}
 use Rattle.demand.specs.Demand.{normAt, shareOf, mOf, fixtureSumOf, tapOf}
 use Rattle.demand.proofs.Cells.{KindCounts, kind-counts}
 use Rattle.demand.proofs.Partial.{SoFar, sum-start, sum-turn, sum-end, most-turn}
-use Rattle.demand.proofs.Tops.{norm-known, fixture-top}
 use Rattle.demand.proofs.Equations.{tap-is, one-tap-is}
 use Rattle.demand.proofs.Taps.{most-tap-top}
 use borrow.Author.Needs.{needs}
@@ -37,42 +35,37 @@ known c = kind-counts (c .before .before .pre .0) (c .before .before .pre .1) (o
 abbrev wanted : tie.In-loop Inv-loop μ-loop → ℕ
 wanted c = shareOf (c .before .before .args .job) (servedOf (c .before .before .args .job) (c .before .before .args .i)) (c .before .loop .kind)
 
-is : (c : tie.After-share Inv-loop μ-loop) → c .share .result ≡ wanted (c .before .before .before .before .before .before .before)
+is : (c : tie.After-part-of Inv-loop μ-loop) → c .part-of .result .share ≡ wanted (c .before .before .before .before .before .before .before)
 unfolding shareOf
 is c =
     let k = known (c .before .before .before .before .before .before .before) in
     let house = c .before .before in
     rw (← c .before .long16 .ensures .0, ← k .served, ← k .house, ← house .before .before .long32 .ensures .0, ← house .long322 .ensures .0)
-    (c .share .ensures .0)
-
-fixture : (c : tie.After-norm-of Inv-loop μ-loop) → c .before .share .result * c .norm-of .result .fixture ≤ 676436705437500000
-fixture c =
-    let d = c .before .before .before .before .before .before .before .before in
-    fixture-top (norm-known (serviceOf (d .before .before .args .job)) (c .norm-of .ensures) (omega arith)) (omega arith)
+    (c .part-of .ensures .share-is)
 
 -- Z of this kind, where the section serves it
-tap-here : (c : tie.After-served-z Inv-loop μ-loop) →
-    let d = c .before .before .before .before .before .before .before .before .before .before in
-    c .served-z .result ≡ tapOf (d .before .before .args .job) (servedOf (d .before .before .args .job) (d .before .before .args .i)) (d .before .loop .kind)
+tap-here : (c : tie.After-part-of Inv-loop μ-loop) →
+    let d = c .before .before .before .before .before .before .before in
+    c .part-of .result .z ≡ tapOf (d .before .before .args .job) (servedOf (d .before .before .args .job) (d .before .before .args .i)) (d .before .loop .kind)
 tap-here c =
-    let n = c .before .before .before .before .before .before .before in
+    let n = c .before .before .before .before in
     let d = n .before .before .before in
-    c .served-z .ensures ∙
-    ap (λ x. cond (ltb 0 x) (c .before .before .norm-of .result .fixture) 0) (n .long32 .ensures .0 ∙ known d .served) ∙
-    rw (c .before .before .norm-of .ensures) (sym (tap-is (d .before .before .args .job) _ (d .before .loop .kind)))
+    c .part-of .ensures .z-is ∙
+    ap (λ x. cond (ltb 0 x) (normAt (d .before .before .args .job) (d .before .loop .kind) .fixture) 0) (n .long32 .ensures .0 ∙ known d .served) ∙
+    sym (tap-is (d .before .before .args .job) _ (d .before .loop .kind))
 
 loop-holds : tie.Need-loop-holds Inv-loop μ-loop
 loop-holds c = (omega arith, sum-start _ _, sum-start _ _, sym (most-none _))
 
 loop-again : tie.Need-loop-again Inv-loop μ-loop
 loop-again c =
-    let norm = c .before .before .before in
-    let share = norm .before in
-    let d = share .before .before .before .before .before .before .before in (
+    let part = c .before .before .before in
+    let d = part .before .before .before .before .before .before .before in
+    let adds = part .part-of .ensures in (
       omega arith,
-      sum-turn (d .before .loop .inv .1) (omega arith) (is share) (omega arith),
-      sum-turn (d .before .loop .inv .2) (omega arith) (rw (is share, norm .norm-of .ensures)) (fixture norm),
-      c .greater .ensures ∙ most-turn _ (omega arith) (d .before .loop .inv .3) (tap-here (c .before)),
+      sum-turn (d .before .loop .inv .1) (omega arith) (is part) (adds .share-top),
+      sum-turn (d .before .loop .inv .2) (omega arith) (adds .weighted-is ∙ rw (is part)) (adds .weighted-top),
+      c .greater .ensures ∙ most-turn _ (omega arith) (d .before .loop .inv .3) (tap-here part),
     )
 
 -- after the twelfth kind
@@ -99,6 +92,6 @@ sums-of-spec =
     tie.close
     (tie.spec Inv-loop μ-loop loop-holds (λ c. search needs) (λ c. search needs) (λ c. search needs) (λ c. search needs) (λ c. search needs)
     (λ c κs. search needs) (λ c. search needs) (λ c. search needs) (λ c κs. search needs) (λ c. search needs) (λ c. search needs)
-    (λ c κs. search needs) (λ c κs. let k = known (c .before .before .before .before .before .before) in omega arith) (λ c κs. search needs)
-    (λ c. omega arith) (λ c. omega (arith, fixture (c .before))) (λ c. omega (arith, fixture (c .before))) (λ c κs. search needs)
-    (λ c κs. search needs) (λ c. search needs) (λ c. search needs) loop-again (λ c. omega (arith, small c)) returns)
+    (λ c κs. search needs) (λ c κs. let k = known (c .before .before .before .before .before .before) in omega arith)
+    (λ c. omega arith) (λ c. omega arith) (λ c κs. search needs) (λ c. search needs) (λ c. search needs) loop-again (λ c. omega (arith, small c))
+    returns)
