@@ -16,7 +16,7 @@ use Rattle.fields.specs.declared.Job.{Job}
 use Rattle.fields.specs.Fields.{serviceOf, countOf, residentsOf}
 use Rattle.tree.specs.Tree.{servedOf, houseOf}
 use Rattle.tree.proofs.Served.{served-le}
-use Rattle.norms.proofs.Lines.{hot-days}
+use Rattle.norms.proofs.Services.{hot-days}
 use Rattle.demand.specs.Demand.{normAt, shareOf, mOf, fixtureSumOf, hourShareOf, hourSumOf, hourlySumOf, dayOf}
 use Rattle.demand.specs.Demand.{overSum, overProbability, demandChecks, Valid, Accepted}
 use Rattle.demand.proofs.Validity.{valid-rooted, residents-match}

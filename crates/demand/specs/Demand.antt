@@ -1,4 +1,5 @@
--- Document 01, "Norms and design flows": shares, m, design flow, hour, day and mean hour; refusals 8 and 9. Document 02, L2: design flow.
+-- Document 01, "Norms and design flows": shares, m, design flow, hour, day and mean hour; refusals 8 and 9. Document 02, L2: design flow; L4: the norms
+-- of the job's service.
 -- A vector n gives the fixtures of each kind: `houseOf job` for the house, `servedOf job i` for section i.
 -- Assumes nothing.
 use mathlib.Core.Path.{_≡_}
@@ -106,7 +107,7 @@ overProbability job =
 unfoldable pub demandChecks : Job → List (Bool × ℕ)
 demandChecks job = (overSum job, 8) ∷ (overProbability job, 9) ∷ []
 
--- a job in which 3 and 5 to 7 find nothing
+-- a job in which 3 and 5 to 7 find nothing; 2, the version, plays no part in any figure
 pub record Valid (job : Job) : Type 0 where
   pub header : headerOk (job .header) ≡ true
   pub fields : firstNo (fieldChecks job) ≡ 0

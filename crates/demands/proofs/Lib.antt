@@ -9,6 +9,6 @@ pub mod Metering
 pub mod OneTap
 pub mod InTurn
 mod Versions
-mod Renewed
-pub mod Lines
+mod Counterpart
+pub mod HotAndCold
 pub mod Worked

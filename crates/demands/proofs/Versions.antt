@@ -2,7 +2,7 @@
 -- Assumes nothing.
 use mathlib.Core.Path.{_≡_, refl, sym, ap, fun-ext, _∙_}
 use mathlib.Core.Logic.{⊎-elim}
-use mathlib.Core.Bool.{Bool, false, not}
+use mathlib.Core.Bool.{Bool, false}
 use mathlib.Core.List.{List}
 use Prim.Native.Nat.{ℕ, _+_, _*_, _≤_}
 use native.Mathlib.Omega.{arith}
@@ -16,39 +16,162 @@ use Rattle.basis.proofs.Concat.{concat-ext}
 use Rattle.basis.proofs.Each.{any-ext}
 use Rattle.basis.proofs.Split.{eq-or-ne}
 use Rattle.basis.proofs.Slots.{tabulate-ext, slots-ext}
-use Rattle.answer.specs.Checks.{firstNo}
 use Rattle.wire.specs.Wire.{byteAt, beAt, bytesOf}
 use Rattle.wire.proofs.Fields.{be-same}
 use Rattle.fields.specs.declared.Header.{Header}
 use Rattle.fields.specs.declared.Job.{Job}
-use Rattle.fields.specs.Fields.{blankSection, countOf, sectionOf}
+use Rattle.fields.specs.Fields.{blankSection, countOf}
 use Rattle.tree.specs.Tree.{parentOf}
 use Rattle.rules.specs.Rules.{versionOk, serviceOk, headerOk, fieldChecks}
 use Rattle.rules.proofs.Same.{checks-same}
 use Rattle.record.specs.Record.{sectionsFrom, lengthOf, placeOf, versionAt, serviceAt, headerAt, residentsAt, sectionFrom, sectionAt, decode}
+use Rattle.record.specs.Edited.{withVersion}
 use Rattle.record.proofs.Lengths.{from-two, from-other}
 use Rattle.record.proofs.Service.{service-two, service-other}
 use Rattle.job.specs.Calls.{wrongLength, wrongVersion, wrongCount, shapeChecks, readChecks}
-use Rattle.demand.specs.Demand.{demandChecks, sectionFlow, houseFlow, hourOf, dayOf, meanOf}
+use Rattle.demand.specs.Demand.{demandChecks, sectionFlow}
 use Rattle.demand.proofs.Same.{section-flow-same, house-flow-same, hour-of-same, day-same, mean-same, demand-checks-same}
 use Rattle.acceptance.specs.Acceptance.{jobChecks}
-use Rattle.flow.specs.Calls.{houseBytes, flowBytes, dutyBytes}
-use Rattle.catalogue.specs.Layout.{rowsOf, partOf}
+use Rattle.flow.specs.Calls.{flowBytes, dutyBytes}
 use Rattle.catalogue.specs.declared.reading.SizeAtFlow.{SizeAtFlow}
-use Rattle.catalogue.specs.Reading.{readRows}
-use Rattle.heads.specs.Heads.{reachOf, greatestTo, requiredOf, pumpAt, dictatingOf}
-use Rattle.sizing.specs.Losses.{listOk, readingOf, overBy, overAt, overAny, lossOf, lossAt, lossesOf}
+use Rattle.heads.specs.Heads.{reachOf, requiredOf, pumpAt, dictatingOf}
+use Rattle.sizing.specs.Losses.{listOk, readingOf, overAt, overAny, lossAt, lossesOf}
 use Rattle.rated_bytes.specs.RatedBytes.{headsBytes, resultBytes, figuresBytes}
 use Rattle.rating.specs.Calls.{rateBytes, lossesBytes}
 use Rattle.choosing.specs.Suitable.{priceAt, costOf}
 use Rattle.demands.specs.Demand3.{Suited}
-use Rattle.demands.specs.Lines.{SameHouse}
+use Rattle.demands.specs.HotAndCold.{Counterparts}
 
--- a header, and a job, with another version
-headerIn : ℕ → Header → Header
-headerIn version h =
+module _ (version : ℕ) (job : Job) where
+  -- the figures of the flow call and of the duty call
+  flow-same : (i : ℕ) → sectionFlow (withVersion job version) i ≡ sectionFlow job i
+  unfolding withVersion
+  flow-same i = section-flow-same (withVersion job version) job refl refl refl refl i
+
+  pub flow-bytes-same : flowBytes (withVersion job version) ≡ flowBytes job
+  unfolding flowBytes withVersion
+  flow-bytes-same =
+      rw (
+        hour-of-same (withVersion job version) job refl refl refl refl,
+        day-same (withVersion job version) job refl refl refl refl,
+        mean-same (withVersion job version) job refl refl refl refl refl,
+        concat-ext (countOf job) (λ i. bytesOf 4 (sectionFlow (withVersion job version) i)) (λ i. bytesOf 4 (sectionFlow job i)) (λ i p q. ap (bytesOf 4) (flow-same i)),
+      )
+
+  pub duty-bytes-same : dutyBytes (withVersion job version) ≡ dutyBytes job
+  unfolding dutyBytes withVersion
+  duty-bytes-same = rw (house-flow-same (withVersion job version) job refl refl refl refl)
+
+  -- heads over any losses
+  pub heads-bytes-same : (loss : ℕ → ℕ) → headsBytes (withVersion job version) loss ≡ headsBytes job loss
+  unfolding headsBytes requiredOf reachOf parentOf pumpAt dictatingOf withVersion
+  heads-bytes-same loss = refl
+
+  required-same : (loss : ℕ → ℕ) → requiredOf (withVersion job version) loss ≡ requiredOf job loss
+  unfolding requiredOf reachOf parentOf withVersion
+  required-same loss = refl
+
+  module _ (cat : List ℕ) where
+    reading-same : (s i : ℕ) → readingOf (withVersion job version) cat s i ≡ readingOf job cat s i
+    unfolding readingOf
+    reading-same s i = rw (flow-same i)
+
+    loss-same : (s i : ℕ) → lossAt (withVersion job version) cat s i ≡ lossAt job cat s i
+    unfolding lossAt withVersion
+    loss-same s i = rw (reading-same s i)
+
+    over-same : (s i : ℕ) → overAt (withVersion job version) cat s i ≡ overAt job cat s i
+    unfolding overAt withVersion
+    over-same s i = rw (reading-same s i)
+
+    module _ (list : List ℕ) where
+      velocities : Job → ℕ → ℕ
+      velocities j i = readingOf j cat (sizeOf list i) i .velocity
+
+      flows : Job → ℕ → ℕ
+      flows j i = sectionFlow j i
+
+      flows-same : flows (withVersion job version) ≡ flows job
+      unfolding flows
+      flows-same = fun-ext flow-same
+
+      velocities-same : velocities (withVersion job version) ≡ velocities job
+      unfolding velocities
+      velocities-same = fun-ext (λ i. ap (λ (r : SizeAtFlow). r .velocity) (reading-same (sizeOf list i) i))
+
+      losses-same : lossesOf (withVersion job version) cat list ≡ lossesOf job cat list
+      losses-same = fun-ext (λ i. loss-same (sizeOf list i) i)
+
+      pub listed-same : listOk (withVersion job version) cat list ≡ listOk job cat list
+      unfolding listOk withVersion
+      listed-same = refl
+
+      pub any-same : overAny (withVersion job version) cat list ≡ overAny job cat list
+      unfolding overAny withVersion
+      any-same = any-ext (countOf job) _ _ (λ i p q. over-same (sizeOf list i) i)
+
+      result-same : (velocity loss : ℕ → ℕ) → resultBytes (withVersion job version) velocity loss ≡ resultBytes job velocity loss
+      unfolding resultBytes headsBytes requiredOf reachOf parentOf pumpAt dictatingOf withVersion
+      result-same velocity loss = refl
+
+      figures-same : (flow velocity loss : ℕ → ℕ) → figuresBytes (withVersion job version) flow velocity loss ≡ figuresBytes job flow velocity loss
+      unfolding figuresBytes withVersion
+      figures-same flow velocity loss = refl
+
+      pub rate-bytes-same : rateBytes (withVersion job version) cat list ≡ rateBytes job cat list
+      unfolding rateBytes velocities
+      rate-bytes-same =
+          result-same (velocities (withVersion job version)) (lossesOf (withVersion job version) cat list) ∙
+          ap (λ v. resultBytes job v (lossesOf (withVersion job version) cat list)) velocities-same ∙
+          ap (λ l. resultBytes job (velocities job) l) losses-same
+
+      pub losses-bytes-same : lossesBytes (withVersion job version) cat list ≡ lossesBytes job cat list
+      unfolding lossesBytes velocities flows
+      losses-bytes-same =
+          figures-same (flows (withVersion job version)) (velocities (withVersion job version)) (lossesOf (withVersion job version) cat list) ∙
+          ap (λ f. figuresBytes job f (velocities (withVersion job version)) (lossesOf (withVersion job version) cat list)) flows-same ∙
+          ap (λ v. figuresBytes job (flows job) v (lossesOf (withVersion job version) cat list)) velocities-same ∙
+          ap (λ l. figuresBytes job (flows job) (velocities job) l) losses-same
+
+      pub cost-same : costOf (withVersion job version) cat list ≡ costOf job cat list
+      unfolding costOf priceAt withVersion
+      cost-same = refl
+
+      -- what an end asks for, against the delivered head
+      served : Job → ℕ → Bool
+      served j i = leZ (pos (j .header .meter) +ℤ reachOf j (lossesOf j cat list) i) (pos (j .header .delivered))
+
+      served-same : (i : ℕ) → served (withVersion job version) i ≡ served job i
+      unfolding served reachOf parentOf withVersion
+      served-same i = ap (λ l. leZ (pos (job .header .meter) +ℤ reachOf job l i) (pos (job .header .delivered))) losses-same
+
+      pub suited-same : Suited (withVersion job version) cat list → Suited job cat list
+      unfolding served withVersion
+      suited-same s =
+          record {
+            sizes = sym listed-same ∙ s .sizes;
+            serves = sym any-same ∙ s .serves;
+            ends = λ i p q. sym (served-same i) ∙ s .ends i p q;
+          }
+
+      pub suited-back : Suited job cat list → Suited (withVersion job version) cat list
+      unfolding served withVersion
+      suited-back s =
+          record { sizes = listed-same ∙ s .sizes; serves = any-same ∙ s .serves; ends = λ i p q. served-same i ∙ s .ends i p q }
+
+  fields-same : fieldChecks (withVersion job version) ≡ fieldChecks job
+  unfolding withVersion
+  fields-same = checks-same (withVersion job version) job refl refl (λ i h k. refl)
+
+  demands-same : demandChecks (withVersion job version) ≡ demandChecks job
+  unfolding withVersion
+  demands-same = demand-checks-same (withVersion job version) job refl refl refl refl
+
+-- a header in version 2
+headerTwo : Header → Header
+headerTwo h =
     record {
-      version = version;
+      version = 2;
       service = h .service;
       tenths = h .tenths;
       sections = h .sections;
@@ -59,137 +182,9 @@ headerIn version h =
       limit = h .limit;
     }
 
-pub jobIn : ℕ → Job → Job
-jobIn version job = record { header = headerIn version (job .header); residents = job .residents; sections = job .sections }
-
-module _ (version : ℕ) (job : Job) where
-  -- the figures of the flow call and of the duty call
-  flow-same : (i : ℕ) → sectionFlow (jobIn version job) i ≡ sectionFlow job i
-  unfolding jobIn headerIn
-  flow-same i = section-flow-same (jobIn version job) job refl refl refl refl i
-
-  pub flow-bytes-same : flowBytes (jobIn version job) ≡ flowBytes job
-  unfolding flowBytes jobIn headerIn
-  flow-bytes-same =
-      rw (
-        hour-of-same (jobIn version job) job refl refl refl refl,
-        day-same (jobIn version job) job refl refl refl refl,
-        mean-same (jobIn version job) job refl refl refl refl refl,
-        concat-ext (countOf job) (λ i. bytesOf 4 (sectionFlow (jobIn version job) i)) (λ i. bytesOf 4 (sectionFlow job i)) (λ i p q. ap (bytesOf 4) (flow-same i)),
-      )
-
-  pub duty-bytes-same : dutyBytes (jobIn version job) ≡ dutyBytes job
-  unfolding dutyBytes jobIn headerIn
-  duty-bytes-same = rw (house-flow-same (jobIn version job) job refl refl refl refl)
-
-  -- heads over any losses
-  pub heads-bytes-same : (loss : ℕ → ℕ) → headsBytes (jobIn version job) loss ≡ headsBytes job loss
-  unfolding headsBytes requiredOf reachOf parentOf pumpAt dictatingOf jobIn headerIn
-  heads-bytes-same loss = refl
-
-  required-same : (loss : ℕ → ℕ) → requiredOf (jobIn version job) loss ≡ requiredOf job loss
-  unfolding requiredOf reachOf parentOf jobIn headerIn
-  required-same loss = refl
-
-  module _ (cat : List ℕ) where
-    reading-same : (s i : ℕ) → readingOf (jobIn version job) cat s i ≡ readingOf job cat s i
-    unfolding readingOf
-    reading-same s i = rw (flow-same i)
-
-    loss-same : (s i : ℕ) → lossAt (jobIn version job) cat s i ≡ lossAt job cat s i
-    unfolding lossAt jobIn headerIn
-    loss-same s i = rw (reading-same s i)
-
-    over-same : (s i : ℕ) → overAt (jobIn version job) cat s i ≡ overAt job cat s i
-    unfolding overAt jobIn headerIn
-    over-same s i = rw (reading-same s i)
-
-    module _ (list : List ℕ) where
-      velocities : Job → ℕ → ℕ
-      velocities j i = readingOf j cat (sizeOf list i) i .velocity
-
-      flows : Job → ℕ → ℕ
-      flows j i = sectionFlow j i
-
-      flows-same : flows (jobIn version job) ≡ flows job
-      unfolding flows
-      flows-same = fun-ext flow-same
-
-      velocities-same : velocities (jobIn version job) ≡ velocities job
-      unfolding velocities
-      velocities-same = fun-ext (λ i. ap (λ (r : SizeAtFlow). r .velocity) (reading-same (sizeOf list i) i))
-
-      losses-same : lossesOf (jobIn version job) cat list ≡ lossesOf job cat list
-      losses-same = fun-ext (λ i. loss-same (sizeOf list i) i)
-
-      pub listed-same : listOk (jobIn version job) cat list ≡ listOk job cat list
-      unfolding listOk jobIn headerIn
-      listed-same = refl
-
-      pub any-same : overAny (jobIn version job) cat list ≡ overAny job cat list
-      unfolding overAny jobIn headerIn
-      any-same = any-ext (countOf job) _ _ (λ i p q. over-same (sizeOf list i) i)
-
-      result-same : (velocity loss : ℕ → ℕ) → resultBytes (jobIn version job) velocity loss ≡ resultBytes job velocity loss
-      unfolding resultBytes headsBytes requiredOf reachOf parentOf pumpAt dictatingOf jobIn headerIn
-      result-same velocity loss = refl
-
-      figures-same : (flow velocity loss : ℕ → ℕ) → figuresBytes (jobIn version job) flow velocity loss ≡ figuresBytes job flow velocity loss
-      unfolding figuresBytes jobIn headerIn
-      figures-same flow velocity loss = refl
-
-      pub rate-bytes-same : rateBytes (jobIn version job) cat list ≡ rateBytes job cat list
-      unfolding rateBytes velocities
-      rate-bytes-same =
-          result-same (velocities (jobIn version job)) (lossesOf (jobIn version job) cat list) ∙
-          ap (λ v. resultBytes job v (lossesOf (jobIn version job) cat list)) velocities-same ∙
-          ap (λ l. resultBytes job (velocities job) l) losses-same
-
-      pub losses-bytes-same : lossesBytes (jobIn version job) cat list ≡ lossesBytes job cat list
-      unfolding lossesBytes velocities flows
-      losses-bytes-same =
-          figures-same (flows (jobIn version job)) (velocities (jobIn version job)) (lossesOf (jobIn version job) cat list) ∙
-          ap (λ f. figuresBytes job f (velocities (jobIn version job)) (lossesOf (jobIn version job) cat list)) flows-same ∙
-          ap (λ v. figuresBytes job (flows job) v (lossesOf (jobIn version job) cat list)) velocities-same ∙
-          ap (λ l. figuresBytes job (flows job) (velocities job) l) losses-same
-
-      pub cost-same : costOf (jobIn version job) cat list ≡ costOf job cat list
-      unfolding costOf priceAt jobIn headerIn
-      cost-same = refl
-
-      -- what an end asks for, against the delivered head
-      served : Job → ℕ → Bool
-      served j i = leZ (pos (j .header .meter) +ℤ reachOf j (lossesOf j cat list) i) (pos (j .header .delivered))
-
-      served-same : (i : ℕ) → served (jobIn version job) i ≡ served job i
-      unfolding served reachOf parentOf jobIn headerIn
-      served-same i = ap (λ l. leZ (pos (job .header .meter) +ℤ reachOf job l i) (pos (job .header .delivered))) losses-same
-
-      pub suited-same : Suited (jobIn version job) cat list → Suited job cat list
-      unfolding served jobIn headerIn
-      suited-same s =
-          record {
-            sizes = sym listed-same ∙ s .sizes;
-            serves = sym any-same ∙ s .serves;
-            ends = λ i p q. sym (served-same i) ∙ s .ends i p q;
-          }
-
-      pub suited-back : Suited job cat list → Suited (jobIn version job) cat list
-      unfolding served jobIn headerIn
-      suited-back s =
-          record { sizes = listed-same ∙ s .sizes; serves = any-same ∙ s .serves; ends = λ i p q. served-same i ∙ s .ends i p q }
-
-  fields-same : fieldChecks (jobIn version job) ≡ fieldChecks job
-  unfolding jobIn headerIn
-  fields-same = checks-same (jobIn version job) job refl refl (λ i h k. refl)
-
-  demands-same : demandChecks (jobIn version job) ≡ demandChecks job
-  unfolding jobIn headerIn
-  demands-same = demand-checks-same (jobIn version job) job refl refl refl refl
-
 -- 3 finds the same of a header of version 1 and service 0, and of the same in version 2
-header-ok-same : (h : Header) → h .version ≡ 1 → h .service ≡ 0 → headerOk (headerIn 2 h) ≡ headerOk h
-unfolding headerOk serviceOk headerIn
+header-ok-same : (h : Header) → h .version ≡ 1 → h .service ≡ 0 → headerOk (headerTwo h) ≡ headerOk h
+unfolding headerOk serviceOk headerTwo
 header-ok-same h one total = rw (one, total)
 
 -- each test by one more
@@ -200,7 +195,7 @@ eqb-more a b =
     (λ (n : a ≡ b → ⊥). ne-eqb (a + 1) (b + 1) (λ e. n (omega arith)) ∙ sym (ne-eqb a b n))
     (eq-or-ne a b)
 
-module _ {one two : List ℕ} (same : SameHouse one two) where
+module _ {one two : List ℕ} (same : Counterparts one two) where
   -- a field of the head, and one of a section
   head-field : (w j : ℕ) → 5 ≤ j → j + w ≤ 40 → beAt w two j ≡ beAt w one j
   head-field w j low high = be-same w two one j j (λ k h. same .head (j + k) (omega arith) (omega arith))
@@ -217,8 +212,8 @@ module _ {one two : List ℕ} (same : SameHouse one two) where
   service-of-two : serviceAt two ≡ 0
   service-of-two = service-two two (same .version-two) ∙ same .service
 
-  header-same : headerAt two ≡ headerIn 2 (headerAt one)
-  unfolding headerAt headerIn
+  header-same : headerAt two ≡ headerTwo (headerAt one)
+  unfolding headerAt headerTwo
   header-same =
       rw (
         same .version-two,
@@ -248,8 +243,8 @@ module _ {one two : List ℕ} (same : SameHouse one two) where
         section-field 2 (place + 8) (placeOf (versionAt two) i + 8) (omega arith) (omega arith),
       )
 
-  pub decode-same : decode two ≡ jobIn 2 (decode one)
-  unfolding decode jobIn residentsAt
+  pub decode-same : decode two ≡ withVersion (decode one) 2
+  unfolding decode withVersion residentsAt headerTwo
   decode-same =
       rw (
         header-same,
@@ -259,15 +254,15 @@ module _ {one two : List ℕ} (same : SameHouse one two) where
       )
 
   pub count-same : countOf (decode two) ≡ countOf (decode one)
-  unfolding jobIn headerIn
+  unfolding withVersion
   count-same = ap countOf decode-same
 
   length-same : (wrongLength two ≡ false) × (wrongLength one ≡ false)
   unfolding wrongLength
   length-same =
-      let some = same .some in (
+      let long = same .long in (
         rw (le-ltb (length two) 40 (omega (arith, same .longer)), eq-eqb (beAt 4 two 0) (length two) (same .stated-two)),
-        rw (le-ltb (length one) 40 some, eq-eqb (beAt 4 one 0) (length one) (same .stated-one)),
+        rw (le-ltb (length one) 40 long, eq-eqb (beAt 4 one 0) (length one) (same .stated-one)),
       )
 
   version-same : (wrongVersion two ≡ false) × (wrongVersion one ≡ false)

@@ -4,7 +4,7 @@ use mathlib.Core.Path.{_≡_, refl, ap, _∙_}
 use mathlib.Core.Logic.{⊎-elim}
 use mathlib.Core.Bool.{true, false}
 use mathlib.Core.List.{List, [], _∷_}
-use Prim.Native.Nat.{ℕ}
+use Prim.Native.Nat.{ℕ, _≤_}
 use native.Mathlib.Omega.{arith}
 use lib.IntN.{pos}
 use lib.ListN.{length}
@@ -48,9 +48,9 @@ use Rattle.sizing.proofs.Named.{list-long, list-names}
 use Rattle.acceptance.proofs.Accepting.{input-cat}
 use Rattle.choosing.specs.Suitable.{Suitable, priceAt, costOf}
 use Rattle.choosing.specs.Calls.{Ample, chooseChecks, chooseNo, chooseBytes, Chosen}
-use Rattle.demands.specs.OwnCase.{jobOf, ownCat, ownJob, job921, job920, OwnCase}
+use Rattle.demands.specs.OwnCase.{jobOf, ownCat, ownJob, job921, job920, lineOf, OwnCase}
 use Rattle.choosing.proofs.Ordering.{choose-ready}
-use Rattle.demands.specs.Lines.{renewed}
+use Rattle.demands.specs.HotAndCold.{inVersionTwo}
 
 -- size 1 is over the limit, whatever H is
 over-one : (high low : ℕ) → overAny (decode (jobOf high low)) ownCat (1 ∷ []) ≡ true
@@ -120,9 +120,21 @@ module _ {out₀ work₀ : List ℕ} where
   gives-16 a c =
       ⊎-elim (λ u. u .number) (λ f. absurd (none-suits (f .list) (f .suits))) (c .chosen (ready job920 (computed .accepted-920) a))
 
+-- a list for one line has one size, and size 1 is the cheaper
+line-least : (service : ℕ) (y : List ℕ) → Suitable (decode (lineOf service)) ownCat y → 90000 ≤ costOf (decode (lineOf service)) ownCat y
+unfolding decode headerAt computed
+line-least service [] s = absurd (omega (arith, list-long (decode (lineOf service)) ownCat [] (s .sizes)))
+line-least service (x ∷ []) s =
+    let w = list-names (decode (lineOf service)) ownCat (x ∷ []) (s .sizes) 1 (omega arith) (omega arith) in
+    ⊎-elim
+    (λ (e : x ≡ 2). rw e (omega arith))
+    (λ (n : x ≡ 2 → ⊥). let e : x ≡ 1 = omega arith in rw e (omega arith))
+    (eq-or-ne x 2)
+line-least service (x ∷ z ∷ l) s = absurd (omega (arith, list-long (decode (lineOf service)) ownCat (x ∷ z ∷ l) (s .sizes)))
+
 -- the rest is computed too, but for the statements over every list and over the call
 pub own-case : OwnCase
-unfolding computed dayNorms hourlySumOf hourOf dayOf meanOf clamped pumpAt lowestTo dictatingOf copyChecks copyNo flowNo dutyNo meterAt meterOk metersOk meterLoss mostLoss qualifies noneQualifies leastAt winnerOf stored meteredRecord meterBytes meterNo inputChecks sizedChecks sizedNo bitsOf concatTo headsBytes figuresBytes lossesBytes lossIn lossesOk headsNo chooseChecks chooseNo wattsOf hotJob heatOk heatBytes heatNo renewed
+unfolding computed dayNorms hourlySumOf hourOf dayOf meanOf clamped pumpAt lowestTo dictatingOf copyChecks copyNo flowNo dutyNo meterAt meterOk metersOk meterLoss mostLoss qualifies noneQualifies leastAt winnerOf stored meteredRecord meterBytes meterNo inputChecks sizedChecks sizedNo bitsOf concatTo headsBytes figuresBytes lossesBytes lossIn lossesOk headsNo chooseChecks chooseNo wattsOf hotJob heatOk heatBytes heatNo inVersionTwo
 own-case =
     record {
       job = computed .own;
@@ -169,7 +181,7 @@ own-case =
       over-loss = refl;
       losses-list = refl;
       heads-room = refl;
-      renewed-own = refl;
+      own-in-two = refl;
       lines-accepted = (refl, refl, refl);
       line-flows = (refl, refl, refl);
       line-hours = (refl, refl, refl);
@@ -177,12 +189,17 @@ own-case =
       line-means = (refl, refl, refl);
       heat-given = refl;
       heat-bytes = refl;
-      heat-cold = refl;
-      heat-warm = refl;
-      heat-lost = refl;
+      heat-not-hot = refl;
+      heat-temperature = refl;
+      heat-loss = refl;
       heat-room = refl;
       service-three = refl;
       parent-three = refl;
+      ends-early = (refl, refl);
+      cold-suits = record { sizes = refl; serves = refl; reaches = refl };
+      hot-suits = record { sizes = refl; serves = refl; reaches = refl };
+      line-costs = (refl, refl);
+      line-least = line-least;
       job-921 = computed .accepted-921;
       suits-921 = computed .suits;
       cost-921 = refl;

@@ -4,5 +4,5 @@ pub mod Demand3
 pub mod Metering
 pub mod OneTap
 pub mod InTurn
-pub mod Lines
+pub mod HotAndCold
 pub mod OwnCase

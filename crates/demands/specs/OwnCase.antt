@@ -22,7 +22,7 @@ use Rattle.rating.specs.Calls.{rateNo, lossesNo, lossesBytes}
 use Rattle.lent_losses.specs.Calls.{headsNo, lentBytes}
 use Rattle.choosing.specs.Suitable.{Suitable, costOf}
 use Rattle.choosing.specs.Calls.{Ample, chooseNo, Chosen}
-use Rattle.demands.specs.Lines.{renewed}
+use Rattle.demands.specs.HotAndCold.{inVersionTwo}
 
 -- the job's bytes, with the two of H left open: head, residents and the one section
 abbrev pub jobOf : ℕ → ℕ → List ℕ
@@ -55,6 +55,12 @@ lineOf service =
     0 ∷ 0 ∷ 0 ∷ 0 ∷ 0 ∷ 0 ∷ 0 ∷ 0 ∷ 0 ∷ 0 ∷ 0 ∷ 0 ∷ 0 ∷ 71 ∷ 0 ∷ 0 ∷ 0 ∷ 0 ∷ 0 ∷ 0 ∷ 0 ∷ 0 ∷ 0 ∷ 0 ∷
     service ∷
     0 ∷ 7 ∷ 0 ∷ 80 ∷ 0 ∷ 100 ∷ 2 ∷ 88 ∷ 0 ∷ 200 ∷ []
+
+-- its head alone, which states 40 bytes
+abbrev pub headAlone : ℕ → List ℕ
+headAlone tenths =
+    0 ∷ 0 ∷ 0 ∷ 40 ∷ 2 ∷ tenths ∷ 1 ∷ 24 ∷ 0 ∷ 50 ∷ 1 ∷ 244 ∷ 4 ∷ 176 ∷ 5 ∷ 220 ∷
+    0 ∷ 0 ∷ 0 ∷ 0 ∷ 0 ∷ 0 ∷ 0 ∷ 0 ∷ 0 ∷ 0 ∷ 0 ∷ 0 ∷ 0 ∷ 71 ∷ 0 ∷ 0 ∷ 0 ∷ 0 ∷ 0 ∷ 0 ∷ 0 ∷ 0 ∷ 0 ∷ 0 ∷ []
 
 -- a turbine meter of resistance 5,938 and two vane meters of 6,000 and 5,000; the service flow is 512 more than its low byte
 abbrev pub metersOf : ℕ → List ℕ
@@ -146,7 +152,7 @@ pub record OwnCase : Type 0 where
   pub losses-list : headsNo ownJob (0 ∷ lossAlone 0 71) 8 ≡ 19
   pub heads-room : headsNo ownJob (lossAlone 0 71) 8 ≡ 14
   -- document 02, L4: the house in version 2 has the fields of version 1 where its service is total
-  pub renewed-own : renewed ownJob ≡ lineOf 0
+  pub own-in-two : inVersionTwo ownJob ≡ lineOf 0
   -- it is accepted as total, as its cold line and as its hot line, and has these flows in ml/s, hours in l/h, days in l and mean hours in l/h
   pub lines-accepted : (jobNo (lineOf 0) ≡ 0) × (jobNo (lineOf 1) ≡ 0) × (jobNo (lineOf 2) ≡ 0)
   pub line-flows : (sectionFlow (decode (lineOf 0)) 1 ≡ 2052) × (sectionFlow (decode (lineOf 1)) 1 ≡ 1112) × (sectionFlow (decode (lineOf 2)) 1 ≡ 1206)
@@ -157,13 +163,20 @@ pub record OwnCase : Type 0 where
   pub heat-given : heatNo (lineOf 2) 5 1200 8 ≡ 0
   pub heat-bytes : heatBytes (decode (lineOf 2)) 5 1200 ≡ 0 ∷ 0 ∷ 105 ∷ 72 ∷ 0 ∷ 2 ∷ 87 ∷ 48 ∷ []
   -- the cold line is not heated, which is found before 31 °C, which is found before seven bytes of room
-  pub heat-cold : heatNo (lineOf 1) 31 1200 7 ≡ 20
-  pub heat-warm : heatNo (lineOf 2) 31 1200 7 ≡ 21
-  pub heat-lost : heatNo (lineOf 2) 30 1000001 7 ≡ 21
+  pub heat-not-hot : heatNo (lineOf 1) 31 1200 7 ≡ 20
+  pub heat-temperature : heatNo (lineOf 2) 31 1200 7 ≡ 21
+  pub heat-loss : heatNo (lineOf 2) 30 1000001 7 ≡ 21
   pub heat-room : heatNo (lineOf 2) 30 1000000 7 ≡ 14
   -- there is no service 3; in version 1 byte 40 is a section's parent
   pub service-three : jobNo (lineOf 3) ≡ 3
   pub parent-three : jobNo (stored ownJob 40 (3 ∷ [])) ≡ 5
+  -- a record that ends before its service byte is 4, and 3 with a head field out of range
+  pub ends-early : (jobNo (headAlone 3) ≡ 4) × (jobNo (headAlone 4) ≡ 3)
+  -- size 1 suits the cold line and the hot line, at 90,000, and nobody can spend less
+  pub cold-suits : Suitable (decode (lineOf 1)) ownCat (1 ∷ [])
+  pub hot-suits : Suitable (decode (lineOf 2)) ownCat (1 ∷ [])
+  pub line-costs : (costOf (decode (lineOf 1)) ownCat (1 ∷ []) ≡ 90000) × (costOf (decode (lineOf 2)) ownCat (1 ∷ []) ≡ 90000)
+  pub line-least : (service : ℕ) (y : List ℕ) → Suitable (decode (lineOf service)) ownCat y → 90000 ≤ costOf (decode (lineOf service)) ownCat y
   -- the job with H 921 is accepted
   pub job-921 : jobNo job921 ≡ 0
   -- size 2 suits it

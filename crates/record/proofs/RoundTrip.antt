@@ -2,7 +2,7 @@
 -- Assumes nothing.
 use mathlib.Core.Path.{_≡_, refl, sym, ap, _∙_}
 use mathlib.Core.Logic.{⊎-elim}
-use mathlib.Core.List.{List, [], _∷_, _++_, append-assoc, append-nil}
+use mathlib.Core.List.{List, [], _∷_, _++_, append-nil}
 use Prim.Native.Nat.{ℕ, _+_, _-_, _*_, _≤_, _<_}
 use native.Mathlib.Omega.{arith}
 use native.Mathlib.Nat.{add-zero}
@@ -13,7 +13,7 @@ use Rattle.basis.specs.Range.{concatTo}
 use Rattle.basis.specs.Slots.{tabulate}
 use Rattle.basis.specs.Part.{part}
 use Rattle.basis.proofs.Split.{eq-or-ne}
-use Rattle.basis.proofs.Part.{part-cons, part-next, part-then, part-all, part-at, part-right}
+use Rattle.basis.proofs.Part.{part-cons, part-next, part-then, part-all, part-at}
 use Rattle.basis.proofs.Concat.{concat-ext, concat-within, parts-concat}
 use Rattle.basis.proofs.Slots.{tabulate-at, tabulated, slots-in, slots-ext}
 use Rattle.wire.specs.Wire.{byteAt, beAt, bytesOf, bitsOf}

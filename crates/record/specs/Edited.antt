@@ -33,7 +33,27 @@ pub record SameBut (at width : ℕ) (b e : List ℕ) : Type 0 where
   pub long : length e ≡ length b
   pub bytes : (j : ℕ) → (at ≤ j → j < at + width → ⊥) → byteAt e j ≡ byteAt b j
 
--- the job with another meter loss, other residents of a kind, another section i
+-- the job in another version
+unfoldable pub withVersion : Job → ℕ → Job
+withVersion job version =
+    record {
+      header =
+          record {
+            version = version;
+            service = job .header .service;
+            tenths = job .header .tenths;
+            sections = job .header .sections;
+            hours = job .header .hours;
+            meter = job .header .meter;
+            guaranteed = job .header .guaranteed;
+            delivered = job .header .delivered;
+            limit = job .header .limit;
+          };
+      residents = job .residents;
+      sections = job .sections;
+    }
+
+-- with another meter loss, other residents of a kind, another section i
 unfoldable pub withMeter : Job → ℕ → Job
 withMeter job n =
     record {

@@ -19,7 +19,7 @@ use Rattle.fields.specs.Fields.{blankSection, countOf, sectionOf, residentsOf}
 unfoldable pub sectionsFrom : ℕ → ℕ
 sectionsFrom version = cond (eqb version 2) 41 40
 
--- the length of a record of S sections
+-- the length of a record of a version with S sections
 abbrev pub lengthOf : ℕ → ℕ → ℕ
 lengthOf version count = sectionsFrom version + 10 * count
 
@@ -31,7 +31,7 @@ placeOf version i = sectionsFrom version + 10 * (i - 1)
 abbrev pub versionAt : List ℕ → ℕ
 versionAt b = byteAt b 4
 
--- the service: byte 40 in version 2; version 1 means total
+-- the service: byte 40 in version 2, and 0 in a record that ends before it, which 4 refuses; version 1 means total
 unfoldable pub serviceAt : List ℕ → ℕ
 serviceAt b = cond (eqb (versionAt b) 2) (byteAt b 40) 0
 
@@ -117,6 +117,7 @@ pub record SectionFits (s : Section) : Type 0 where
   pub free : s .free < 65536
 
 pub record HeadFits (h : Header) : Type 0 where
+  -- without version 2 there is no byte for the service, so it is total
   pub total : (h .version ≡ 2 → ⊥) → h .service ≡ 0
   pub meter : h .meter < 65536
   pub guaranteed : h .guaranteed < 65536

@@ -1,6 +1,5 @@
 -- `heating::watts` meets its contract: the products and the sum fit, by the bound of the litres.
 -- Assumes nothing.
-use mathlib.Core.Path.{_≡_}
 use Prim.Native.Nat.{_-_, _*_, _≤_}
 use native.Mathlib.Omega.{arith}
 use borrow.Author.Needs.{needs}

@@ -13,7 +13,7 @@ use Rattle.norms.specs.declared.Norm.{Norm}
 use Rattle.norms.specs.Norms.{normOf, totalColdHot, totalEither, dayNorms, hourNorms, fixtureNorms, hourlyNorms}
 
 -- what residents use is shared out between the lines, and a fixture's norm is the same for either
-pub record Lines (total cold hot : Norm) : Type 0 where
+pub record Services (total cold hot : Norm) : Type 0 where
   pub day : cold .day + hot .day ≡ total .day
   pub hour : cold .hour + hot .hour ≡ total .hour
   pub fixture : cold .fixture ≡ hot .fixture
@@ -24,8 +24,8 @@ shared total cold hot =
     eqb (cold .day + hot .day) (total .day) &&
     (eqb (cold .hour + hot .hour) (total .hour) && (eqb (cold .fixture) (hot .fixture) && eqb (cold .hourly) (hot .hourly)))
 
-lines-of-shared : (total cold hot : Norm) → shared total cold hot ≡ true → Lines total cold hot
-lines-of-shared total cold hot e =
+services-of-shared : (total cold hot : Norm) → shared total cold hot ≡ true → Services total cold hot
+services-of-shared total cold hot e =
     let e₁ = right (eqb (cold .day + hot .day) (total .day)) _ e in
     let e₂ = right (eqb (cold .hour + hot .hour) (total .hour)) _ e₁ in
     record {
@@ -39,9 +39,9 @@ all-shared : allTo 12 (λ kind. shared (normOf 0 kind) (normOf 1 kind) (normOf 2
 unfolding allTo tabulate normOf totalColdHot totalEither dayNorms hourNorms fixtureNorms hourlyNorms
 all-shared = refl
 
-pub lines : (kind : ℕ) → 0 < kind → kind ≤ 12 → Lines (normOf 0 kind) (normOf 1 kind) (normOf 2 kind)
-lines kind a b =
-    lines-of-shared (normOf 0 kind) (normOf 1 kind) (normOf 2 kind)
+pub services : (kind : ℕ) → 0 < kind → kind ≤ 12 → Services (normOf 0 kind) (normOf 1 kind) (normOf 2 kind)
+services kind a b =
+    services-of-shared (normOf 0 kind) (normOf 1 kind) (normOf 2 kind)
     (all-at 12 (λ k. shared (normOf 0 k) (normOf 1 k) (normOf 2 k)) all-shared kind a b)
 
 -- hot litres on the greatest day for one resident of each kind

@@ -9,10 +9,10 @@ use lib.Seq.{getD-append-add, getD-drop}
 use Rattle.basis.specs.Part.{part}
 use Rattle.basis.proofs.Part.{part-length, part-at}
 use Rattle.wire.specs.Wire.{byteAt, beAt, bytesOf}
-use Rattle.wire.proofs.Fields.{be-bytes, bytes-length}
-use Rattle.demands.specs.Lines.{SameHouse, renewed}
+use Rattle.wire.proofs.Fields.{be-bytes}
+use Rattle.demands.specs.HotAndCold.{Counterparts, inVersionTwo}
 
-module _ (b : List ℕ) (some : 40 ≤ length b) where
+module _ (b : List ℕ) (enough : 40 ≤ length b) where
   -- length and version, and what follows
   first : List ℕ
   first = bytesOf 4 (length b + 1) ++ (2 ∷ [])
@@ -20,8 +20,8 @@ module _ (b : List ℕ) (some : 40 ≤ length b) where
   rest : List ℕ
   rest = part b 5 35 ++ (0 ∷ drop 40 b)
 
-  parts : renewed b ≡ first ++ rest
-  unfolding renewed first rest bytesOf
+  parts : inVersionTwo b ≡ first ++ rest
+  unfolding inVersionTwo first rest bytesOf
   parts = refl
 
   five : length first ≡ 5
@@ -31,21 +31,21 @@ module _ (b : List ℕ) (some : 40 ≤ length b) where
   head-long : length (part b 5 35) ≡ 35
   head-long = part-length b 5 35 (omega arith)
 
-  behind : (k : ℕ) → byteAt (renewed b) (5 + k) ≡ byteAt rest k
+  behind : (k : ℕ) → byteAt (inVersionTwo b) (5 + k) ≡ byteAt rest k
   behind k = rw parts (rw five at (getD-append-add first rest k 0))
 
   last : (k : ℕ) → byteAt rest (35 + k) ≡ byteAt (0 ∷ drop 40 b) k
   unfolding rest
   last k = rw head-long at (getD-append-add (part b 5 35) (0 ∷ drop 40 b) k 0)
 
-  head-byte : (j : ℕ) → 5 ≤ j → j < 40 → byteAt (renewed b) j ≡ byteAt b j
+  head-byte : (j : ℕ) → 5 ≤ j → j < 40 → byteAt (inVersionTwo b) j ≡ byteAt b j
   unfolding rest
   head-byte j low high =
       let e : 5 + (j - 5) ≡ j = omega arith in
       let short : j - 5 < length (part b 5 35) = rw head-long (omega arith) in
       rw e at (behind (j - 5) ∙ List·getD-append (part b 5 35) (0 ∷ drop 40 b) 0 (j - 5) short ∙ part-at b 5 35 (j - 5) (omega arith))
 
-  section-byte : (j : ℕ) → 40 ≤ j → byteAt (renewed b) (j + 1) ≡ byteAt b j
+  section-byte : (j : ℕ) → 40 ≤ j → byteAt (inVersionTwo b) (j + 1) ≡ byteAt b j
   section-byte j h =
       let k = j - 40 in
       let at : 5 + (35 + (1 + k)) ≡ j + 1 = omega arith in
@@ -55,19 +55,19 @@ module _ (b : List ℕ) (some : 40 ≤ length b) where
       getD-append-add (0 ∷ []) (drop 40 b) k 0 ∙
       (rw back at (getD-drop 40 b k 0))
 
-  long : length (renewed b) ≡ length b + 1
+  one-more : length (inVersionTwo b) ≡ length b + 1
   unfolding rest
-  long =
+  one-more =
       rw (parts, length-append first rest, five, length-append (part b 5 35) (0 ∷ drop 40 b), head-long, length-drop 40 b) (omega arith)
 
-  pub renewable : length b < 4294967295 → beAt 4 b 0 ≡ length b → byteAt b 4 ≡ 1 → SameHouse b (renewed b)
-  unfolding renewed bytesOf
-  renewable fits stated one =
+  pub counterpart : length b < 4294967295 → beAt 4 b 0 ≡ length b → byteAt b 4 ≡ 1 → Counterparts b (inVersionTwo b)
+  unfolding inVersionTwo bytesOf
+  counterpart fits stated one =
       record {
-        some = some;
-        longer = long;
+        long = enough;
+        longer = one-more;
         stated-one = stated;
-        stated-two = be-bytes 4 (length b + 1) _ (omega arith) ∙ sym long;
+        stated-two = be-bytes 4 (length b + 1) _ (omega arith) ∙ sym one-more;
         version-one = one;
         version-two = refl;
         service = behind 35 ∙ last 0;

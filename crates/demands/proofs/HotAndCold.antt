@@ -1,82 +1,122 @@
--- L4: norms that add up, the two versions of a record alike, and the figures of the heat call.
+-- Hot and cold lines: norms that add up, the two versions of a record alike, and the figures of the heat call.
 -- Assumes nothing.
-use mathlib.Core.Path.{_≡_, refl, sym, ap, _∙_}
+use mathlib.Core.Path.{_≡_, sym, ap, _∙_}
 use mathlib.Core.Logic.{⊎-elim}
+use mathlib.Core.Bool.{true, false}
 use mathlib.Core.List.{List, _++_, append-assoc}
-use Prim.Native.Nat.{ℕ, _+_, _≤_, _<_}
+use Prim.Native.Nat.{ℕ, _+_, _≤_}
 use native.Mathlib.Omega.{arith}
 use lib.ListN.{length, drop}
-use Rattle.basis.proofs.Split.{eq-or-ne}
+use borrow.Author.Tests.{eq-eqb}
+use Rattle.basis.proofs.Split.{either, eq-or-ne}
 use Rattle.basis.proofs.Stored.{stored-front}
-use Rattle.answer.specs.Checks.{firstNo, tooShort}
+use Rattle.answer.specs.Checks.{firstNo}
 use Rattle.wire.specs.Wire.{byteAt, beAt, bytesOf}
 use Rattle.wire.proofs.Fields.{be-written}
 use Rattle.fields.specs.Fields.{serviceOf, countOf}
 use Rattle.record.specs.Record.{headerAt, decode}
 use Rattle.record.proofs.Service.{service-other}
-use Rattle.norms.proofs.Lines.{lines as norm-lines}
+use Rattle.norms.proofs.Services.{services}
 use Rattle.demand.specs.Demand.{hourOf, meanOf, Accepted}
 use Rattle.demand.proofs.DesignFlows.{house-hour-top}
-use Rattle.acceptance.specs.Acceptance.{jobChecks, jobNo, inputChecks, inputNo}
+use Rattle.acceptance.specs.Acceptance.{jobNo, inputChecks, inputNo}
 use Rattle.acceptance.proofs.Accepting.{input-both, accept-accepted}
-use Rattle.flow.specs.Calls.{flowNo, dutyNo}
+use Rattle.flow.specs.Calls.{flowLength, flowNo, dutyNo}
+use Rattle.flow.proofs.Ordering.{flow-refused, flow-done, duty-refused, duty-done}
 use Rattle.heating.specs.Heat.{wattsOf}
 use Rattle.heating.specs.Calls.{heatBytes}
 use Rattle.heating.proofs.Ordering.{Clear, heat-clear, heat-done, in-heat}
 use Rattle.heating.proofs.HeatBounds.{watts-top, hot-mean-top}
-use Rattle.rating.specs.Calls.{sizedNo, sizedChecks, rateNo, lossesNo, rateBytes, lossesBytes}
-use Rattle.lent_losses.specs.LentLosses.{lossIn}
+use Rattle.rated_bytes.specs.RatedBytes.{rateLength, lossesLength, headsLength}
+use Rattle.rating.proofs.Ordering.{sized-same}
+use Rattle.rating.specs.Calls.{sizedNo, sizedChecks, rateNo, lossesNo}
+use Rattle.lent_losses.specs.LentLosses.{lossIn, lossesOk}
 use Rattle.lent_losses.specs.Calls.{headsNo}
+use Rattle.lent_losses.proofs.Ordering.{heads-refused, heads-listed, heads-done}
 use Rattle.choosing.specs.Suitable.{costOf}
-use Rattle.choosing.specs.Calls.{Ample, chooseNo, Chosen}
+use Rattle.choosing.specs.Calls.{Ample, Chosen}
 use Rattle.choosing.proofs.Ordering.{choose-inputs}
 use Rattle.order.specs.Promises.{Gives, HeatGiven}
 use Rattle.demands.specs.Demand2.{Bytes}
 use Rattle.demands.specs.Demand3.{Suited, returnedList, reported, Returned, SixteenOrList}
-use Rattle.demands.specs.Lines.{SameHouse, SameGiven, VersionsAlike, HeatFigures, Lines}
+use Rattle.demands.specs.HotAndCold.{Counterparts, SameGiven, VersionsAlike, HeatFigures, HotAndCold}
 use Rattle.demands.proofs.Demand3.{demand-3}
 use Rattle.demands.proofs.Flows.{residents-top}
-use Rattle.demands.proofs.Renewed.{renewable}
+use Rattle.demands.proofs.Counterpart.{counterpart}
 use Rattle.demands.proofs.Versions.{flow-bytes-same, duty-bytes-same, heads-bytes-same, rate-bytes-same, losses-bytes-same, listed-same, any-same, cost-same, suited-same, suited-back, decode-same, count-same, jobs-same}
 
--- two calls of one number and one result, with one buffer
-given-same : {no no′ : ℕ} {bytes bytes′ out₀ out out′ : List ℕ} {n n′ : ℕ} → no′ ≡ no → bytes′ ≡ bytes →
-    Gives no bytes out₀ out n → Gives no′ bytes′ out₀ out′ n′ → SameGiven out out′ n n′
-given-same {no} {no′} {bytes} {bytes′} {out₀} {out} {out′} {n} {n′} e f g g′ =
+-- two calls of one number and one result
+given-same : {no no′ : ℕ} {bytes bytes′ out₀ out out₀′ out′ : List ℕ} {n n′ : ℕ} → no′ ≡ no → bytes′ ≡ bytes →
+    Gives no bytes out₀ out n → Gives no′ bytes′ out₀′ out′ n′ → SameGiven out₀ out out₀′ out′ n n′
+given-same {no} {no′} {bytes} {bytes′} {out₀} {out} {out₀′} {out′} {n} {n′} e f g g′ =
     let number : n′ ≡ n = g′ .number ∙ e ∙ sym (g .number) in
-    record { number = number; bytes = g′ .buffer ∙ rw (number, f) (sym (g .buffer)) }
+    record {
+      number = number;
+      result = bytes;
+      first = λ none. g .buffer ∙ rw (eq-eqb n 0 none);
+      second = λ none. g′ .buffer ∙ rw (eq-eqb n′ 0 (number ∙ none), f);
+    }
 
-module _ {one two : List ℕ} (same : SameHouse one two) where
+module _ {one two : List ℕ} (same : Counterparts one two) where
   number-same : jobNo two ≡ jobNo one
   unfolding jobNo
   number-same = ap firstNo (jobs-same same)
+
+  refused-too : (jobNo one ≡ 0 → ⊥) → jobNo two ≡ 0 → ⊥
+  refused-too n e = n (sym number-same ∙ e)
+
+  -- both rooms do for a result of so many bytes, where the job is accepted
+  abbrev Fits : ℕ → ℕ → ℕ → Type 0
+  Fits bytes room room′ = jobNo one ≡ 0 → (bytes ≤ room) × (bytes ≤ room′)
+
+  sized-same-job : (cat list : List ℕ) (room long : ℕ) → sizedNo two cat list room long ≡ sizedNo one cat list room long
+  unfolding sizedNo sizedChecks inputChecks
+  sized-same-job cat list room long =
+      rw (jobs-same same, decode-same same, listed-same 2 (decode one) cat list, any-same 2 (decode one) cat list)
 
   input-same : (cat : List ℕ) → inputNo two cat ≡ inputNo one cat
   unfolding inputNo inputChecks
   input-same cat = rw (jobs-same same)
 
-  flow-number : (room : ℕ) → flowNo two room ≡ flowNo one room
-  unfolding flowNo
-  flow-number room = rw (jobs-same same, count-same same)
+  -- the number of each call, with any two buffers that are long enough
+  flow-number : (room room′ : ℕ) → Fits (flowLength (countOf (decode one))) room room′ → flowNo two room′ ≡ flowNo one room
+  flow-number room room′ fits =
+      ⊎-elim
+      (λ (e : jobNo one ≡ 0).
+      flow-done two room′ (number-same ∙ e) (rw (count-same same) (fits e .1)) ∙ sym (flow-done one room e (fits e .0)))
+      (λ (n : jobNo one ≡ 0 → ⊥). flow-refused two room′ (refused-too n) ∙ number-same ∙ sym (flow-refused one room n))
+      (eq-or-ne (jobNo one) 0)
 
-  duty-number : (room : ℕ) → dutyNo two room ≡ dutyNo one room
-  unfolding dutyNo
-  duty-number room = rw (jobs-same same)
+  duty-number : (room room′ : ℕ) → Fits 4 room room′ → dutyNo two room′ ≡ dutyNo one room
+  duty-number room room′ fits =
+      ⊎-elim
+      (λ (e : jobNo one ≡ 0). duty-done two room′ (number-same ∙ e) (fits e .1) ∙ sym (duty-done one room e (fits e .0)))
+      (λ (n : jobNo one ≡ 0 → ⊥). duty-refused two room′ (refused-too n) ∙ number-same ∙ sym (duty-refused one room n))
+      (eq-or-ne (jobNo one) 0)
 
-  heads-number : (losses : List ℕ) (room : ℕ) → headsNo two losses room ≡ headsNo one losses room
-  unfolding headsNo
-  heads-number losses room = rw (jobs-same same, count-same same)
+  heads-number : (losses : List ℕ) (room room′ : ℕ) → Fits headsLength room room′ → headsNo two losses room′ ≡ headsNo one losses room
+  heads-number losses room room′ fits =
+      ⊎-elim
+      (λ (e : jobNo one ≡ 0). ⊎-elim
+      (λ (ok : lossesOk (countOf (decode one)) losses ≡ true).
+      heads-done two losses room′ (number-same ∙ e) (rw (count-same same) ok) (fits e .1) ∙ sym (heads-done one losses room e ok (fits e .0)))
+      (λ (not-ok : lossesOk (countOf (decode one)) losses ≡ false).
+      heads-listed two losses room′ (number-same ∙ e) (rw (count-same same) not-ok) ∙ sym (heads-listed one losses room e not-ok))
+      (either (lossesOk (countOf (decode one)) losses)))
+      (λ (n : jobNo one ≡ 0 → ⊥). heads-refused two losses room′ (refused-too n) ∙ number-same ∙ sym (heads-refused one losses room n))
+      (eq-or-ne (jobNo one) 0)
 
-  sized-number : (cat list : List ℕ) (room long : ℕ) → sizedNo two cat list room long ≡ sizedNo one cat list room long
-  unfolding sizedNo sizedChecks inputChecks
-  sized-number cat list room long =
-      rw (jobs-same same, decode-same same, listed-same 2 (decode one) cat list, any-same 2 (decode one) cat list)
+  sized-number : (cat list : List ℕ) (long room room′ : ℕ) → Fits long room room′ → sizedNo two cat list room′ long ≡ sizedNo one cat list room long
+  sized-number cat list long room room′ fits =
+      sized-same-job cat list room′ long ∙
+      sized-same one cat list room′ long room long (λ e. fits (input-both one cat e .0) .1) (λ e. fits (input-both one cat e .0) .0)
 
-  rate-number : (cat list : List ℕ) (room : ℕ) → rateNo two cat list room ≡ rateNo one cat list room
-  rate-number cat list room = rw (count-same same) (sized-number cat list room _)
+  rate-number : (cat list : List ℕ) (room room′ : ℕ) → Fits (rateLength (countOf (decode one))) room room′ → rateNo two cat list room′ ≡ rateNo one cat list room
+  rate-number cat list room room′ fits = rw (count-same same) (sized-number cat list _ room room′ fits)
 
-  losses-number : (cat list : List ℕ) (room : ℕ) → lossesNo two cat list room ≡ lossesNo one cat list room
-  losses-number cat list room = rw (count-same same) (sized-number cat list room _)
+  losses-number : (cat list : List ℕ) (room room′ : ℕ) → Fits (lossesLength (countOf (decode one))) room room′ →
+      lossesNo two cat list room′ ≡ lossesNo one cat list room
+  losses-number cat list room room′ fits = rw (count-same same) (sized-number cat list _ room room′ fits)
 
   -- a list suits both or neither, at one cost
   suits-one : (cat list : List ℕ) → Suited (decode two) cat list → Suited (decode one) cat list
@@ -137,12 +177,13 @@ module _ {one two : List ℕ} (same : SameHouse one two) where
   alike : VersionsAlike one two
   alike =
       record {
+        fields = decode-same same;
         number = number-same;
-        flow = λ g g′. given-same (flow-number _) (rw (decode-same same) (flow-bytes-same 2 (decode one))) g g′;
-        duty = λ g g′. given-same (duty-number _) (rw (decode-same same) (duty-bytes-same 2 (decode one))) g g′;
-        losses = λ cat sizes g g′. given-same (losses-number cat sizes _) (rw (decode-same same) (losses-bytes-same 2 (decode one) cat sizes)) g g′;
-        heads = λ losses g g′. given-same (heads-number losses _) (rw (decode-same same) (heads-bytes-same 2 (decode one) (lossIn losses))) g g′;
-        rate = λ cat sizes g g′. given-same (rate-number cat sizes _) (rw (decode-same same) (rate-bytes-same 2 (decode one) cat sizes)) g g′;
+        flow = λ room g g′. given-same (flow-number _ _ room) (rw (decode-same same) (flow-bytes-same 2 (decode one))) g g′;
+        duty = λ room g g′. given-same (duty-number _ _ room) (rw (decode-same same) (duty-bytes-same 2 (decode one))) g g′;
+        losses = λ cat sizes room g g′. given-same (losses-number cat sizes _ _ room) (rw (decode-same same) (losses-bytes-same 2 (decode one) cat sizes)) g g′;
+        heads = λ losses room g g′. given-same (heads-number losses _ _ room) (rw (decode-same same) (heads-bytes-same 2 (decode one) (lossIn losses))) g g′;
+        rate = λ cat sizes room g g′. given-same (rate-number cat sizes _ _ room) (rw (decode-same same) (rate-bytes-same 2 (decode one) cat sizes)) g g′;
         choose = λ cat a a′ c c′. chosen-same cat a a′ c c′;
       }
 
@@ -180,14 +221,14 @@ total : (b : List ℕ) → byteAt b 4 ≡ 1 → serviceOf (decode b) ≡ 0
 unfolding decode headerAt
 total b e = service-other b (λ two. omega arith)
 
-pub lines : Lines
-lines =
+pub hot-and-cold : HotAndCold
+hot-and-cold =
     record {
-      days = λ kind p q. norm-lines kind p q .day;
-      hours = λ kind p q. norm-lines kind p q .hour;
-      fixtures = λ kind p q. (norm-lines kind p q .fixture, norm-lines kind p q .hourly);
+      day-norms = λ kind p q. services kind p q .day;
+      hour-norms = λ kind p q. services kind p q .hour;
+      either-line = λ kind p q. (services kind p q .fixture, services kind p q .hourly);
       total = total;
-      renewable = λ b some fits stated one. renewable b some fits stated one;
+      counterpart = λ b long fits stated one. counterpart b long fits stated one;
       alike = λ one two same. alike same;
       heat-given = λ b t loss room e hot low few fits. heat-done b t loss room e hot (in-heat t loss (record { cold = low; lost = few })) fits;
       heat = λ job t loss out₀ out bytes g. heat-figures job t loss out₀ out g bytes;
