@@ -22,7 +22,7 @@ use Rattle.record.specs.Record.{sectionsFrom, serviceAt, headerAt, residentsAt,
 use Rattle.tree.specs.Tree.{parentOf, reaches, below, ownOf, servedOf, houseOf}
 use Rattle.rules.specs.Rules.{versionOk, serviceOk, headerOk, kindOk, elevationOk, sectionOk, sectionsOk, childless, childlessZero, unmatched, fieldChecks}
 use Rattle.job.specs.Calls.{wrongLength, wrongVersion, wrongCount, shapeChecks, readChecks, copyChecks, copyNo}
-use Rattle.norms.specs.Norms.{totalColdHot, totalEither, dayNorms, hourNorms, fixtureNorms, hourlyNorms, normOf}
+use Rattle.norms.specs.Norms.{totalColdHot, dayNorms, hourNorms, fixtureNorms, hourlyNorms, normOf}
 use Rattle.coefficient.specs.Table.{table}
 use Rattle.coefficient.specs.Alpha.{along, alphaOf}
 use Rattle.coefficient.proofs.Worked.{worked as alpha}
@@ -56,7 +56,7 @@ use Rattle.demands.specs.HotAndCold.{inVersionTwo}
 over-one : (high low : ℕ) → overAny (decode (jobOf high low)) ownCat (1 ∷ []) ≡ true
 unfolding
     sumTo mostTo anyTo up line tabulate slots beAt sectionsFrom serviceAt headerAt residentsAt sectionFrom decode
-    parentOf reaches below ownOf servedOf houseOf totalColdHot totalEither hourNorms fixtureNorms normOf along table alphaOf shareOf mOf fixtureSumOf averageFlowOf tapOf oneTapOf flowOf
+    parentOf reaches below ownOf servedOf houseOf totalColdHot hourNorms fixtureNorms normOf along table alphaOf shareOf mOf fixtureSumOf averageFlowOf tapOf oneTapOf flowOf
     partOf flowAt velocityAt between servesAt readRows readingOf overBy overAt overAny
 over-one high low = refl
 

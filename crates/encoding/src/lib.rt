@@ -99,7 +99,8 @@ fn put_section(out: &mut [u8], at: usize, s: Section)
 // Sections 1 to count, from the first one's place on.
 fn put_sections(out: &mut [u8], version: u8, sections: [Section; 64], count: usize)
     requires { ⌜ (count ≤ 63) × (lengthOf version count ≤ length (now out)) ⌝ }
-    ensures { λ _. ⌜ now (out .exit) ≡ stored (now (out .entry)) (sectionsFrom version) (concatTo count (λ i. sectionBytes (getD sections i blankSection))) ⌝ }
+    ensures { λ _. ⌜ now (out .exit) ≡ stored (now (out .entry)) (sectionsFrom version)
+        (concatTo count (λ i. sectionBytes (getD sections i blankSection))) ⌝ }
 {
     let mut i: usize = 1;
     while i <= count {

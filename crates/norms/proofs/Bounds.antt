@@ -10,7 +10,7 @@ use Rattle.basis.proofs.Bools.{left, right}
 use Rattle.basis.proofs.Within.{Within, within-in}
 use Rattle.basis.proofs.Each.{all-at}
 use Rattle.norms.specs.declared.Norm.{Norm}
-use Rattle.norms.specs.Norms.{normOf, totalColdHot, totalEither, dayNorms, hourNorms, fixtureNorms, hourlyNorms}
+use Rattle.norms.specs.Norms.{normOf, totalColdHot, dayNorms, hourNorms, fixtureNorms, hourlyNorms}
 
 pub record NormIn (norm : Norm) : Type 0 where
   pub day : Within 6 400 (norm .day)
@@ -22,7 +22,7 @@ abbrev inside : Norm → Bool
 inside n = within 6 400 (n .day) && (within 12 300 (n .hour) && (within 10 30 (n .fixture) && within 60 300 (n .hourly)))
 
 all-inside : allTo 3 (λ t. allTo 12 (λ kind. inside (normOf (t - 1) kind))) ≡ true
-unfolding allTo tabulate normOf totalColdHot totalEither dayNorms hourNorms fixtureNorms hourlyNorms
+unfolding allTo tabulate normOf totalColdHot dayNorms hourNorms fixtureNorms hourlyNorms
 all-inside = refl
 
 norm-of-inside : (n : Norm) → inside n ≡ true → NormIn n
@@ -41,7 +41,8 @@ pub service-to-2 : (service kind : ℕ) → normOf service kind ≡ normOf (min 
 unfolding normOf
 service-to-2 service kind =
     let e : min (min service 2) 2 ≡ min service 2 = omega arith in
-    rw e
+    let f : min (min service 2) 1 ≡ min service 1 = omega arith in
+    rw (e, f)
 
 pub norm-in : (service kind : ℕ) → 0 < kind → kind ≤ 12 → NormIn (normOf service kind)
 norm-in service kind a b =

@@ -10,7 +10,7 @@ use Rattle.basis.specs.Slots.{tabulate}
 use Rattle.basis.proofs.Bools.{left, right}
 use Rattle.basis.proofs.Each.{all-at}
 use Rattle.norms.specs.declared.Norm.{Norm}
-use Rattle.norms.specs.Norms.{normOf, totalColdHot, totalEither, dayNorms, hourNorms, fixtureNorms, hourlyNorms}
+use Rattle.norms.specs.Norms.{normOf, totalColdHot, dayNorms, hourNorms, fixtureNorms, hourlyNorms}
 
 -- what residents use is shared out between the lines, and a fixture's norm is the same for either
 pub record Services (total cold hot : Norm) : Type 0 where
@@ -36,7 +36,7 @@ services-of-shared total cold hot e =
     }
 
 all-shared : allTo 12 (λ kind. shared (normOf 0 kind) (normOf 1 kind) (normOf 2 kind)) ≡ true
-unfolding allTo tabulate normOf totalColdHot totalEither dayNorms hourNorms fixtureNorms hourlyNorms
+unfolding allTo tabulate normOf totalColdHot dayNorms hourNorms fixtureNorms hourlyNorms
 all-shared = refl
 
 pub services : (kind : ℕ) → 0 < kind → kind ≤ 12 → Services (normOf 0 kind) (normOf 1 kind) (normOf 2 kind)

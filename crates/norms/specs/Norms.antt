@@ -7,13 +7,9 @@ use lib.ListN.{getD}
 use Rattle.basis.specs.Slots.{tabulate}
 use Rattle.norms.specs.declared.Norm.{Norm}
 
--- a norm for each service, one after another: total, cold, which is total less hot, and hot
+-- a resident's norm for each service, one after another: total, cold, which is total less hot, and hot
 unfoldable pub totalColdHot : List ℕ → List ℕ → List ℕ
 totalColdHot total hot = total ++ (tabulate 12 (λ c. getD total c 0 - getD hot c 0) ++ hot)
-
--- the same of a fixture's norm, which is one for either line
-unfoldable pub totalEither : List ℕ → List ℕ → List ℕ
-totalEither total line = total ++ (line ++ line)
 
 -- D, litres per resident on the greatest day: total, and hot
 unfoldable pub dayNorms : List ℕ
@@ -32,27 +28,29 @@ hourNorms =
 -- Z, hundredths of a litre a second of a fixture: total, and of either line
 unfoldable pub fixtureNorms : List ℕ
 fixtureNorms =
-    totalEither
-    (30 ∷ 20 ∷ 20 ∷ 30 ∷ 20 ∷ 30 ∷ 30 ∷ 30 ∷ 20 ∷ 20 ∷ 14 ∷ 14 ∷ [])
+    (30 ∷ 20 ∷ 20 ∷ 30 ∷ 20 ∷ 30 ∷ 30 ∷ 30 ∷ 20 ∷ 20 ∷ 14 ∷ 14 ∷ []) ++
     (20 ∷ 14 ∷ 14 ∷ 20 ∷ 14 ∷ 20 ∷ 20 ∷ 20 ∷ 14 ∷ 14 ∷ 10 ∷ 10 ∷ [])
 
 -- O, litres an hour of a fixture: total, and of either line
 unfoldable pub hourlyNorms : List ℕ
 hourlyNorms =
-    totalEither
-    (300 ∷ 100 ∷ 100 ∷ 300 ∷ 115 ∷ 250 ∷ 280 ∷ 300 ∷ 100 ∷ 80 ∷ 80 ∷ 100 ∷ [])
+    (300 ∷ 100 ∷ 100 ∷ 300 ∷ 115 ∷ 250 ∷ 280 ∷ 300 ∷ 100 ∷ 80 ∷ 80 ∷ 100 ∷ []) ++
     (200 ∷ 60 ∷ 60 ∷ 200 ∷ 80 ∷ 180 ∷ 190 ∷ 200 ∷ 60 ∷ 60 ∷ 60 ∷ 60 ∷ [])
 
--- the place of a kind's norm; refusal 3 lets no service over 2 pass, and here it counts as 2
-abbrev pub normPlace : ℕ → ℕ → ℕ
-normPlace service kind = 12 * min service 2 + (kind - 1)
+-- the place of a kind's norm, for a resident: total, cold or hot. Refusal 3 lets no service over 2 pass, and here it counts as 2
+abbrev pub residentPlace : ℕ → ℕ → ℕ
+residentPlace service kind = 12 * min service 2 + (kind - 1)
+
+-- and for a fixture: total or either line
+abbrev pub fixturePlace : ℕ → ℕ → ℕ
+fixturePlace service kind = 12 * min service 1 + (kind - 1)
 
 -- the norms of a kind for a service
 unfoldable pub normOf : ℕ → ℕ → Norm
 normOf service kind =
     record {
-      day = getD dayNorms (normPlace service kind) 0;
-      hour = getD hourNorms (normPlace service kind) 0;
-      fixture = getD fixtureNorms (normPlace service kind) 0;
-      hourly = getD hourlyNorms (normPlace service kind) 0;
+      day = getD dayNorms (residentPlace service kind) 0;
+      hour = getD hourNorms (residentPlace service kind) 0;
+      fixture = getD fixtureNorms (fixturePlace service kind) 0;
+      hourly = getD hourlyNorms (fixturePlace service kind) 0;
     }

@@ -5,8 +5,8 @@ ghost use mathlib.Core.Path.{_≡_};
 ghost use Prim.Native.Nat.{_≤_};
 ghost use Rattle.norms.specs.Norms.{normOf};
 
-// Each table has the twelve kinds for each service, one service after another. The back end writes a constant table out wherever it is
-// named, so its numbers are as narrow as they can be.
+// Each table has the twelve kinds for one service after another. The back end writes a constant table out wherever it is named, so the
+// numbers have 16 bits and not 64.
 
 // Litres per resident on the greatest day.
 const DAY: [u16; 36] = [
@@ -95,7 +95,7 @@ const HOUR: [u16; 36] = [
 ];
 
 // Hundredths of a litre a second of a fixture.
-const FIXTURE: [u16; 36] = [
+const FIXTURE: [u16; 24] = [
     // total
     30,
     20,
@@ -109,20 +109,7 @@ const FIXTURE: [u16; 36] = [
     20,
     14,
     14,
-    // cold
-    20,
-    14,
-    14,
-    20,
-    14,
-    20,
-    20,
-    20,
-    14,
-    14,
-    10,
-    10,
-    // hot
+    // either line
     20,
     14,
     14,
@@ -138,7 +125,7 @@ const FIXTURE: [u16; 36] = [
 ];
 
 // Litres an hour of a fixture.
-const HOURLY: [u16; 36] = [
+const HOURLY: [u16; 24] = [
     // total
     300,
     100,
@@ -152,20 +139,7 @@ const HOURLY: [u16; 36] = [
     80,
     80,
     100,
-    // cold
-    200,
-    60,
-    60,
-    200,
-    80,
-    180,
-    190,
-    200,
-    60,
-    60,
-    60,
-    60,
-    // hot
+    // either line
     200,
     60,
     60,
@@ -194,11 +168,12 @@ pub fn norm_of(service: u8, kind: usize) -> Norm
     ensures { λ r. ⌜ r ≡ normOf service kind ⌝ }
 {
     let c = kind - 1;
-    let at = 12 * lesser(service as usize, 2) + c;
+    let of_resident = 12 * lesser(service as usize, 2) + c;
+    let of_fixture = 12 * lesser(service as usize, 1) + c;
     Norm {
-        day: long16(DAY[at]),
-        hour: long16(HOUR[at]),
-        fixture: long16(FIXTURE[at]),
-        hourly: long16(HOURLY[at]),
+        day: long16(DAY[of_resident]),
+        hour: long16(HOUR[of_resident]),
+        fixture: long16(FIXTURE[of_fixture]),
+        hourly: long16(HOURLY[of_fixture]),
     }
 }
