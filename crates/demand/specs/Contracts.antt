@@ -1,4 +1,4 @@
--- What one kind adds to the sums of a section or of the house, with the most that it can be.
+-- What one kind adds to the sums of a section, of the house or of its hour, with the most that it can be.
 -- Assumes nothing.
 use mathlib.Core.Path.{_≡_}
 use mathlib.Core.Bool.{cond}
@@ -14,3 +14,10 @@ pub record Adds (norm : Norm) (residents n house share weighted z : ℕ) : Type 
   pub weighted-is : weighted ≡ share * norm .fixture
   pub weighted-top : weighted ≤ 676436705437500000
   pub z-is : z ≡ cond (ltb 0 n) (norm .fixture) 0
+
+-- a kind with these norms and residents, in the house's hour
+pub record HourAdds (norm : Norm) (residents share weighted : ℕ) : Type 0 where
+  pub share-is : share ≡ up (100000 * norm .hour * residents) (norm .hourly)
+  pub share-top : share ≤ 32767500000
+  pub weighted-is : weighted ≡ share * norm .hourly
+  pub weighted-top : weighted ≤ 9830250000000

@@ -3,6 +3,8 @@ use crate::sums::hour_sums;
 use fields::Job;
 use numbers::long16;
 ghost use mathlib.Core.Path.{_≡_};
+ghost use Prim.Native.Nat.{_*_, _≤_, _<_};
+ghost use Rattle.norms.specs.Norms.{normOf};
 ghost use Rattle.demand.specs.Demand.{hourOf, dayOf, meanOf, Accepted};
 
 // The flow of the greatest hour in l/h.
@@ -17,6 +19,18 @@ pub fn hour_of(job: Job) -> u32
     round::divide_up(s.weighted * alpha, 200000 * sum) as u32
 }
 
+// The greatest day of a kind's residents, for a service. Without residents nothing is looked up.
+fn day_part(service: u8, kind: usize, residents: u64) -> u64
+    requires { ⌜ (1 ≤ kind) × (kind ≤ 12) × (residents < 65536) ⌝ }
+    ensures { λ r. ⌜ (r ≡ normOf service kind .day * residents) × (r ≤ 26214000) ⌝ }
+{
+    if residents == 0 {
+        return 0;
+    }
+    let norm = norms::norm_of(service, kind);
+    norm.day * residents
+}
+
 // The greatest day in litres.
 pub fn day_of(job: Job) -> u32
     ensures { λ r. ⌜ r ≡ dayOf job ⌝ }
@@ -26,8 +40,8 @@ pub fn day_of(job: Job) -> u32
     let mut kind: usize = 1;
     while kind <= 12 {
         let c = kind - 1;
-        let norm = norms::norm_of(service, kind);
-        day = day + norm.day * long16(job.residents[c]);
+        let residents = job.residents;
+        day = day + day_part(service, kind, long16(residents[c]));
         kind += 1;
     }
     day as u32

@@ -8,7 +8,7 @@ ghost use Prim.Native.Nat.{_≤_, _<_};
 ghost use Rattle.norms.specs.Norms.{normOf};
 ghost use Rattle.tree.specs.Tree.{servedOf, Rooted};
 ghost use Rattle.tree.specs.Rows.{Counted};
-ghost use Rattle.demand.specs.Contracts.{Adds};
+ghost use Rattle.demand.specs.Contracts.{Adds, HourAdds};
 ghost use Rattle.demand.specs.Demand.{mOf, fixtureSumOf, oneTapOf, hourSumOf, hourlySumOf};
 
 // Of a section or the house: m, the sum of share × Z, and one tap in ml/s.
@@ -82,6 +82,31 @@ pub fn sums_of(job: Job, counts: &[u32; 768], i: usize) -> Sums
     }
 }
 
+// What a kind adds to the sums of the house's hour: its share, and share × O.
+struct HourPart {
+    share: u64,
+    weighted: u64,
+}
+
+// The hour's part of a kind, for a service. Without residents nothing is looked up or divided.
+fn hour_part(service: u8, kind: usize, residents: u64) -> HourPart
+    requires { ⌜ (1 ≤ kind) × (kind ≤ 12) × (residents < 65536) ⌝ }
+    ensures { λ r. ⌜ HourAdds (normOf service kind) residents (r .share) (r .weighted) ⌝ }
+{
+    if residents == 0 {
+        return HourPart {
+            share: 0,
+            weighted: 0,
+        };
+    }
+    let norm = norms::norm_of(service, kind);
+    let share = round::divide_up(100000 * norm.hour * residents, norm.hourly);
+    HourPart {
+        share,
+        weighted: share * norm.hourly,
+    }
+}
+
 // The sums of the house's hour.
 pub fn hour_sums(job: Job) -> HourSums
     ensures { λ r. ⌜ (r .shares ≡ hourSumOf job) × (r .weighted ≡ hourlySumOf job) ⌝ }
@@ -92,10 +117,10 @@ pub fn hour_sums(job: Job) -> HourSums
     let mut kind: usize = 1;
     while kind <= 12 {
         let c = kind - 1;
-        let norm = norms::norm_of(service, kind);
-        let part = round::divide_up(100000 * norm.hour * long16(job.residents[c]), norm.hourly);
-        shares = shares + part;
-        weighted = weighted + part * norm.hourly;
+        let residents = job.residents;
+        let part = hour_part(service, kind, long16(residents[c]));
+        shares = shares + part.share;
+        weighted = weighted + part.weighted;
         kind += 1;
     }
     HourSums { shares, weighted }

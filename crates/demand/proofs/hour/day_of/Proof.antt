@@ -1,12 +1,12 @@
 -- `demand::hour::day_of` meets its contract: before each kind the sum is that of the kinds before it.
 -- Assumes nothing.
-use Prim.Native.Nat.{_-_, _*_, _≤_}
+use mathlib.Core.Path.{_∙_}
+use Prim.Native.Nat.{_-_, _*_}
 use native.Mathlib.Omega.{arith}
 use Rattle.basis.proofs.Within.{Within}
-use Rattle.fields.specs.Fields.{serviceOf, residentsOf}
+use Rattle.fields.specs.Fields.{residentsOf}
 use Rattle.demand.specs.Demand.{normAt, dayOf}
 use Rattle.demand.proofs.Partial.{SoFar, sum-start, sum-turn, sum-end}
-use Rattle.demand.proofs.Tops.{norm-known, day-top}
 use borrow.Author.Needs.{needs}
 use Rattle.demand.proofs.hour.day_of.Statement.{statement}
 use Rattle.demand.proofs.hour.day_of.Tie as tie
@@ -17,15 +17,11 @@ Inv-loop job service day₀ kind₀ day kind = Within 1 13 kind × SoFar (λ k. 
 abbrev μ-loop : tie.MeasureT-loop
 μ-loop job service day₀ kind₀ day kind = 13 - kind
 
-top : (c : tie.After-long16 Inv-loop μ-loop) → c .before .before .norm-of .result .day * c .long16 .result ≤ 26214000
-top c =
-    day-top (norm-known (serviceOf (c .before .before .before .before .before .args .t1)) (c .before .before .norm-of .ensures) (omega arith)) (omega arith)
-
 loop-again : tie.Need-loop-again Inv-loop μ-loop
 loop-again c = (
   omega arith,
-  sum-turn (c .before .before .before .before .before .loop .inv .1) (omega arith)
-      (rw (c .before .before .before .norm-of .ensures, c .before .long16 .ensures .0)) (top (c .before)),
+  sum-turn (c .before .before .before .before .loop .inv .1) (omega arith)
+      (c .day-part .ensures .0 ∙ rw (c .before .long16 .ensures .0)) (c .day-part .ensures .1),
 )
 
 returns : tie.Need-returns Inv-loop μ-loop
@@ -35,6 +31,5 @@ returns c = sum-end (c .before .loop .inv .1) (omega arith) (omega arith)
 pub day-of-spec : {M : Type 1} → statement M
 day-of-spec =
     tie.close
-    (tie.spec Inv-loop μ-loop (λ c. (omega arith, sum-start _ _)) (λ c. search needs) (λ c κs. search needs) (λ c. search needs)
-    (λ c. search needs) (λ c κs. search needs) (λ c. omega (arith, top (c .before))) (λ c. omega (arith, top (c .before)))
-    (λ c. search needs) (λ c. search needs) loop-again (λ c. omega arith) returns)
+    (tie.spec Inv-loop μ-loop (λ c. (omega arith, sum-start _ _)) (λ c. search needs) (λ c. search needs) (λ c. search needs)
+    (λ c κs. search needs) (λ c κs. search needs) (λ c. omega arith) (λ c. search needs) (λ c. search needs) loop-again (λ c. omega arith) returns)
