@@ -1,5 +1,5 @@
-/* The proved pipe sizing library: design flows, the meter, rating in one call or in two, choosing, and the heat flow of a
- * branched house network, of all its water or of its cold or its hot line.
+/* The proved pipe sizing library: design flows, the meter, rating in one call or in two, and choosing of a branched house
+ * network, for all its water or for its cold or its hot line; and the heat flow of a hot line.
  *
  * Build: `rt staticlib order` makes target/staticlib/liborder.a; link it with the C library (it uses memcpy and memset).
  *
@@ -38,7 +38,7 @@
  *   19  the losses aren't S long or one is over 4,259,775 cm
  *   20  heat asked for a job that isn't hot
  *   21  temperature over 30 or stated loss over 1,000,000
- * Of several faults the first in the order 1 to 9, 17, 19 or 20, 21, 10, 11, 12, 14, 15, then 13, 16 or 18 is given back.
+ * Of several faults the first in the order 1 to 9, then by the call 17, or 19, or 20 and 21, then 10, 11, 12, 14, 15, then 13, 16 or 18 is given back.
  *
  * A refusal leaves every byte of out as it was. A result is written from the start of out and leaves the bytes after it
  * as they were, so a longer buffer is fine. Numbers are big-endian. S is the section count, byte 6 of the job; H is the
@@ -46,7 +46,7 @@
  *
  * A job record has version 1 or 2 (byte 4). In version 1 its S sections of 10 bytes begin at byte 40. In version 2 byte 40 is
  * the service: 0 total, 1 cold, 2 hot; the sections begin at byte 41, and the record is one byte longer. Version 1 means
- * total, as version 2 with service 0 does. The service says whose norms the flows are worked out with; all else is the same.
+ * total, as version 2 with service 0 does. The service says which norms the flows are worked out with; all else is the same.
  */
 
 #ifndef ORDER_H

@@ -1,4 +1,4 @@
--- What one kind adds to the sums of a section, of the house or of its hour, with the most that it can be.
+-- What one kind adds to the sums of a section, of the house or of its hour, with bounds that hold for every kind and service.
 -- Assumes nothing.
 use mathlib.Core.Path.{_≡_}
 use mathlib.Core.Bool.{cond}

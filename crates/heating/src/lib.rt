@@ -18,7 +18,8 @@ ghost use Rattle.heating.specs.Calls.{heatNo, heatBytes};
 // The service of a hot line.
 const HOT: u8 = 2;
 
-// The heat flow of so many l/h in watts. The litres are at most those of a hot line's day, and so the watts fit.
+// The heat flow of so many l/h in watts. The litres are at most 66,583,560, the most that the day of any hot line can have, and so the
+// watts fit.
 fn watts(litres: u32, t: u32, loss: u32) -> u32
     requires { ⌜ (litres ≤ 66583560) × (t ≤ 30) × (loss ≤ 1000000) ⌝ }
     ensures { λ r. ⌜ r ≡ wattsOf litres t loss ⌝ }

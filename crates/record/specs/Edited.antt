@@ -1,5 +1,5 @@
--- A record in which one field's bytes are replaced, and the job with that field changed: the meter loss for L1 of document 02, the others
--- for L11.
+-- A record in which one field's bytes are replaced, and the job with that field changed: the meter loss for L1 of document 02, the version for
+-- L4, the others for L11.
 -- Assumes nothing.
 use Prim.Native.Nat.{ℕ, _+_, _-_, _*_, _≤_, _<_}
 use mathlib.Core.Path.{_≡_}

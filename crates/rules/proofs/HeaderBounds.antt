@@ -2,10 +2,10 @@
 -- Assumes nothing.
 use mathlib.Core.Path.{_≡_, sym}
 use mathlib.Core.Logic.{⊎-elim}
-use mathlib.Core.Bool.{true, false}
-use Prim.Native.Nat.{ℕ, _≤_}
+use mathlib.Core.Bool.{true, false, not}
+use Prim.Native.Nat.{ℕ, _≤_, _<_}
 use native.Mathlib.Omega.{arith}
-use lib.Dec.{leb}
+use lib.Dec.{leb, eqb}
 use borrow.Author.Tests.{leb-true, le-leb, eq-eqb, ne-eqb, eqb-true}
 use Rattle.basis.specs.Range.{within}
 use Rattle.basis.proofs.Bools.{left, right, never}
@@ -41,12 +41,24 @@ service-in h e =
     record { most = leb-true (h .service) 2 (rw (ne-eqb (h .version) 1 other) at e); total = λ v. absurd (other v) })
     (eq-or-ne (h .version) 1)
 
-in-service : (h : Header) → ServiceIn (h .version) (h .service) → serviceOk h ≡ true
+pub in-service : (h : Header) → ServiceIn (h .version) (h .service) → serviceOk h ≡ true
 unfolding serviceOk
 in-service h b =
     ⊎-elim
     (λ (one : h .version ≡ 1). rw (eq-eqb (h .version) 1 one, eq-eqb (h .service) 0 (b .total one)))
     (λ (other : h .version ≡ 1 → ⊥). rw (ne-eqb (h .version) 1 other, le-leb (h .service) 2 (b .most)))
+    (eq-or-ne (h .version) 1)
+
+pub service-out : (h : Header) → (ServiceIn (h .version) (h .service) → ⊥) → false ≡ serviceOk h
+service-out h n = sym (never (serviceOk h) (λ e. n (service-in h e)))
+
+-- cold and hot pass but with version 1
+pub service-line : (h : Header) → 0 < h .service → h .service ≤ 2 → serviceOk h ≡ not (eqb (h .version) 1)
+unfolding serviceOk
+service-line h some most =
+    ⊎-elim
+    (λ (one : h .version ≡ 1). rw (eq-eqb (h .version) 1 one, ne-eqb (h .service) 0 (λ e. omega arith)))
+    (λ (other : h .version ≡ 1 → ⊥). rw (ne-eqb (h .version) 1 other, le-leb (h .service) 2 most))
     (eq-or-ne (h .version) 1)
 
 pub record HeaderIn (h : Header) : Type 0 where

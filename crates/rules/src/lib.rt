@@ -29,10 +29,11 @@ pub fn version_ok(h: Header) -> bool
 fn service_ok(h: Header) -> bool
     ensures { λ r. ⌜ r ≡ serviceOk h ⌝ }
 {
-    if h.version == 1 {
-        h.service == 0
-    } else {
-        h.service <= 2
+    let service = h.service;
+    match service {
+        0 => true,
+        1..=2 => h.version != 1,
+        _ => false,
     }
 }
 
