@@ -8,7 +8,7 @@ use crate::catalogue::{Catalogue, Row};
 use crate::meter::{self, Meter};
 use crate::places::{Heating, Place};
 use crate::record::{Record, Section};
-pub use losses::off_losses;
+pub use losses::{of_no_line, off_losses};
 
 /// Lengths are kept in whole dm, so a pipe may be this many cm longer than it says.
 const ROUNDED: i64 = 9;

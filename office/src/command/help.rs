@@ -174,8 +174,9 @@ answer was made for another house or before a change; where a velocity is over t
 gives no answer then (status 2), and the message names the first difference. An answer from before there were services is of all
 water. The answer's warnings are repeated, and count for --strict; a refusal that was handed on is shown with its places (status 1).
 
-A readable list and a record say nothing of the house but how many sections it has: check yourself that they are of this one. They,
-and answers of `heads`, get warnings: a loss of 0; one over 100 cm and more than the pipe's length; losses that look like running
+A readable list may say in a column `service` which line of the house its losses are of: those of another line are not taken, as of
+an answer. Beside that a readable list and a record say nothing of the house but how many sections it has: check yourself that they
+are of this one. They, and answers of `heads`, get warnings: a list that does not say its line, where the house is a cold or a hot one; a loss of 0; one over 100 cm and more than the pipe's length; losses that look like running
 sums, since no section loses less than the one it hangs from; losses that look like readings of gauges, since every section that
 rises loses at least its rise. A fault that more than three sections share is one line with their count. Losses that `losses`,
 `rate` or `choose` worked out get none of these.

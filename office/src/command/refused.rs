@@ -14,7 +14,7 @@ use office::meter;
 use office::places::{Asked, Heating, Place, places};
 use office::readable;
 use office::record::Record;
-use office::warnings::{off_heat, off_losses, off_service, off_velocity, warnings};
+use office::warnings::{of_no_line, off_heat, off_losses, off_service, off_velocity, warnings};
 use office::which::Which;
 
 /// What the refused call was given.
@@ -25,6 +25,8 @@ pub struct Given<'a> {
     pub sizes: &'a [u8],
     pub meters: Option<&'a Source>,
     pub losses: Option<&'a Source>,
+    /// What of the house's water the losses are of, where the list says it.
+    pub service: Option<u8>,
     pub heating: Option<Heating>,
     /// What the command has printed, where the losses come from that.
     pub answer: Option<&'a Answer>,
@@ -32,7 +34,8 @@ pub struct Given<'a> {
 
 impl<'a> Given<'a> {
     pub fn of_losses(list: &'a Losses) -> Given<'a> {
-        Given { losses: Some(&list.source), answer: list.answer.as_ref(), ..Given::default() }
+        let (losses, answer) = (Some(&list.source), list.answer.as_ref());
+        Given { losses, service: list.service, answer, ..Given::default() }
     }
 }
 
@@ -94,6 +97,8 @@ impl Given<'_> {
         let mut found: Vec<Place> = meters.as_deref().map(off_service).unwrap_or_default();
         let written = self.losses.filter(|_| !self.answer.is_some_and(Answer::is_worked_out));
         let losses = written.and_then(|losses| loss::read(&losses.bytes).ok()).unwrap_or_default();
+        let unsaid = record.iter().filter(|_| self.service.is_none());
+        found.extend(unsaid.filter_map(|record| of_no_line(record, &losses)));
         found.extend(record.iter().flat_map(|record| off_losses(record, &losses)));
         found.extend(self.heating.and_then(off_heat));
         found
