@@ -3,11 +3,12 @@
 
 mod losses;
 
-use crate::at::{At, Field};
+use crate::at::{At, Field, Lines};
 use crate::catalogue::{Catalogue, Row};
 use crate::meter::{self, Meter};
 use crate::places::{Heating, Place};
 use crate::record::{Record, Section};
+use crate::service;
 pub use losses::{of_no_line, off_losses};
 
 /// Lengths are kept in whole dm, so a pipe may be this many cm longer than it says.
@@ -26,6 +27,18 @@ pub fn warnings(record: &Record) -> Vec<Place> {
         found.extend(long(number, section, high));
     }
     found
+}
+
+/// The warning of a readable house without a service in which one is commented out: it is taken as all water.
+pub fn commented_out(lines: &Lines) -> Option<Place> {
+    let comments = [service::COLD, service::HOT].map(At::Comment);
+    let (at, _) = comments.into_iter().filter_map(|at| Some((at, lines.of(at)?))).min_by_key(|(_, line)| *line)?;
+    let all = service::words(service::TOTAL);
+    let why = format!(
+        "it stands behind #, and no line gives the service, so that the house is taken for {all}; take the # out, or \
+         write `service total`"
+    );
+    Some(Place::new(at, why))
 }
 
 /// The set adds to the guaranteed head, so it can't deliver less than that.

@@ -14,7 +14,7 @@ use office::meter;
 use office::places::{Asked, Heating, Place, places};
 use office::readable;
 use office::record::Record;
-use office::warnings::{of_no_line, off_heat, off_losses, off_service, off_velocity, warnings};
+use office::warnings::{commented_out, of_no_line, off_heat, off_losses, off_service, off_velocity, warnings};
 use office::which::Which;
 
 /// What the refused call was given.
@@ -108,7 +108,8 @@ impl Given<'_> {
     fn of_house(&self) -> Vec<Place> {
         let record = self.job.and_then(|job| Record::read(&job.bytes).ok());
         let catalogue = self.cat.and_then(|cat| Catalogue::read(&cat.bytes).ok());
-        let mut found: Vec<Place> = record.iter().flat_map(warnings).collect();
+        let mut found: Vec<Place> = self.job.and_then(|job| commented_out(&job.lines)).into_iter().collect();
+        found.extend(record.iter().flat_map(warnings));
         found.extend(catalogue.as_ref().and_then(off_velocity));
         found
     }
