@@ -215,6 +215,43 @@ fn both_numbers_are_needed_once_and_by_heat_alone() {
     misused(&["heat", HOT, "--cold-water=5", "--loss", "0"], "there is no option `--cold-water=5`");
 }
 
+/// The 60 guests' 150 litres each are 375 l/h in the mean hour, which take 116 x 375 x (55 - t) / 100 W: 21,750 from 5 degrees on, 10,875
+/// from 30. Pipes that lose more than that are likely a zero too many.
+#[test]
+fn a_loss_above_the_mean_hours_own_heat_gets_a_warning() {
+    for (cold, water, loss) in
+        [("5", 21_750, 21_750), ("5", 21_750, 21_751), ("30", 10_875, 10_875), ("30", 10_875, 12_000)]
+    {
+        let ran = heat(HOT, cold, &loss.to_string());
+        let why = format!(
+            "warning: heat loss: {loss} W, more than the {water} W that the water of the mean hour takes itself; has it a digit \
+             too many?\n"
+        );
+        assert_eq!((ran.status, ran.error.as_str()), (0, if loss > water { why.as_str() } else { "" }), "{loss}");
+        let strict = office(&["heat", HOT, "--cold-water", cold, "--loss", &loss.to_string(), "--strict"]);
+        assert_eq!(strict.status, if loss > water { 2 } else { 0 });
+    }
+}
+
+/// The day's 9,000 litres in 4 hours are 2,250 l/h, under the 2,346 of the greatest hour, and in 3 hours 3,000.
+#[test]
+fn hours_too_few_for_the_day_get_a_warning() {
+    for (hours, mean, warned) in [("4", 2_250, false), ("3", 3_000, true), ("1", 9_000, true)] {
+        let text = read(HOT).replacen("hours           24", &format!("hours {hours}"), 1);
+        let line = 1 + text.lines().position(|line| line.starts_with("hours")).expect("hours");
+        let why = format!(
+            "warning: standard input line {line}, hours: the 9000 litres of a day in {hours} hours are {mean} l/h in the mean hour, \
+             more than the 2346 l/h of the greatest; are the hours of use a day right?\n"
+        );
+        for words in [&["heat", "-", "--cold-water", "5", "--loss", "0"][..], &["flow", "-"]] {
+            let ran = office_with(words, text.as_bytes());
+            assert_eq!((ran.status, ran.error.as_str()), (0, if warned { why.as_str() } else { "" }), "{hours}");
+            let strict = office_with(&[words, &["--strict"]].concat(), text.as_bytes());
+            assert_eq!(strict.status, if warned { 2 } else { 0 });
+        }
+    }
+}
+
 /// A loss that a few metres of pipe have may be in kW; none is stated with 0.
 #[test]
 fn a_loss_that_may_be_in_kilowatts_gets_a_warning() {
