@@ -156,7 +156,30 @@ fn nine_goes_by_the_norms_of_the_line() {
         let job = with(&served(service), &[(29, 117)]);
         let found = of_job(&job);
         check((found.0, found.1.clone()), 9, At::House, &format!("the hour's sum is {weight} millionths"));
-        check((found.0, found.1), 9, At::Residents(7), &format!("; {pass} residents would pass"));
+        let line = At::Field(Field::Service);
+        match service {
+            "total" => {
+                check((found.0, found.1.clone()), 9, At::Residents(7), &format!("; {pass} residents would pass"));
+                assert!(found.1.iter().all(|place| place.at != line));
+            }
+            // Residents of a line are those of the whole house; with the fixtures that are named it passes.
+            _ => {
+                check(
+                    (found.0, found.1.clone()),
+                    9,
+                    line,
+                    "its residents stay those of the whole house, and its fixtures",
+                );
+                assert!(
+                    !found.1.iter().any(|place| place.why.contains("would pass") || place.why.contains("fewer res"))
+                );
+                let fixtures = weight.div_ceil(100_000) as u8;
+                let why = format!("fixtures of kind hotel-75 carry 8000000; {fixtures} fixtures would do, ");
+                check((found.0, found.1.clone()), 9, At::Residents(7), &why);
+                assert!(calls::flow(&with(&job, &[(44, fixtures)])).is_ok());
+                assert!(calls::flow(&with(&job, &[(44, fixtures - 1)])).is_err());
+            }
+        }
         assert!(calls::flow(&with(&job, &[(29, pass)])).is_ok(), "{service}");
         assert_eq!(calls::flow(&with(&job, &[(29, pass + 1)])), Err(Refusal::DemandOverFixtures), "{service}");
     }

@@ -142,10 +142,13 @@ pub const ROWS: &[Row] = &[
         causes: &[
             "Rooms or flats were counted, and not their fixtures: each tap, shower and bath counts.",
             "A count of residents has a digit too many, or that of the fixtures one too few.",
+            "A cold or a hot line may be refused where all water of the house is not: it may feed fewer fixtures, and each gives less.",
         ],
         remedies: &[
-            "Count the fixtures at the sections' ends again.",
-            "Correct residents or fixtures; the message says how many residents would pass, and how many fixtures would do.",
+            "Count the fixtures at the sections' ends again, of a line those that it feeds.",
+            "Correct residents or fixtures; the message says how many fixtures would do and, of a house for all its water, how many \
+             residents would pass.",
+            "Leave the residents of a cold or a hot line those of the whole house: the norms are of the line's part of their water.",
         ],
     },
     Row {
