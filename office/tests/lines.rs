@@ -203,7 +203,10 @@ fn an_answer_of_another_line_is_refused() {
         for (file, here) in [(&hot, "hot"), (&total, "total"), (&plain, "total")] {
             for answer in [&answer, &headed.output] {
                 let ran = office_with(&["heads", file, "-"], answer);
-                let why = format!("is not of this house: the house has as its service cold there and {here} here; ");
+                let why = format!(
+                    "is not of this house: the house has as its service cold there and {here} here; \
+                    give the house of the cold line with it; "
+                );
                 assert!(ran.status == 2 && ran.output.is_empty() && ran.error.contains(&why), "{}", ran.error);
             }
         }
@@ -333,7 +336,8 @@ fn an_older_answer_is_of_all_water() {
     };
     assert_eq!(office_with(&["heads", HOUSE, "-"], older(&house, "total").as_bytes()).status, 0);
     let ran = office_with(&["heads", HOT, "-"], older(&hot, "hot").as_bytes());
-    let why = "the house has as its service total there and hot here";
+    let why = "is not of this house: it names no service, so that it is of all water: the house has as its service total there and hot \
+               here; give the house for all its water with it; it was made for another house, or ";
     assert!(ran.status == 2 && ran.error.contains(why), "{}", ran.error);
     for (value, why) in
         [("\"warm\"", "`service` is `warm`"), ("\"7\"", "`service` is `7`"), ("2", "`service` is no text")]
@@ -355,6 +359,21 @@ fn a_table_for_people_is_no_list() {
     let first: String = other.lines().filter(|line| !line.starts_with('#')).map(|line| format!("{line}\n")).collect();
     let ran = office_with(&["heads", HOT, "-"], first.as_bytes());
     assert!(ran.status == 2 && ran.error.contains("is a house; a list of losses is expected"), "{}", ran.error);
+}
+
+/// A sign before the service is the house's mistake, and makes no list of it.
+#[test]
+fn a_house_that_begins_with_a_sign_is_a_house() {
+    for first in [";service hot", "; service hot", ",service cold", ";service", "x;service hot"] {
+        let text = format!("{first}\n{}", read(HOUSE));
+        assert_eq!(Which::of(&text), Which::House, "{first}");
+        let ran = office_with(&["flow", "-"], text.as_bytes());
+        assert!(ran.status == 2 && ran.error.contains(" begins no line of a house"), "{first}: {}", ran.error);
+    }
+    // A list of meters that lacks a unit is still one.
+    for header in ["type,resistance m/(l/s)2,service", "type;service", "service flow;name"] {
+        assert_eq!(Which::of(&format!("{header}\nvane,1.3,4000\n")), Which::Meters, "{header}");
+    }
 }
 
 /// Kind 7 uses 250 litres a day, 150 of them hot, and 28.0 in the hour, 15.0 of them hot; a fixture of either line gives 0.20 l/s and

@@ -133,12 +133,12 @@ fn heat() {
         of(&job(), 5, 0),
         20,
         service,
-        "none is given, which means cold and hot water together; a hot line has a house",
+        "it is total, cold and hot water together, as where none is given; a hot line has a house",
     );
     check(of(&served("total"), 5, 0), 20, service, "it is total, cold and hot water together; ");
     check(of(&served("cold"), 5, 0), 20, service, "it is cold; a hot line has a house of its own, with `service hot`");
     // 20 comes before 21, and 1 to 9 before both.
-    check(of(&job(), 31, 1_000_001), 20, service, "none is given");
+    check(of(&job(), 31, 1_000_001), 20, service, "as where none is given");
     check(of(&served("hot")[..50], 31, 0), 1, At::Field(Field::Stated), "states 51 bytes and has 50");
     let (cold, loss) = (At::ColdWater, At::HeatLoss);
     check(of(&served("hot"), 31, 0), 21, cold, "31 is outside 0 to 30 degrees C");
