@@ -149,6 +149,11 @@ pub fn likeness(line: &Cells, form: &Form) -> usize {
     line.cells.iter().filter(|cell| meant(&plain(cell), form).is_some()).count()
 }
 
+/// Where the header has columns of these names.
+fn places_of(names: &[String], titles: &[&str]) -> Vec<usize> {
+    (0..names.len()).filter(|place| titles.contains(&names[*place].as_str())).collect()
+}
+
 /// The columns of a header line, and all that is wrong with it. Where it can be told which column each is meant for, the rows
 /// can be read for their own mistakes too.
 fn columns(line: &Cells, form: &Form) -> (Option<Columns>, Mistakes) {
@@ -158,19 +163,15 @@ fn columns(line: &Cells, form: &Form) -> (Option<Columns>, Mistakes) {
     let missing = |own: usize| !names.iter().any(|name| meant(name, form) == Some(own));
     let none_missing = !(0..form.columns.len()).any(missing);
     let mut mistakes = Mistakes::default();
-    let (mut notes, mut named, mut lined) = (Vec::new(), Vec::new(), Vec::new());
+    let notes = places_of(&names, &NOTES);
+    let [named, lined] = [form.name, form.service].map(|title| places_of(&names, title.as_slice()));
     let mut places: Vec<Vec<usize>> = form.columns.iter().map(|_| Vec::new()).collect();
     let mut forms: Vec<&'static Column> = form.columns.iter().collect();
-    for (place, name) in names.iter().enumerate().filter(|(_, name)| !name.is_empty()) {
+    let beside = |place: &usize| [&notes, &named, &lined].iter().any(|known| known.contains(place));
+    for (place, name) in names.iter().enumerate().filter(|(place, name)| !name.is_empty() && !beside(place)) {
         let of = |column: &'static Column| column.forms().find(|column| plain(column.title) == *name);
         let known = form.columns.iter().enumerate().find_map(|(column, own)| Some((column, of(own)?)));
-        if NOTES.contains(&name.as_str()) {
-            notes.push(place);
-        } else if form.name == Some(name.as_str()) {
-            named.push(place);
-        } else if form.service == Some(name.as_str()) {
-            lined.push(place);
-        } else if let Some((column, own)) = known {
+        if let Some((column, own)) = known {
             places[column].push(place);
             forms[column] = own;
         } else {
