@@ -10,7 +10,8 @@ mod node;
 use crate::mistake::{Mistake, Mistakes};
 use crate::places::Place;
 use crate::readable::Saved;
-use crate::service::{self, HOT, TOTAL};
+use crate::service::{self, TOTAL};
+pub use house::of_another_line;
 use json::{Fault, Node, Value};
 
 /// The commands whose answers have a loss for each section, which is the section's own.
@@ -47,7 +48,8 @@ pub struct Answer {
     /// The command that printed it.
     pub command: String,
     pub warnings: Vec<Said>,
-    service: u8,
+    /// None in an answer from before there were services.
+    service: Option<u8>,
     /// Local losses of the house in tenths.
     tenths: i64,
     /// Section 1 is at place 0.
@@ -136,12 +138,11 @@ fn printed(node: &Node) -> Result<Printed, Fault> {
     Ok(Printed::Answer(Answer { command, warnings, service, tenths, sections }))
 }
 
-/// The service. Answers from before there was one are of all water.
-fn service(node: &Node) -> Result<u8, Fault> {
-    let Some(own) = node.find("service") else { return Ok(TOTAL) };
+/// The service, where the answer names it.
+fn service(node: &Node) -> Result<Option<u8>, Fault> {
+    let Some(own) = node.find("service") else { return Ok(None) };
     let name = node.text("service")?;
-    let known = (TOTAL..=HOT).find(|service| service::name(*service) == name);
-    known.ok_or_else(|| own.fault(format!("`service` is `{name}`"), service::TAKEN))
+    service::named(&name).map(Some).ok_or_else(|| own.fault(format!("`service` is `{name}`"), service::TAKEN))
 }
 
 /// The entries of `sections`. Where mistakes or `--strict` left no answer there are none.
@@ -193,9 +194,9 @@ impl Answer {
         self.sections.iter().map(|section| section.loss).collect()
     }
 
-    /// The line that the losses are of, where they are not of all water.
-    pub fn line(&self) -> Option<u8> {
-        Some(self.service).filter(|service| *service != TOTAL)
+    /// What of the house's water the losses are of. Answers from before there were services are of all water.
+    pub fn service(&self) -> u8 {
+        self.service.unwrap_or(TOTAL)
     }
 
     /// Whether the losses were worked out from a table, so that they are each section's own and in cm.

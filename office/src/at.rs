@@ -2,6 +2,7 @@
 //! that a refusal can be led back to its line.
 
 use crate::kinds;
+use crate::service;
 use std::fmt;
 
 /// A field of the house, by the words that the readable file has for it.
@@ -45,6 +46,8 @@ pub enum At {
     /// The house as a whole.
     House,
     Field(Field),
+    /// A comment of a readable house that is a line `service` in itself, of this service.
+    Comment(u8),
     /// The residents of a kind.
     Residents(u8),
     Section(u8),
@@ -76,6 +79,7 @@ impl fmt::Display for At {
             At::Job => write!(f, "job record"),
             At::House => write!(f, "house"),
             At::Field(field) => write!(f, "{}", field.name()),
+            At::Comment(service) => write!(f, "comment `service {}`", service::name(*service)),
             At::Residents(kind) => write!(f, "residents {}", kinds::name(*kind)),
             At::Section(section) => write!(f, "section {section}"),
             At::Catalogue => write!(f, "catalogue"),

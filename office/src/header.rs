@@ -46,11 +46,13 @@ impl Column {
 }
 
 /// What a file of cells has: what it is called, its columns in the order in which they are shown, and how a column is called
-/// that names a row for people; none where rows have no names.
+/// that names a row for people, and one that says which line of a house the rows are of; none where rows have no names, and
+/// where they are of no line.
 pub struct Form {
     pub what: &'static str,
     pub columns: &'static [Column],
     pub name: Option<&'static str>,
+    pub service: Option<&'static str>,
 }
 
 impl Form {
@@ -68,19 +70,21 @@ impl Form {
     /// The header and what may stand beside it, for a message.
     fn expected(&self, separator: char) -> String {
         let named = self.name.map_or(String::new(), |name| format!("a column `{name}` names the rows, "));
+        let lined = self.service.map_or(String::new(), |service| format!("a column `{service}` says which line, "));
         let others = self.columns.iter().filter_map(|column| column.other.map(|other| (column.title, other.title)));
         let others: String = others.map(|(title, other)| format!("`{other}` in place of `{title}`, ")).collect();
-        format!("`{}`; {others}{named}a column `notes` is skipped", self.header(separator))
+        format!("`{}`; {others}{named}{lined}a column `notes` is skipped", self.header(separator))
     }
 }
 
-/// The places of a form's columns in its own order, of the names, and of the columns that are skipped; and for each cell of the
-/// header whether anything stands in it.
+/// The places of a form's columns in its own order, of the names, of the service, and of the columns that are skipped; and for
+/// each cell of the header whether anything stands in it.
 pub struct Columns {
     pub places: Vec<usize>,
     /// The form's columns in the units that the header has.
     forms: Vec<&'static Column>,
     pub name: Option<usize>,
+    pub service: Option<usize>,
     notes: Vec<usize>,
     titled: Vec<bool>,
 }
@@ -94,7 +98,7 @@ impl Columns {
     /// Whether a row may begin with something else than one of the form's own columns: a name, a note, or a cell under an empty
     /// one of the header.
     fn begin_otherwise(&self) -> bool {
-        !self.places.contains(&0)
+        !self.places.contains(&0) && self.service != Some(0)
     }
 
     /// The places of the columns of numbers, and what each measures.
@@ -145,6 +149,11 @@ pub fn likeness(line: &Cells, form: &Form) -> usize {
     line.cells.iter().filter(|cell| meant(&plain(cell), form).is_some()).count()
 }
 
+/// Where the header has columns of these names.
+fn places_of(names: &[String], titles: &[&str]) -> Vec<usize> {
+    (0..names.len()).filter(|place| titles.contains(&names[*place].as_str())).collect()
+}
+
 /// The columns of a header line, and all that is wrong with it. Where it can be told which column each is meant for, the rows
 /// can be read for their own mistakes too.
 fn columns(line: &Cells, form: &Form) -> (Option<Columns>, Mistakes) {
@@ -154,17 +163,15 @@ fn columns(line: &Cells, form: &Form) -> (Option<Columns>, Mistakes) {
     let missing = |own: usize| !names.iter().any(|name| meant(name, form) == Some(own));
     let none_missing = !(0..form.columns.len()).any(missing);
     let mut mistakes = Mistakes::default();
-    let (mut notes, mut named) = (Vec::new(), Vec::new());
+    let notes = places_of(&names, &NOTES);
+    let [named, lined] = [form.name, form.service].map(|title| places_of(&names, title.as_slice()));
     let mut places: Vec<Vec<usize>> = form.columns.iter().map(|_| Vec::new()).collect();
     let mut forms: Vec<&'static Column> = form.columns.iter().collect();
-    for (place, name) in names.iter().enumerate().filter(|(_, name)| !name.is_empty()) {
+    let beside = |place: &usize| [&notes, &named, &lined].iter().any(|known| known.contains(place));
+    for (place, name) in names.iter().enumerate().filter(|(place, name)| !name.is_empty() && !beside(place)) {
         let of = |column: &'static Column| column.forms().find(|column| plain(column.title) == *name);
         let known = form.columns.iter().enumerate().find_map(|(column, own)| Some((column, of(own)?)));
-        if NOTES.contains(&name.as_str()) {
-            notes.push(place);
-        } else if form.name == Some(name.as_str()) {
-            named.push(place);
-        } else if let Some((column, own)) = known {
+        if let Some((column, own)) = known {
             places[column].push(place);
             forms[column] = own;
         } else {
@@ -181,10 +188,12 @@ fn columns(line: &Cells, form: &Form) -> (Option<Columns>, Mistakes) {
         _ => twice(line, column.title, places, &expected).map(|twice| in_both_units(twice, column, &names)),
     }));
     mistakes.extend(form.name.and_then(|name| twice(line, name, &named, &expected)));
+    mistakes.extend(form.service.and_then(|service| twice(line, service, &lined, &expected)));
     let each = places.iter().all(|places| places.len() == 1);
     let places = places.into_iter().flatten().collect();
     let titled = names.iter().map(|name| !name.is_empty()).collect();
-    (each.then(|| Columns { places, forms, name: named.first().copied(), notes, titled }), mistakes)
+    let (name, service) = (named.first().copied(), lined.first().copied());
+    (each.then_some(Columns { places, forms, name, service, notes, titled }), mistakes)
 }
 
 /// The columns of a header line under which rows can be read, and all that is wrong with it and with rows that `#` may hide; or

@@ -14,6 +14,7 @@ use crate::measure::Quantity;
 use crate::mistake::{Mistake, Mistakes};
 use crate::readable;
 use crate::record::{NoRecord, Record};
+use crate::service;
 pub use head::lacks;
 pub use meter_loss::with_meter_loss;
 
@@ -52,6 +53,9 @@ pub fn read(text: &str) -> Result<Packed, Mistakes> {
         }
         fault.into_iter().for_each(|fault| mistakes.add(fault));
     }
+    if places.of(At::Field(Field::Service)).is_none() {
+        note_commented_out(text, &mut places);
+    }
     let lacking = head.contradiction(&places).into_iter().chain(head.missing(&places));
     lacking.for_each(|mistake| mistakes.add(mistake));
     let mut record = head.record();
@@ -65,6 +69,18 @@ pub fn read(text: &str) -> Result<Packed, Mistakes> {
         record.stated = record.len() as u32;
     }
     mistakes.none(Packed { bytes: record.bytes(), lines: places })
+}
+
+/// Notes the comments that are lines `service cold` or `service hot` in themselves: without its `#` the house would be that line.
+fn note_commented_out(text: &str, places: &mut Lines) {
+    for (number, comment) in readable::comments(text) {
+        let comment = comment.replace([':', ';'], " ").to_lowercase();
+        let line = match comment.split_whitespace().collect::<Vec<_>>()[..] {
+            ["service", word] => service::named(word).filter(|service| *service != service::TOTAL),
+            _ => None,
+        };
+        line.into_iter().for_each(|line| places.note(At::Comment(line), number));
+    }
 }
 
 /// What a house's lines measure.

@@ -12,7 +12,10 @@ use crate::header::{self, Column, Form};
 use crate::loss::{self, NoLosses};
 use crate::measure::{self, Quantity};
 use crate::mistake::{Mistake, Mistakes};
-use crate::{meters, table};
+use crate::{meters, service, table};
+
+/// The column that says what the losses are of.
+const SERVICE: &str = "service";
 
 const IN_METRES: Column = Column::of("loss m", "m", &measure::LOSS_IN_METRES);
 
@@ -24,13 +27,16 @@ pub const FORM: Form = Form {
         Column::of("loss cm", "cm", &measure::LOSS).or(&IN_METRES),
     ],
     name: None,
+    service: Some(SERVICE),
 };
 
-/// A readable list as bytes, with the lines of its losses.
+/// A readable list as bytes, with the lines of its losses, and what of the house's water they are of, where it says that: the
+/// bytes have no place for it.
 #[derive(Clone, Debug, PartialEq, Eq)]
 pub struct Packed {
     pub bytes: Vec<u8>,
     pub lines: Lines,
+    pub service: Option<u8>,
 }
 
 /// Whether a readable file is a list of losses: cells of its first line begin as both of the list's columns do, and fewer as a
@@ -39,7 +45,7 @@ pub fn is_list(text: &str) -> bool {
     let Some(line) = cells::first_line(text) else { return false };
     SEPARATORS.iter().map(|(separator, _)| Cells::of(&line, *separator)).any(|line| {
         let own = header::likeness(&line, &FORM);
-        own > 1 && [&table::FORM, &meters::FORM].iter().all(|other| own > header::likeness(&line, other))
+        own > 1 && own > header::likeness(&line, &table::FORM) && own > meters::likeness(&line)
     })
 }
 
@@ -75,7 +81,16 @@ pub fn quantities() -> Vec<Quantity> {
 
 /// The canonical text of a list of whole losses, whatever they are. Other bytes are given back as [`NoLosses`].
 pub fn show(bytes: &[u8]) -> Result<String, NoLosses> {
+    show_of(bytes, None)
+}
+
+/// The same, with the line of a house that the losses are of in each row, where there is one.
+pub fn show_of(bytes: &[u8], line: Option<u8>) -> Result<String, NoLosses> {
     let losses = loss::read(bytes)?;
-    let rows: String = (1..).zip(losses).map(|(section, loss): (u8, u32)| format!("{section},{loss}\n")).collect();
-    Ok(format!("{}\n{rows}", FORM.header(',')))
+    let [title, own] = match line {
+        Some(line) => [format!(",{SERVICE}"), format!(",{}", service::name(line))],
+        None => Default::default(),
+    };
+    let rows: String = (1..).zip(losses).map(|(section, loss): (u8, u32)| format!("{section},{loss}{own}\n")).collect();
+    Ok(format!("{}{title}\n{rows}", FORM.header(',')))
 }

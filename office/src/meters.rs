@@ -23,6 +23,7 @@ pub const FORM: Form = Form {
         Column::of("service flow l/h", "l/h", &measure::SERVICE),
     ],
     name: Some("name"),
+    service: None,
 };
 
 /// A readable list as bytes, with the lines of its meters and the names that it has for them, empty where there is none.
@@ -40,10 +41,20 @@ pub fn is_list(text: &str) -> bool {
     let house = readable::begins_a_house(line.content);
     SEPARATORS.iter().map(|(separator, _)| Cells::of(&line, *separator)).filter(|line| line.cells.len() > 1).any(
         |line| {
-            let own = header::likeness(&line, &FORM) + usize::from(has_type(&line));
+            let own = likeness(&line) + usize::from(has_type(&line));
             own > header::likeness(&line, &table::FORM) + usize::from(house)
         },
     )
+}
+
+/// How many cells of a line begin as the list's columns do. A `service` without its flow is none where it stands alone: a list of
+/// losses has such a column, and a house such a line.
+pub fn likeness(line: &Cells) -> usize {
+    let bare = |cell: &String| cell.strip_prefix("service").is_some_and(|rest| !rest.trim_start().starts_with("flow"));
+    match header::likeness(line, &FORM) {
+        1 if line.cells.iter().any(bare) => 0,
+        alike => alike,
+    }
 }
 
 /// Whether a cell of a line is a meter's type, as in a row and not in a header.

@@ -61,6 +61,18 @@ pub struct Heating {
     pub loss: u32,
 }
 
+/// Hundredths of a watt that heat a litre an hour by one degree, and the temperature of hot water in degrees C, as formulas 10 and 11
+/// have them.
+pub const PER_LITRE: u64 = 116;
+pub const HOT: u64 = 55;
+
+impl Heating {
+    /// What the water of an hour itself takes, in watts: formulas 10 and 11 without the loss.
+    pub fn of_water(&self, litres: u32) -> u64 {
+        (PER_LITRE * u64::from(litres) * (HOT - u64::from(self.cold).min(HOT))).div_ceil(100)
+    }
+}
+
 /// All places at which this refusal lies, in the order of the file.
 pub fn places(refusal: &Refusal, asked: &Asked) -> Vec<Place> {
     let of_shape = |found: Vec<Place>| shape::another(asked).into_iter().chain(found).collect();

@@ -212,6 +212,12 @@ pub fn lines(text: &str) -> impl Iterator<Item = TextLine<'_>> {
     })
 }
 
+/// The comments of a text with the numbers of their lines, also of lines that hold nothing else; a second `#` in a line begins
+/// another one.
+pub fn comments(text: &str) -> impl Iterator<Item = (usize, &str)> {
+    (1..).zip(text.lines()).flat_map(|(number, line)| line.split('#').skip(1).map(move |comment| (number, comment)))
+}
+
 impl TextLine<'_> {
     /// A sign for comments that may be part of a word.
     pub fn fault(&self) -> Option<Mistake> {

@@ -17,11 +17,16 @@ pub fn name(service: u8) -> String {
     NAMES.get(usize::from(service)).map_or_else(|| service.to_string(), |name| name.to_string())
 }
 
+/// The service of a name alone.
+pub fn named(word: &str) -> Option<u8> {
+    NAMES.iter().position(|name| *name == word).map(|at| at as u8)
+}
+
 /// The service of a name, or of a number that has none. A number that has a name is not taken: somebody may count the lines
 /// from another one.
 pub fn service(word: &str) -> Option<u8> {
-    match NAMES.iter().position(|name| *name == word) {
-        Some(at) => Some(at as u8),
+    match named(word) {
+        Some(service) => Some(service),
         None if word.bytes().all(|b| b.is_ascii_digit()) => word.parse().ok().filter(|number| *number > HOT),
         None => None,
     }

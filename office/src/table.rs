@@ -27,6 +27,7 @@ pub const FORM: Form = Form {
         Column::of("slope mm/m", "mm/m", &measure::SLOPE),
     ],
     name: None,
+    service: None,
 };
 
 /// A readable table as bytes, with the lines that its rows came from.

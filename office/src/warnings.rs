@@ -3,12 +3,14 @@
 
 mod losses;
 
-use crate::at::{At, Field};
+use crate::at::{At, Field, Lines};
+use crate::calls::Flow;
 use crate::catalogue::{Catalogue, Row};
 use crate::meter::{self, Meter};
 use crate::places::{Heating, Place};
 use crate::record::{Record, Section};
-pub use losses::off_losses;
+use crate::service;
+pub use losses::{of_no_line, off_losses};
 
 /// Lengths are kept in whole dm, so a pipe may be this many cm longer than it says.
 const ROUNDED: i64 = 9;
@@ -26,6 +28,18 @@ pub fn warnings(record: &Record) -> Vec<Place> {
         found.extend(long(number, section, high));
     }
     found
+}
+
+/// The warning of a readable house without a service in which one is commented out: it is taken as all water.
+pub fn commented_out(lines: &Lines) -> Option<Place> {
+    let comments = [service::COLD, service::HOT].map(At::Comment);
+    let (at, _) = comments.into_iter().filter_map(|at| Some((at, lines.of(at)?))).min_by_key(|(_, line)| *line)?;
+    let all = service::words(service::TOTAL);
+    let why = format!(
+        "it stands behind #, and no line gives the service, so that the house is taken for {all}; take the # out, or \
+         write `service total`"
+    );
+    Some(Place::new(at, why))
 }
 
 /// The set adds to the guaranteed head, so it can't deliver less than that.
@@ -106,16 +120,33 @@ fn of_flow(bore: u16, row: &Row) -> Option<u64> {
 }
 
 /// Less heat than this, in watts, some ten metres of pipe lose.
-const LITTLE_HEAT: u32 = 100;
+const LITTLE_HEAT: u64 = 100;
 
-/// The warning of a heat loss, which may be in kW. None is stated with 0.
-pub fn off_heat(heating: Heating) -> Option<Place> {
-    let loss = heating.loss;
+/// The warning of a heat loss, which may be in kW, or have a zero too many where the pipes lose more than the water of the mean hour
+/// takes. None is stated with 0.
+pub fn off_heat(heating: Heating, mean_hour: Option<u32>) -> Option<Place> {
+    let loss = u64::from(heating.loss);
+    let water = mean_hour.map(|litres| heating.of_water(litres)).filter(|water| loss > *water);
+    let why = match water {
+        _ if (1..LITTLE_HEAT).contains(&loss) => {
+            format!("{loss} W, which a few metres of pipe lose; is it in kW? {loss} kW would be {} W", 1_000 * loss)
+        }
+        Some(water) if loss > 0 => format!(
+            "{loss} W, more than the {water} W that the water of the mean hour takes itself; has it a digit too many?"
+        ),
+        _ => return None,
+    };
+    Some(Place::new(At::HeatLoss, why))
+}
+
+/// The warning of hours of use that are too few: no hour of the day can use more than the greatest.
+pub fn off_hours(record: &Record, flow: &Flow) -> Option<Place> {
+    let (hours, Flow { hour, mean_hour, day, .. }) = (record.hours, flow);
     let why = format!(
-        "{loss} W, which a few metres of pipe lose; is it in kW? {loss} kW would be {} W",
-        1_000 * u64::from(loss)
+        "the {day} litres of a day in {hours} hours are {mean_hour} l/h in the mean hour, more than the {hour} l/h of the greatest; \
+         are the hours of use a day right?"
     );
-    (1..LITTLE_HEAT).contains(&loss).then(|| Place::new(At::HeatLoss, why))
+    (mean_hour > hour).then(|| Place::new(At::Field(Field::Hours), why))
 }
 
 /// What meters lose at their own service flow, in cm. Source document 001 has 158 to 161 for vane meters and 12 to 159 for turbine

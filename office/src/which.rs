@@ -47,9 +47,7 @@ fn is_nearly_losses(text: &str) -> bool {
     let section = line.content.trim_start().to_lowercase().starts_with("section");
     let first = of_a_house(&line) && !section;
     let parted = SEPARATORS.iter().map(|(separator, _)| Cells::of(&line, *separator));
-    let other = parted
-        .map(|line| header::likeness(&line, &table::FORM) + header::likeness(&line, &meters::FORM))
-        .sum::<usize>();
+    let other = parted.map(|line| header::likeness(&line, &table::FORM) + meters::likeness(&line)).sum::<usize>();
     header::is_nearly(line.content, &losses::FORM, "loss")
         && other == 0
         && !first

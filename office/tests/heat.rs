@@ -105,7 +105,7 @@ fn another_service_is_refused_with_its_place() {
     std::fs::write(&total, format!("{}\nservice total # all of it\n", read(HOUSE))).expect("written");
     let last = read(HOUSE).lines().count() + 2;
     for (file, place) in [
-        (HOUSE, format!("{HOUSE}, service: none is given, which means cold and hot water together; {own}")),
+        (HOUSE, format!("{HOUSE}, service: it is total, cold and hot water together, as where none is given; {own}")),
         (COLD, format!("{COLD} line 4, service: it is cold; {own}")),
         (&total, format!("{total} line {last}, service: it is total, cold and hot water together; {own}")),
     ] {
@@ -164,7 +164,7 @@ fn misused(words: &[&str], why: &str) {
 fn numbers_are_never_misread() {
     let odd = [
         "5C", "5°C", "5 C", "5.0", "5,5", "0.5", "-5", "-0", "+5", "", " 5", "5 ", "five", "0x5", "5e0", "1_000", "٥",
-        "--json", "1.2kW", "1200W", "1 200", "1,200", "1'200", "NaN",
+        "1.2kW", "1200W", "1 200", "1,200", "1'200", "NaN",
     ];
     for given in odd {
         misused(&["heat", HOT, "--cold-water", given, "--loss", "0"], "is no whole number for `--cold-water`; ");
@@ -212,7 +212,68 @@ fn both_numbers_are_needed_once_and_by_heat_alone() {
         &["heat", "examples/table.csv", "--cold-water", "5", "--loss", "0"],
         "is a table of sizes; a house is expected",
     );
-    misused(&["heat", HOT, "--cold-water=5", "--loss", "0"], "there is no option `--cold-water=5`");
+    for (words, wanted) in [
+        (["--cold-water=5", "--loss", "0"], "`--cold-water=5`; write a blank in place of `=`, as `--cold-water 5`\n"),
+        (["--cold-water", "5", "--loss=1200"], "`--loss=1200`; write a blank in place of `=`, as `--loss 1200`\n"),
+        (["--warm-water=5", "--loss", "0"], "`--warm-water=5`; `office help` lists them\n"),
+        (["--json=5", "--loss", "0"], "`--json=5`; `office help` lists them\n"),
+    ] {
+        misused(&[&["heat", HOT], &words[..]].concat(), &format!("there is no option {wanted}"));
+    }
+    for (words, option, next) in [
+        (&["heat", HOT, "--cold-water", "--loss", "0"][..], "--cold-water", "--loss"),
+        (&["heat", "--cold-water", "--loss", "0", HOT], "--cold-water", "--loss"),
+        (&["heat", HOT, "--cold-water", "5", "--loss", "--json"], "--loss", "--json"),
+        (&["heat", HOT, "--cold-water", "5", "--loss", "-o", "x"], "--loss", "-o"),
+    ] {
+        misused(words, &format!("`{option}` has no number: `{next}` stands behind it; it wants a "));
+    }
+}
+
+/// The 60 guests' 150 litres each are 375 l/h in the mean hour, which take 116 x 375 x (55 - t) / 100 W: 21,750 from 5 degrees on, 10,875
+/// from 30. Pipes that lose more than that are likely a zero too many.
+#[test]
+fn a_loss_above_the_mean_hours_own_heat_gets_a_warning() {
+    for (cold, water, loss) in
+        [("5", 21_750, 21_750), ("5", 21_750, 21_751), ("30", 10_875, 10_875), ("30", 10_875, 12_000)]
+    {
+        let ran = heat(HOT, cold, &loss.to_string());
+        let why = format!(
+            "warning: heat loss: {loss} W, more than the {water} W that the water of the mean hour takes itself; has it a digit \
+             too many?\n"
+        );
+        assert_eq!((ran.status, ran.error.as_str()), (0, if loss > water { why.as_str() } else { "" }), "{loss}");
+        let strict = office(&["heat", HOT, "--cold-water", cold, "--loss", &loss.to_string(), "--strict"]);
+        assert_eq!(strict.status, if loss > water { 2 } else { 0 });
+    }
+}
+
+/// A service that is given in version 1 is given: the place does not say that it is not.
+#[test]
+fn total_in_version_1_is_called_total() {
+    let text = format!("version 1\nservice total\n{}", read(HOUSE));
+    let ran = office_with(&["heat", "-", "--cold-water", "5", "--loss", "0"], text.as_bytes());
+    let place = "standard input line 2, service: it is total, cold and hot water together, as where none is given; ";
+    assert!(ran.status == 1 && ran.text().contains(place), "{}", ran.text());
+}
+
+/// The day's 9,000 litres in 4 hours are 2,250 l/h, under the 2,346 of the greatest hour, and in 3 hours 3,000.
+#[test]
+fn hours_too_few_for_the_day_get_a_warning() {
+    for (hours, mean, warned) in [("4", 2_250, false), ("3", 3_000, true), ("1", 9_000, true)] {
+        let text = read(HOT).replacen("hours           24", &format!("hours {hours}"), 1);
+        let line = 1 + text.lines().position(|line| line.starts_with("hours")).expect("hours");
+        let why = format!(
+            "warning: standard input line {line}, hours: the 9000 litres of a day in {hours} hours are {mean} l/h in the mean hour, \
+             more than the 2346 l/h of the greatest; are the hours of use a day right?\n"
+        );
+        for words in [&["heat", "-", "--cold-water", "5", "--loss", "0"][..], &["flow", "-"]] {
+            let ran = office_with(words, text.as_bytes());
+            assert_eq!((ran.status, ran.error.as_str()), (0, if warned { why.as_str() } else { "" }), "{hours}");
+            let strict = office_with(&[words, &["--strict"]].concat(), text.as_bytes());
+            assert_eq!(strict.status, if warned { 2 } else { 0 });
+        }
+    }
 }
 
 /// A loss that a few metres of pipe have may be in kW; none is stated with 0.

@@ -7,7 +7,8 @@ mod run;
 
 use json::Value;
 use office::record::Record;
-use office::{calls, house, kinds, table};
+use office::which::Which;
+use office::{calls, house, kinds, losses, table};
 use run::{office, office_with, read, scratch};
 
 const HOT: &str = "examples/hotel-hot.txt";
@@ -202,7 +203,10 @@ fn an_answer_of_another_line_is_refused() {
         for (file, here) in [(&hot, "hot"), (&total, "total"), (&plain, "total")] {
             for answer in [&answer, &headed.output] {
                 let ran = office_with(&["heads", file, "-"], answer);
-                let why = format!("is not of this house: the house has as its service cold there and {here} here; ");
+                let why = format!(
+                    "is not of this house: the house has as its service cold there and {here} here; \
+                    give the house of the cold line with it; "
+                );
                 assert!(ran.status == 2 && ran.output.is_empty() && ran.error.contains(&why), "{}", ran.error);
             }
         }
@@ -212,15 +216,111 @@ fn an_answer_of_another_line_is_refused() {
     assert_eq!(office_with(&["heads", &total, "-"], &answer).status, 0);
 }
 
-/// A readable list says nothing of the house, so that its first line tells which line its losses are of.
+/// The list of a line's answer says in every row which line it is of, and is taken for no other; one of all water has no such column.
 #[test]
 fn a_list_of_an_answer_names_its_line() {
-    for (file, line) in [(HOT, " for the hot line"), (COLD, " for the cold line"), (HOUSE, "")] {
-        let answer = answered(&["losses", file, TABLE, &sizes(file), "--json"]);
-        let list = office_with(&["show", "-"], answer.as_bytes()).text();
-        let first = format!("# the losses of standard input, an answer of `office losses`{line}\n");
-        assert!(list.starts_with(&first), "{list}");
-        assert_eq!(office_with(&["heads", file, "-"], list.as_bytes()).status, 0);
+    for (file, line, own) in [(HOT, " for the hot line", "hot"), (COLD, " for the cold line", "cold"), (HOUSE, "", "")]
+    {
+        for command in [&["losses", file, TABLE, &sizes(file)][..], &["choose", file, TABLE]] {
+            let answer = answered(&[command, &["--json"]].concat());
+            let list = office_with(&["show", "-"], answer.as_bytes()).text();
+            let first = format!("# the losses of standard input, an answer of `office {}`{line}\n", command[0]);
+            assert!(list.starts_with(&first), "{list}");
+            let rows: Vec<Vec<&str>> = list.lines().skip(1).map(|line| line.split(',').collect()).collect();
+            let third = |place: usize| rows[place].get(2).copied().unwrap_or("");
+            assert_eq!(third(0), if own.is_empty() { "" } else { "service" });
+            assert!((1..rows.len()).all(|place| third(place) == own), "{list}");
+            let ran = office_with(&["heads", file, "-", "--strict"], list.as_bytes());
+            assert_eq!((ran.status, ran.error.as_str()), (0, ""));
+            assert_eq!(ran.text(), office_with(&["heads", file, "-"], answer.as_bytes()).text());
+        }
+    }
+}
+
+const LOST: [&str; 3] = ["section", "loss cm", "service"];
+
+/// A list of two losses with its columns in an order, cells parted so, and these services.
+fn lost(order: [usize; 3], separator: &str, services: [&str; 2]) -> String {
+    let row = |cells: [&str; 3]| order.map(|place| cells[place]).join(separator) + "\n";
+    row(LOST) + &row(["1", "31", services[0]]) + &row(["2", "32", services[1]])
+}
+
+const ORDERS: [[usize; 3]; 6] = [[0, 1, 2], [0, 2, 1], [1, 0, 2], [1, 2, 0], [2, 0, 1], [2, 1, 0]];
+
+/// Losses of one line are not taken for the other, nor for all water, in whatever order and form the list says which line it is.
+#[test]
+fn a_list_of_another_line_is_refused() {
+    let house = |service: &str| written(&format!("two-{service}.txt"), format!("service {service}\n{ALIKE}"));
+    let (plain, houses) = (written("two.txt", ALIKE), ["total", "cold", "hot"].map(|line| (line, house(line))));
+    let houses: Vec<_> = houses.into_iter().chain([("total", plain)]).collect();
+    for (order, separator) in ORDERS.iter().flat_map(|order| [",", ";", "\t", " , "].map(|own| (*order, own))) {
+        for there in ["total", "cold", "hot", "HOT"] {
+            let list = lost(order, separator, [there; 2]);
+            assert!(losses::is_list(&list) && Which::of(&list) == Which::Losses, "{list}");
+            for (here, file) in &houses {
+                let ran = office_with(&["heads", file, "-", "--strict", "--json"], list.as_bytes());
+                if there.to_lowercase() == *here {
+                    let parsed = json::parse(&ran.text());
+                    assert_eq!((ran.status, parsed.get("service")), (0, &Value::Text(here.to_string())), "{list}");
+                    continue;
+                }
+                let ran = office_with(&["heads", file, "-"], list.as_bytes());
+                let there = there.to_lowercase();
+                let why = format!("the house has as its service {there} there and {here} here");
+                assert!(ran.status == 2 && ran.output.is_empty() && ran.error.contains(&why), "{list}{}", ran.error);
+            }
+        }
+    }
+}
+
+/// A list of a line says it once and the same in every row, by its name.
+#[test]
+fn services_of_a_list_are_one_name() {
+    let expected = "total, cold or hot, the same in every row";
+    for (services, line, wrong) in [
+        (["cold", "hot"], 3, "`service` is hot here and cold in line 2"),
+        (["hot", "total"], 3, "`service` is total here and hot in line 2"),
+        (["", "hot"], 2, "`service` is empty"),
+        (["hot", ""], 3, "`service` is empty"),
+        (["2", "2"], 2, "`2` is no service"),
+        (["7", "7"], 2, "`7` is no service"),
+        (["warm", "warm"], 2, "`warm` is no service"),
+        (["hot line", "hot"], 2, "`hot line` is no service"),
+        (["хот", "hot"], 2, "`хот` is no service"),
+    ] {
+        for order in ORDERS {
+            let found = losses::pack(&lost(order, ",", services)).expect_err(wrong);
+            let first = &found.list[0];
+            assert_eq!(first.line.as_ref().map(|(number, _)| *number), Some(line), "{found}");
+            assert!(first.wrong.starts_with(wrong) && (line == 3 || first.expected == expected), "{found}");
+        }
+    }
+    let twice = losses::pack("service,section,loss cm,service\nhot,1,3,hot\n").expect_err("twice");
+    assert!(twice.list[0].wrong.contains("the column `service` is there twice"), "{twice}");
+    // The record has the losses alone, and the library judges them.
+    let bytes = losses::pack(&lost([2, 1, 0], ",", ["cold"; 2])).expect("a list");
+    assert_eq!(bytes, [0, 0, 0, 31, 0, 0, 0, 32]);
+}
+
+/// A list that does not say its line, readable or as a record, is warned of for a house that is one line; all water needs no word.
+#[test]
+fn a_list_without_its_line_is_warned_of() {
+    let list = "section,loss cm\n1,31\n2,32\n";
+    let record = losses::pack(list).expect("a list");
+    for (service, warned) in
+        [("service hot\n", true), ("service cold\n", true), ("service total\n", false), ("", false)]
+    {
+        let house = written(&format!("unsaid-{}.txt", service.trim()), format!("{service}{ALIKE}"));
+        for given in [list.as_bytes(), &record] {
+            let why = "warning: standard input, list of losses: the list does not say which line of the house its losses are of;";
+            let ran = office_with(&["heads", &house, "-"], given);
+            assert_eq!((ran.status, ran.error.starts_with(why), ran.error.is_empty()), (0, warned, !warned));
+            let strict = office_with(&["heads", &house, "-", "--strict"], given);
+            assert_eq!((strict.status, strict.output.is_empty()), if warned { (2, true) } else { (0, false) });
+            // A list of another length is refused, and its line is not what is wrong with it.
+            let short = office_with(&["heads", &house, "-"], &record[..4]);
+            assert!(short.status == 1 && !short.error.contains("which line"), "{}", short.error);
+        }
     }
 }
 
@@ -236,7 +336,8 @@ fn an_older_answer_is_of_all_water() {
     };
     assert_eq!(office_with(&["heads", HOUSE, "-"], older(&house, "total").as_bytes()).status, 0);
     let ran = office_with(&["heads", HOT, "-"], older(&hot, "hot").as_bytes());
-    let why = "the house has as its service total there and hot here";
+    let why = "is not of this house: it names no service, so that it is of all water: the house has as its service total there and hot \
+               here; give the house for all its water with it; it was made for another house, or ";
     assert!(ran.status == 2 && ran.error.contains(why), "{}", ran.error);
     for (value, why) in
         [("\"warm\"", "`service` is `warm`"), ("\"7\"", "`service` is `7`"), ("2", "`service` is no text")]
@@ -258,6 +359,21 @@ fn a_table_for_people_is_no_list() {
     let first: String = other.lines().filter(|line| !line.starts_with('#')).map(|line| format!("{line}\n")).collect();
     let ran = office_with(&["heads", HOT, "-"], first.as_bytes());
     assert!(ran.status == 2 && ran.error.contains("is a house; a list of losses is expected"), "{}", ran.error);
+}
+
+/// A sign before the service is the house's mistake, and makes no list of it.
+#[test]
+fn a_house_that_begins_with_a_sign_is_a_house() {
+    for first in [";service hot", "; service hot", ",service cold", ";service", "x;service hot"] {
+        let text = format!("{first}\n{}", read(HOUSE));
+        assert_eq!(Which::of(&text), Which::House, "{first}");
+        let ran = office_with(&["flow", "-"], text.as_bytes());
+        assert!(ran.status == 2 && ran.error.contains(" begins no line of a house"), "{first}: {}", ran.error);
+    }
+    // A list of meters that lacks a unit is still one.
+    for header in ["type,resistance m/(l/s)2,service", "type;service", "service flow;name"] {
+        assert_eq!(Which::of(&format!("{header}\nvane,1.3,4000\n")), Which::Meters, "{header}");
+    }
 }
 
 /// Kind 7 uses 250 litres a day, 150 of them hot, and 28.0 in the hour, 15.0 of them hot; a fixture of either line gives 0.20 l/s and

@@ -133,12 +133,12 @@ fn heat() {
         of(&job(), 5, 0),
         20,
         service,
-        "none is given, which means cold and hot water together; a hot line has a house",
+        "it is total, cold and hot water together, as where none is given; a hot line has a house",
     );
     check(of(&served("total"), 5, 0), 20, service, "it is total, cold and hot water together; ");
     check(of(&served("cold"), 5, 0), 20, service, "it is cold; a hot line has a house of its own, with `service hot`");
     // 20 comes before 21, and 1 to 9 before both.
-    check(of(&job(), 31, 1_000_001), 20, service, "none is given");
+    check(of(&job(), 31, 1_000_001), 20, service, "as where none is given");
     check(of(&served("hot")[..50], 31, 0), 1, At::Field(Field::Stated), "states 51 bytes and has 50");
     let (cold, loss) = (At::ColdWater, At::HeatLoss);
     check(of(&served("hot"), 31, 0), 21, cold, "31 is outside 0 to 30 degrees C");
@@ -156,7 +156,30 @@ fn nine_goes_by_the_norms_of_the_line() {
         let job = with(&served(service), &[(29, 117)]);
         let found = of_job(&job);
         check((found.0, found.1.clone()), 9, At::House, &format!("the hour's sum is {weight} millionths"));
-        check((found.0, found.1), 9, At::Residents(7), &format!("; {pass} residents would pass"));
+        let line = At::Field(Field::Service);
+        match service {
+            "total" => {
+                check((found.0, found.1.clone()), 9, At::Residents(7), &format!("; {pass} residents would pass"));
+                assert!(found.1.iter().all(|place| place.at != line));
+            }
+            // Residents of a line are those of the whole house; with the fixtures that are named it passes.
+            _ => {
+                check(
+                    (found.0, found.1.clone()),
+                    9,
+                    line,
+                    "its residents stay those of the whole house, and its fixtures",
+                );
+                assert!(
+                    !found.1.iter().any(|place| place.why.contains("would pass") || place.why.contains("fewer res"))
+                );
+                let fixtures = weight.div_ceil(100_000) as u8;
+                let why = format!("fixtures of kind hotel-75 carry 8000000; {fixtures} fixtures would do, ");
+                check((found.0, found.1.clone()), 9, At::Residents(7), &why);
+                assert!(calls::flow(&with(&job, &[(44, fixtures)])).is_ok());
+                assert!(calls::flow(&with(&job, &[(44, fixtures - 1)])).is_err());
+            }
+        }
         assert!(calls::flow(&with(&job, &[(29, pass)])).is_ok(), "{service}");
         assert_eq!(calls::flow(&with(&job, &[(29, pass + 1)])), Err(Refusal::DemandOverFixtures), "{service}");
     }

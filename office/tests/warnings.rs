@@ -50,6 +50,49 @@ fn what_lies_at_the_edge_is_no_slip() {
     assert_eq!(found("length 22.0 m", "length 104.1 m"), [At::Section(10)]);
 }
 
+/// A service that is commented out is none, and the house is taken for all water.
+#[test]
+fn a_service_behind_a_hash_is_warned_of() {
+    let text = read(HOUSE);
+    let whole = office_with(&["flow", "-", "--strict"], text.as_bytes());
+    assert_eq!((whole.status, whole.error.as_str()), (0, ""));
+    for (front, line, service) in [
+        ("# service hot\n", 1, "hot"),
+        ("\n#service cold\n", 2, "cold"),
+        ("##  Service: HOT ;\n", 1, "hot"),
+        ("# all water # service cold\n", 1, "cold"),
+        ("# service cold\n# service hot\n", 1, "cold"),
+        ("# service hot\n# service cold\n", 1, "hot"),
+    ] {
+        let own = format!("{front}{text}");
+        let why = format!("warning: standard input line {line}, comment `service {service}`: it stands behind #, ");
+        let ran = office_with(&["flow", "-"], own.as_bytes());
+        assert!(ran.status == 0 && ran.error.starts_with(&why), "{front}{}", ran.error);
+        assert_eq!(ran.output, whole.output);
+        let strict = office_with(&["choose", "-", TABLE, "--strict"], own.as_bytes());
+        assert!(strict.status == 2 && strict.output.is_empty() && strict.error.starts_with(&why), "{}", strict.error);
+        // Any service that is given says what is meant.
+        for given in ["total", "cold", "hot"] {
+            let own = format!("service {given}\n{own}");
+            assert_eq!(office_with(&["flow", "-", "--strict"], own.as_bytes()).status, 0);
+        }
+    }
+    let behind = text.replacen("hours           24", "hours 24 # service hot", 1);
+    let line = 1 + behind.lines().position(|line| line.contains("# service hot")).expect("hours");
+    let ran = office_with(&["flow", "-"], behind.as_bytes());
+    assert!(
+        ran.error.starts_with(&format!("warning: standard input line {line}, comment `service hot`: ")),
+        "{}",
+        ran.error
+    );
+    for comment in
+        ["service total", "service", "service warm", "the service hot", "service hot line", "service cold and hot"]
+    {
+        let ran = office_with(&["flow", "-", "--strict"], format!("# {comment}\n{text}").as_bytes());
+        assert_eq!((ran.status, ran.error.as_str()), (0, ""), "{comment}");
+    }
+}
+
 /// Each command answers with a warning, and with `--strict` gives nothing.
 fn every_command_warns(text: &str) {
     let kept = scratch("strict.out");

@@ -5,15 +5,34 @@ use crate::measure::{LENGTH, TENTHS};
 use crate::record::Record;
 use crate::service;
 
+/// In which line of the house it is not the one that losses are of, in words. A house of version 1 is of all water.
+pub fn of_another_line(stated: u8, record: &Record) -> Option<String> {
+    let fact = of_service(stated, record);
+    fact.differs().then(|| format!("{}; give {} with it", fact.words(), house_of(stated)))
+}
+
+/// The house that losses are of, in words.
+fn house_of(stated: u8) -> String {
+    match stated {
+        service::TOTAL => "the house for all its water".to_string(),
+        line => format!("the house of {}", service::words(line)),
+    }
+}
+
+fn of_service(stated: u8, record: &Record) -> Fact {
+    Fact::new("the house", "as its service", stated.into(), record.service, service)
+}
+
 impl Answer {
     /// The first thing in which a house is not the one that the losses were worked out for, in words. What was written comes before
     /// what the library works out from it.
     pub fn difference(&self, record: &Record, flows: &[u32]) -> Option<String> {
         let own = || record.numbered().zip(&self.sections);
-        let house = [
-            Fact::new("the house", "as its service", self.service.into(), record.service, service),
-            Fact::new("the house", "local losses of", self.tenths, record.tenths, tenths),
-        ];
+        if let Some(line) = of_another_line(self.service(), record) {
+            let unnamed = if self.service.is_none() { "it names no service, so that it is of all water: " } else { "" };
+            return Some(format!("{unnamed}{line}"));
+        }
+        let house = [Fact::new("the house", "local losses of", self.tenths, record.tenths, tenths)];
         let shape = own().flat_map(|((number, section), stated)| {
             let whose = format!("section {number}");
             [

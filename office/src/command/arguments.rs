@@ -40,16 +40,13 @@ pub fn parse(words: &[OsString]) -> Result<Arguments, Misuse> {
             "-h" | "--help" => found.help = true,
             "--record" => set_reading(&mut next, Reading::Record)?,
             "--text" => set_reading(&mut next, Reading::Text)?,
-            option @ ("-o" | "--seed" | "--cold-water" | "--loss") => found.set(option, rest.next())?,
+            option if WITH_A_VALUE.contains(&option) => found.set(option, rest.next())?,
             // It takes the command's place, or that of the command on which there is to be help.
             "--version" if plain.iter().all(|(word, _)| word == "help") => {
                 plain.push((word.clone(), Reading::ByContent))
             }
             "--version" => return Err(Misuse::Words("`--version` stands alone, as `office --version`".to_string())),
-            option if option.starts_with('-') && option != "-" => {
-                let option = self::word(option);
-                return Err(Misuse::Words(format!("there is no option `{option}`; `office help` lists them")));
-            }
+            option if option.starts_with('-') && option != "-" => return Err(unknown(option)),
             // The command's own name is no file.
             _ if plain.is_empty() => plain.push((word.clone(), Reading::ByContent)),
             _ => plain.push((word.clone(), std::mem::take(&mut next))),
@@ -62,6 +59,20 @@ pub fn parse(words: &[OsString]) -> Result<Arguments, Misuse> {
     found.last_reading(next)?;
     Ok(found)
 }
+
+/// An option that there is not. A value stands behind a blank, and not behind `=`.
+fn unknown(option: &str) -> Misuse {
+    let advice = match option.split_once('=') {
+        Some((own, value)) if WITH_A_VALUE.contains(&own) => {
+            format!("write a blank in place of `=`, as `{own} {}`", word(value))
+        }
+        _ => "`office help` lists them".to_string(),
+    };
+    Misuse::Words(format!("there is no option `{}`; {advice}", word(option)))
+}
+
+/// The options behind which a value stands.
+const WITH_A_VALUE: [&str; 4] = ["-o", "--seed", "--cold-water", "--loss"];
 
 fn set_reading(next: &mut Reading, reading: Reading) -> Result<(), Misuse> {
     if *next != Reading::ByContent {
@@ -83,6 +94,18 @@ fn value(word: Option<&OsString>, option: &str, what: &str) -> Result<OsString, 
     word.cloned().ok_or_else(|| Misuse::Words(format!("`{option}` wants {what}")))
 }
 
+/// A value that is a number. Another option in its place is none: what stands behind that would be taken for a file.
+fn numeric(word: Option<&OsString>, option: &str, what: &str) -> Result<OsString, Misuse> {
+    let value = value(word, option, what)?;
+    match value.to_str().filter(|next| next.starts_with("--") || ["-o", "-h"].contains(next)) {
+        Some(next) => {
+            let next = self::word(next);
+            Err(Misuse::Words(format!("`{option}` has no number: `{next}` stands behind it; it wants {what}")))
+        }
+        None => Ok(value),
+    }
+}
+
 /// A whole number given as a word.
 pub fn number(given: &str, what: &str) -> Result<u64, Misuse> {
     let plain = given.bytes().all(|b| b.is_ascii_digit());
@@ -96,8 +119,10 @@ impl Arguments {
         let value = |what: &str| value(word, option, what);
         match option {
             "-o" => self.set_out(value("a file")?),
-            "--cold-water" => set_once(&mut self.cold_water, value("a temperature in degrees C")?, option),
-            "--loss" => set_once(&mut self.loss, value("a number of W")?, option),
+            "--cold-water" => {
+                set_once(&mut self.cold_water, numeric(word, option, "a temperature in degrees C")?, option)
+            }
+            "--loss" => set_once(&mut self.loss, numeric(word, option, "a number of W")?, option),
             seed => {
                 self.seed = Some(number(&value("a number")?.to_string_lossy(), seed)?);
                 Ok(())

@@ -38,7 +38,7 @@ pub fn pack(arguments: &Arguments) -> Result<Outcome, Misuse> {
         Which::House => file.house(&text)?,
         Which::Table => file.table(&text)?,
         Which::Meters => file.list(&text)?.source,
-        Which::Losses => file.loss_list(&text)?,
+        Which::Losses => file.loss_list(&text)?.source,
     };
     to_a_terminal(arguments)?;
     done(arguments, given(&source, which), which, packed(&source, which), source.bytes.clone())
@@ -73,10 +73,11 @@ fn of_answer(arguments: &Arguments, lent: Lent, form: Form) -> Result<Outcome, M
             done(arguments, given, Which::Losses, packed(source, Which::Losses), source.bytes.clone())
         }
         Form::Text => {
-            let line = list.answer.as_ref().and_then(|answer| answer.line());
-            let line = line.map_or(String::new(), |line| format!(" for {}", service::words(line)));
-            let from = format!("# the losses of {}, an answer of `office {command}`{line}\n", source.name);
-            let text = from + &losses::show(&source.bytes).unwrap_or_default();
+            // Losses of all water are shown as ever: no column says that they are of a line.
+            let line = list.service.filter(|service| *service != service::TOTAL);
+            let words = line.map_or(String::new(), |line| format!(" for {}", service::words(line)));
+            let from = format!("# the losses of {}, an answer of `office {command}`{words}\n", source.name);
+            let text = from + &losses::show_of(&source.bytes, line).unwrap_or_default();
             let fields = shown(Which::Losses, fields::losses(&loss::read(&source.bytes).unwrap_or_default()));
             done(arguments, given, Which::Losses, fields, text.into_bytes())
         }

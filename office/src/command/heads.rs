@@ -10,6 +10,7 @@ use super::refused::Given;
 use super::report::{self, Fields, Unanswered};
 use super::required;
 use super::sections::{self, Known};
+use office::answer::of_another_line;
 use office::pipes::{Pipe, without_sizes};
 use office::record::Record;
 use office::{Heads, calls, loss};
@@ -74,9 +75,13 @@ impl Headed {
         (own != given).then(|| format!("the required head is {given} cm by the library and {own} cm by the command"))
     }
 
-    /// What of the house is not as the list of losses says, where it is an answer of the command.
+    /// What of the house is not as the list of losses says: a readable one may say which line it is of, an answer of the command
+    /// says more.
     fn is_of_another_house(&self, list: &Losses) -> Option<String> {
-        list.answer.as_ref()?.difference(&self.record, &self.demand.flow.flows)
+        match &list.answer {
+            Some(answer) => answer.difference(&self.record, &self.demand.flow.flows),
+            None => of_another_line(list.service?, &self.record),
+        }
     }
 
     fn fields(&self) -> Fields {

@@ -8,7 +8,7 @@ use super::outcome::{Misuse, Outcome, word};
 use super::refused::Given;
 use super::report::{self, Fields, Unanswered};
 use office::measure::shown;
-use office::places::{Heating, MOST_COLD, MOST_LOSS};
+use office::places::{HOT, Heating, MOST_COLD, MOST_LOSS, PER_LITRE};
 use office::{Heat, Refusal, calls, service};
 use std::ffi::OsString;
 
@@ -99,16 +99,11 @@ impl Heated {
         [("mean hour", flow.mean_hour, mean), ("greatest hour", flow.hour, greatest)]
     }
 
-    /// What the water itself takes, in watts: formulas 10 and 11 without the loss.
-    fn of_water(&self, flow: u32) -> u64 {
-        (PER_LITRE * u64::from(flow) * (HOT - u64::from(self.heating.cold).min(HOT))).div_ceil(100)
-    }
-
     fn difference(&self) -> Option<String> {
         if self.demand.service != Some(service::HOT) {
             return Some("a heat flow comes for a house that is no hot line".to_string());
         }
-        let own = |flow: u32| self.of_water(flow) + u64::from(self.heating.loss);
+        let own = |flow: u32| self.heating.of_water(flow) + u64::from(self.heating.loss);
         let mut hours = self.hours().into_iter();
         let (hour, flow, watts) = hours.find(|(_, flow, watts)| own(*flow) != u64::from(*watts))?;
         Some(format!("the heat flow of the {hour} is {watts} W by the library and {} W by the command", own(flow)))
@@ -137,18 +132,13 @@ impl Heated {
         for (hour, flow, watts) in self.hours() {
             rows.push((hour, flow.to_string(), "l/h".to_string()));
             rows.push(("  heat flow", watts.to_string(), format!("W, which is {} kW", shown(watts.into(), 3))));
-            let water = self.of_water(flow);
+            let water = self.heating.of_water(flow);
             let sum = format!("{PER_LITRE} x {flow} x ({HOT} - {cold}) / 100, rounded up, is {water} W");
             sums.push_str(&format!("{hour}: {sum}; with the heat loss of {loss} W it is {watts} W\n"));
         }
         format!("{}\n{sums}", figures(&rows))
     }
 }
-
-/// Hundredths of a watt that heat a litre an hour by one degree, and the temperature of hot water in degrees C, as formulas 10 and 11
-/// have them.
-const PER_LITRE: u64 = 116;
-const HOT: u64 = 55;
 
 #[cfg(test)]
 mod tests {

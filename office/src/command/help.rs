@@ -174,11 +174,13 @@ answer was made for another house or before a change; where a velocity is over t
 gives no answer then (status 2), and the message names the first difference. An answer from before there were services is of all
 water. The answer's warnings are repeated, and count for --strict; a refusal that was handed on is shown with its places (status 1).
 
-A readable list and a record say nothing of the house but how many sections it has: check yourself that they are of this one. They,
-and answers of `heads`, get warnings: a loss of 0; one over 100 cm and more than the pipe's length; losses that look like running
-sums, since no section loses less than the one it hangs from; losses that look like readings of gauges, since every section that
-rises loses at least its rise. A fault that more than three sections share is one line with their count. Losses that `losses`,
-`rate` or `choose` worked out get none of these.
+A readable list may say in a column `service` which line of the house its losses are of: those of another line are not taken, as of
+an answer, and for a house that is a cold or a hot line a list that does not say it gets a warning. Beside that a readable list and a
+record say nothing of the house but how many sections it has: check yourself that they are of this one. They, and answers of `heads`,
+get warnings: a loss of 0; one over 100 cm and more than the pipe's length; losses that look like running sums, since no section
+loses less than the one it hangs from; losses that look like readings of gauges, since every section that rises loses at least its
+rise. A fault that more than three sections share is one line with their count. Losses that `losses`, `rate` or `choose` worked out
+get none of these.
 
 `office help flow` explains the design flow, and `one tap of` behind it.
 
@@ -217,7 +219,8 @@ nothing is assumed, and 5C, 5.5 and 1.2kW are refused.
 
 A heat flow is 116 x l/h x (55 - T) / 100 in W, rounded up, plus the loss, of the mean hour and of the greatest (formulas 10 and 11
 of SNiP 2.04.01-85). How each comes about stands below the figures. A house that is no hot line is refused with 20, a number out of
-its range with 21. A loss of 1 to 99 W gets a warning: it may be in kW.
+its range with 21. A loss of 1 to 99 W gets a warning: it may be in kW; and so does one above the heat of the mean hour's own water:
+it may have a digit too many.
 
 --json: service, cold_water_celsius, heat_loss_w, mean_hour_l_per_h, mean_hour_heat_w, hour_l_per_h (the greatest hour),
 hour_heat_w.",

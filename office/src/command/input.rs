@@ -1,6 +1,6 @@
 //! Files as the command reads them: a readable file or a binary record, told apart by the first byte.
 
-use super::lent::LISTED;
+use super::lent::{LISTED, Losses};
 use super::outcome::{Misuse, word};
 use office::answer;
 use office::at::Lines;
@@ -238,9 +238,10 @@ impl File<'_> {
     }
 
     /// A readable list of losses.
-    pub fn loss_list(&self, text: &str) -> Result<Source, Misuse> {
+    pub fn loss_list(&self, text: &str) -> Result<Losses, Misuse> {
         let packed = losses::read(text).map_err(|mistakes| Misuse::Mistakes(self.name(), mistakes))?;
-        Ok(Source { name: self.name(), bytes: packed.bytes, lines: packed.lines })
+        let source = Source { name: self.name(), bytes: packed.bytes, lines: packed.lines };
+        Ok(Losses { source, service: packed.service, answer: None })
     }
 
     /// A readable list of meters.

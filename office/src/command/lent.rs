@@ -6,9 +6,11 @@ use office::answer::{self, Answer, Printed, Refused};
 use office::which::Which;
 use office::{loss, losses, readable};
 
-/// A list of losses; one that the command has printed says what it was worked out from.
+/// A list of losses; a readable one may say what of the house's water they are of, and one that the command has printed says what
+/// it was worked out from.
 pub struct Losses {
     pub source: Source,
+    pub service: Option<u8>,
     pub answer: Option<Answer>,
 }
 
@@ -27,17 +29,13 @@ pub enum Lent {
     Refusal(Handed),
 }
 
-impl Lent {
-    fn list(source: Source) -> Lent {
-        Lent::Losses(Losses { source, answer: None })
-    }
-}
-
 impl File<'_> {
     /// A list of losses: a readable one is packed, a record is taken as it is, and so are the losses of an answer.
     pub fn losses(&self) -> Result<Lent, Misuse> {
         match self.content()? {
-            Content::Record(bytes) => Ok(Lent::list(self.as_it_is(bytes))),
+            Content::Record(bytes) => {
+                Ok(Lent::Losses(Losses { source: self.as_it_is(bytes), service: None, answer: None }))
+            }
             Content::Meters(_) => Err(self.another(Which::Meters, Which::Losses)),
             Content::Answer(bytes) => self.printed(&bytes),
             Content::Text(text) => {
@@ -49,7 +47,7 @@ impl File<'_> {
                     return Err(Misuse::Words(format!("{} {why} `{header}`", self.name())));
                 }
                 self.is_list(&text, Which::Losses, header)?;
-                Ok(Lent::list(self.loss_list(&text)?))
+                Ok(Lent::Losses(self.loss_list(&text)?))
             }
         }
     }
@@ -61,7 +59,7 @@ impl File<'_> {
             Printed::Refusal(refusal) => Ok(Lent::Refusal(Handed { name, refusal })),
             Printed::Answer(answer) => {
                 let source = self.as_it_is(loss::bytes(&answer.losses()));
-                Ok(Lent::Losses(Losses { source, answer: Some(answer) }))
+                Ok(Lent::Losses(Losses { source, service: Some(answer.service()), answer: Some(answer) }))
             }
         }
     }

@@ -4,7 +4,6 @@ use super::input::Source;
 use super::json::Json;
 use super::lent::{Handed, Losses};
 use super::report::Fields;
-use office::Refusal;
 use office::answer::{self, Answer, Said};
 use office::at::At;
 use office::catalogue::Catalogue;
@@ -14,8 +13,11 @@ use office::meter;
 use office::places::{Asked, Heating, Place, places};
 use office::readable;
 use office::record::Record;
-use office::warnings::{off_heat, off_losses, off_service, off_velocity, warnings};
+use office::warnings::{
+    commented_out, of_no_line, off_heat, off_hours, off_losses, off_service, off_velocity, warnings,
+};
 use office::which::Which;
+use office::{Flow, Refusal, calls};
 
 /// What the refused call was given.
 #[derive(Clone, Copy, Default)]
@@ -25,6 +27,8 @@ pub struct Given<'a> {
     pub sizes: &'a [u8],
     pub meters: Option<&'a Source>,
     pub losses: Option<&'a Source>,
+    /// What of the house's water the losses are of, where the list says it.
+    pub service: Option<u8>,
     pub heating: Option<Heating>,
     /// What the command has printed, where the losses come from that.
     pub answer: Option<&'a Answer>,
@@ -32,7 +36,8 @@ pub struct Given<'a> {
 
 impl<'a> Given<'a> {
     pub fn of_losses(list: &'a Losses) -> Given<'a> {
-        Given { losses: Some(&list.source), answer: list.answer.as_ref(), ..Given::default() }
+        let (losses, answer) = (Some(&list.source), list.answer.as_ref());
+        Given { losses, service: list.service, answer, ..Given::default() }
     }
 }
 
@@ -94,16 +99,26 @@ impl Given<'_> {
         let mut found: Vec<Place> = meters.as_deref().map(off_service).unwrap_or_default();
         let written = self.losses.filter(|_| !self.answer.is_some_and(Answer::is_worked_out));
         let losses = written.and_then(|losses| loss::read(&losses.bytes).ok()).unwrap_or_default();
+        let unsaid = record.iter().filter(|_| self.service.is_none());
+        found.extend(unsaid.filter_map(|record| of_no_line(record, &losses)));
         found.extend(record.iter().flat_map(|record| off_losses(record, &losses)));
-        found.extend(self.heating.and_then(off_heat));
+        let mean_hour = || self.flow().map(|flow| flow.mean_hour);
+        found.extend(self.heating.and_then(|heating| off_heat(heating, mean_hour())));
         found
+    }
+
+    /// The house's flows, where the library gives them.
+    fn flow(&self) -> Option<Flow> {
+        self.job.and_then(|job| calls::flow(&job.bytes).ok())
     }
 
     /// What is nearly always a slip in the house or the table.
     fn of_house(&self) -> Vec<Place> {
         let record = self.job.and_then(|job| Record::read(&job.bytes).ok());
         let catalogue = self.cat.and_then(|cat| Catalogue::read(&cat.bytes).ok());
-        let mut found: Vec<Place> = record.iter().flat_map(warnings).collect();
+        let mut found: Vec<Place> = self.job.and_then(|job| commented_out(&job.lines)).into_iter().collect();
+        found.extend(record.iter().flat_map(warnings));
+        found.extend(record.iter().zip(self.flow()).filter_map(|(record, flow)| off_hours(record, &flow)));
         found.extend(catalogue.as_ref().and_then(off_velocity));
         found
     }

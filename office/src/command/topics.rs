@@ -87,7 +87,8 @@ A list of losses has a header too, and below it one line for each section of the
 const OF_LOSSES: &str = "\
 Columns stand in any order; a column `notes` is skipped. Each section has one line, in any order, from 1 without a gap. The losses
 are in cm and whole, or under `loss m` in m with up to two decimals; one that is finer is refused and not rounded, and the message
-names the next that states no less loss. A list has one of the two columns.
+names the next that states no less loss. A list has one of the two columns. A column `service` says for which line of the house the
+losses are, with total, cold or hot in every row; `heads` takes no losses of another line.
 ";
 
 /// Quantities with what the library takes, and with their units where these stand behind the number.

@@ -78,7 +78,12 @@ impl Head {
         };
         let Some(found) = service::service(&word) else {
             let number = !word.is_empty() && word.bytes().all(|b| b.is_ascii_digit());
-            let why = if number { "; it is given by its name" } else { "" };
+            let why = match word.trim_start_matches('0').len() {
+                _ if !number => "",
+                // The numbers that have names have one digit; the others that are no service have at least three.
+                0..=1 => "; it is given by its name",
+                _ => "; the record has a byte for it, which holds up to 255",
+            };
             return Err(line.mistake(format!("`{word}` is no service{why}"), SERVICES));
         };
         line.end(&format!("one service on its line: {SERVICES}"))?;

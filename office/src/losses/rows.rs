@@ -10,6 +10,7 @@ use crate::loss;
 use crate::measure;
 use crate::mistake::{Mistake, Mistakes};
 use crate::numbered::Numbered;
+use crate::service;
 
 /// The places of the columns in `FORM`.
 const SECTION: usize = 0;
@@ -20,6 +21,8 @@ const LOSS: usize = 1;
 pub struct Given {
     losses: Numbered<u32>,
     lines: Lines,
+    /// What the rows so far are of, and the line of the first of them.
+    service: Option<(u8, usize)>,
 }
 
 impl Given {
@@ -31,6 +34,7 @@ impl Given {
     pub fn take(&mut self, row: &Cells, columns: &Columns, mistakes: &mut Mistakes) {
         mistakes.extend(columns.stray(row));
         mistakes.extend(commas::doubtful(row, columns));
+        mistakes.extend(columns.service.and_then(|place| self.take_service(row, place)));
         let loss = columns.number(row, LOSS).map_err(|mistake| mistakes.add(mistake)).unwrap_or(0) as u32;
         let section = section(row, columns).and_then(|section| {
             let once = self.lines.once(At::Loss(section.into()), row.line);
@@ -45,9 +49,24 @@ impl Given {
         }
     }
 
+    /// Takes what a row says that its loss is of. A list is of one set's pipes, so that all rows say the same.
+    fn take_service(&mut self, row: &Cells, place: usize) -> Option<Mistake> {
+        let word = row.at(place);
+        let Some(service) = service::named(word) else {
+            let wrong = if word.is_empty() { "`service` is empty".into() } else { format!("`{word}` is no service") };
+            return Some(row.mistake(wrong, format!("{}, the same in every row", service::TAKEN)));
+        };
+        let (first, line) = *self.service.get_or_insert((service, row.line));
+        let first_name = service::name(first);
+        let wrong = format!("`service` is {word} here and {first_name} in line {line}");
+        (first != service)
+            .then(|| row.mistake(wrong, "one service in all rows; each line of a house has a list of its own"))
+    }
+
     /// The losses from section 1 on.
     pub fn packed(self, mistakes: &mut Mistakes) -> Packed {
-        Packed { bytes: loss::bytes(&self.losses.in_order(mistakes)), lines: self.lines }
+        let service = self.service.map(|(service, _)| service);
+        Packed { bytes: loss::bytes(&self.losses.in_order(mistakes)), lines: self.lines, service }
     }
 }
 

@@ -1,10 +1,10 @@
 //! Refusals 8 and 9: m and the hour's sum, for the house and for each section, in millionths, and what would pass.
 
 use super::Place;
-use crate::at::At;
+use crate::at::{At, Field};
 use crate::kinds::{self, Norm};
 use crate::record::Record;
-use crate::service::HOT;
+use crate::service::{HOT, TOTAL};
 
 /// The end of Table 2, and the greatest demand for one fixture, in millionths.
 const TABLE_END: u64 = 400_000_000;
@@ -36,6 +36,10 @@ pub fn over_table(job: &[u8]) -> Vec<Place> {
     found
 }
 
+/// What 9 means for a cold or a hot line, whose residents are not to be made fewer.
+const OF_A_LINE: &str = "a line may be refused where all water of the house is not, since it may feed fewer fixtures and each gives less; \
+    its residents stay those of the whole house, and its fixtures are those that it feeds";
+
 /// 9: too few fixtures for the demand; behind the house's places the kinds that are over what their own fixtures carry.
 pub fn over_fixtures(job: &[u8]) -> Vec<Place> {
     let Some(demand) = Demand::of(job) else { return Vec::new() };
@@ -43,6 +47,7 @@ pub fn over_fixtures(job: &[u8]) -> Vec<Place> {
     let (house, sections): (Vec<&Sum>, Vec<&Sum>) = sums.iter().partition(|sum| sum.at == At::House);
     let worst = house.iter().max_by_key(|sum| sum.total()).or(sections.first());
     let mut found: Vec<Place> = house.iter().map(|sum| sum.place()).collect();
+    found.extend(demand.is_a_line().then(|| Place::new(At::Field(Field::Service), OF_A_LINE)));
     found.extend(worst.map_or(Vec::new(), |sum| demand.crowded(sum)));
     found.extend(sections.iter().map(|sum| sum.place()));
     found
@@ -95,6 +100,10 @@ impl Demand {
         let sound = record.numbered().all(|(number, section)| section.parent < number && section.kind <= 12);
         let sound = sound && record.service <= HOT;
         sound.then_some(Demand { record })
+    }
+
+    fn is_a_line(&self) -> bool {
+        self.record.service != TOTAL
     }
 
     /// The norms of the house's service, of the kind at a place.
@@ -202,6 +211,17 @@ impl Demand {
         })
     }
 
+    /// How many residents of a kind would pass. Those of a line are not advised on: they are those of the whole house.
+    fn fewer(&self, kind: usize) -> String {
+        if self.is_a_line() {
+            return String::new();
+        }
+        match self.residents_that_pass(kind) {
+            Some(pass) => format!("; {pass} residents would pass"),
+            None => "; fewer residents of this kind alone don't do".to_string(),
+        }
+    }
+
     /// The kinds whose share is over what their own fixtures carry, the most crowded first, with what would pass: where a
     /// sum is over, at least one kind of it is.
     fn crowded(&self, sum: &Sum) -> Vec<Place> {
@@ -211,10 +231,7 @@ impl Demand {
         for kind in over {
             let (share, own) = (sum.shares[kind], sum.served[kind]);
             let residents = self.record.residents[kind];
-            let fewer = match self.residents_that_pass(kind) {
-                Some(pass) => format!("{pass} residents would pass"),
-                None => "fewer residents of this kind alone don't do".to_string(),
-            };
+            let fewer = self.fewer(kind);
             let more = match self.fixtures_that_do(kind) {
                 Some((more, section)) => {
                     let all = self.house()[kind] + u64::from(more);
@@ -224,7 +241,7 @@ impl Demand {
             };
             let name = kinds::name(kind as u8 + 1);
             let why = format!(
-                "{residents} residents weigh {share} millionths, and {own} fixtures of kind {name} carry {}; {fewer}; {more}",
+                "{residents} residents weigh {share} millionths, and {own} fixtures of kind {name} carry {}{fewer}; {more}",
                 EACH * own
             );
             found.push(Place::new(At::Residents(kind as u8 + 1), why));

@@ -16,7 +16,8 @@ pub fn not_hot(job: &[u8]) -> Vec<Place> {
         return Vec::new();
     }
     let why = match record.stated_service() {
-        None => format!("none is given, which means {}", service::words(TOTAL)),
+        // A readable house may say `service total` in version 1 too, so that it is not said that none is given.
+        None => format!("it is total, {}, as where none is given", service::words(TOTAL)),
         Some(TOTAL) => format!("it is total, {}", service::words(TOTAL)),
         Some(line) => format!("it is {}", service::name(line)),
     };

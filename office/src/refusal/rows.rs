@@ -59,6 +59,8 @@ pub const ROWS: &[Row] = &[
         ],
         remedies: &[
             "Correct the field that is named, in its unit.",
+            "Where it is the service, write `service total`, `service cold` or `service hot` in the readable house, or no such line, \
+             and pack it again.",
             "Where there are too many sections, make one of two pipes that follow each other without a branch or fixtures \
              between them: their lengths together, and the end of the second.",
         ],
@@ -142,10 +144,13 @@ pub const ROWS: &[Row] = &[
         causes: &[
             "Rooms or flats were counted, and not their fixtures: each tap, shower and bath counts.",
             "A count of residents has a digit too many, or that of the fixtures one too few.",
+            "A cold or a hot line may be refused where all water of the house is not: it may feed fewer fixtures, and each gives less.",
         ],
         remedies: &[
-            "Count the fixtures at the sections' ends again.",
-            "Correct residents or fixtures; the message says how many residents would pass, and how many fixtures would do.",
+            "Count the fixtures at the sections' ends again, of a line those that it feeds.",
+            "Correct residents or fixtures; the message says how many fixtures would do and, of a house for all its water, how many \
+             residents would pass.",
+            "Leave the residents of a cold or a hot line those of the whole house: the norms are of the line's part of their water.",
         ],
     },
     Row {
@@ -304,7 +309,7 @@ pub const ROWS: &[Row] = &[
         text: "The heat flow is asked for a job that isn't hot. A hot line's job has version 2 and service 2.",
         plain: "Only a hot line has its water heated, and the house that was given is not written as one.",
         causes: &[
-            "The house has no line `service`, so that it is for cold and hot water together.",
+            "The house has no line `service`, or `service total`, so that it is for cold and hot water together.",
             "The house of the cold line was given.",
         ],
         remedies: &[

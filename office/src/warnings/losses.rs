@@ -3,6 +3,7 @@
 use crate::at::At;
 use crate::places::Place;
 use crate::record::Record;
+use crate::service;
 
 /// A loss that a short pipe with a fitting in it may well have, in cm.
 const OF_A_FITTING: u32 = 100;
@@ -13,6 +14,18 @@ const IN_A_ROW: usize = 4;
 /// A section rises from so many cm on, and so many risers tell gauge readings.
 const RISES: i64 = 50;
 const RISERS: usize = 3;
+
+/// The warning of a list of losses that does not say which line it is of, for a house that is one line of two: the other line's
+/// losses look the same.
+pub fn of_no_line(record: &Record, losses: &[u32]) -> Option<Place> {
+    let line = service::name(record.service);
+    let one_of_two = [service::COLD, service::HOT].contains(&record.service);
+    let why = format!(
+        "the list does not say which line of the house its losses are of; a readable list with a column `service`, {line} in each \
+         row, says it"
+    );
+    (one_of_two && record.sections.len() == losses.len()).then(|| Place::new(At::Losses, why))
+}
 
 /// The warnings of a list of losses for a house with as many sections: the list's own, then each loss that no pipe has, and each
 /// that is more than its pipe is long.

@@ -128,7 +128,7 @@ fn list(dice: &mut Dice) -> String {
     text.lines().enumerate().map(named).collect()
 }
 
-/// A made-up list of losses as `show` writes it, most of them such as the library takes, at times in m or with notes.
+/// A made-up list of losses as `show` writes it, most of them such as the library takes, at times in m, with notes or of one line.
 fn lost(dice: &mut Dice) -> String {
     let most = *dice.pick(&[900, 900, 900, 5_000_000, 1 << 24, 1 << 32]);
     let own: Vec<u32> = (0..1 + dice.below(14)).map(|_| (dice.next() % most) as u32).collect();
@@ -139,9 +139,12 @@ fn lost(dice: &mut Dice) -> String {
     };
     let note = *dice.pick(&["measured", "riser 3", "3 bends", "\"3 bends\"", "40"]);
     let noted = |(at, line): (usize, &str)| format!("{line},{}\n", if at == 0 { "notes" } else { note });
-    match dice.below(4) {
+    let lined = |(at, line): (usize, &str)| format!("{},{line}\n", if at == 0 { "service" } else { "cold" });
+    match dice.below(6) {
         0 => text.lines().enumerate().map(metres).collect(),
         1 => text.lines().enumerate().map(noted).collect(),
+        2 => text.lines().enumerate().map(lined).collect(),
+        3 => losses::show_of(&loss::bytes(&own), Some(2)).expect("whole losses"),
         _ => text,
     }
 }

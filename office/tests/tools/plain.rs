@@ -560,7 +560,7 @@ fn is_beside_a_number(line: &[String], columns: &[usize], place: usize, kept: &K
     behind || (place > 0 && begins && number(place - 1).is_some())
 }
 
-/// The column of a list of losses that a header's cell names: 0 section, 1 loss, 2 notes; and the decimals of a loss.
+/// The column of a list of losses that a header's cell names: 0 section, 1 loss, 2 notes, 4 the service; and the decimals of a loss.
 fn column_of_losses(cell: &str) -> Option<(usize, usize)> {
     let plain: String = cell.chars().map(|c| if "()[],".contains(c) { ' ' } else { c }).collect();
     match plain.split_whitespace().collect::<Vec<&str>>().as_slice() {
@@ -568,6 +568,7 @@ fn column_of_losses(cell: &str) -> Option<(usize, usize)> {
         ["section"] => Some((0, 0)),
         ["loss", "cm" | "см"] => Some((1, 0)),
         ["loss", "m" | "м"] => Some((1, 2)),
+        ["service"] => Some((4, 0)),
         ["notes" | "note" | "remarks" | "remark" | "comments" | "comment"] => Some((2, 0)),
         _ => None,
     }
@@ -584,13 +585,16 @@ fn lost(lines: &[String], separator: char) -> Option<Fields> {
         all.next().filter(|_| all.next().is_none())
     };
     let (section, loss) = (place(0)?, place(1)?);
+    let lined = columns.contains(&4);
+    let service = if lined { Some(place(4)?) } else { None };
+    let mut services: Vec<String> = Vec::new();
     let kept: Kept = [(0, 0, 63), (1, decimals[loss], 4_294_967_295)];
     let mut fields = Fields::new();
     for raw in parted {
         let line = bared(&raw);
         for (place, cell) in line.iter().enumerate().filter(|(_, cell)| !cell.is_empty()) {
             match columns.get(place) {
-                Some(0 | 1) => {}
+                Some(0 | 1 | 4) => {}
                 Some(2) if separator != ',' => {}
                 Some(2) if place > section.min(loss) && is_number(cell) => return None,
                 Some(2) if raw[place].starts_with('"') => {}
@@ -598,11 +602,15 @@ fn lost(lines: &[String], separator: char) -> Option<Fields> {
                 _ => return None,
             }
         }
+        if let Some(place) = service {
+            services.push(line.get(place).filter(|word| ["total", "cold", "hot"].contains(&word.as_str()))?.clone());
+        }
         let own = count(line.get(section)?, 63).filter(|own| *own > 0)?;
         let value = number(line.get(loss)?, decimals[loss], false).filter(|value| *value <= 4_294_967_295)?;
         fields.insert(format!("loss {own}"), value).is_none().then_some(())?;
     }
     let all = fields.len();
+    services.windows(2).all(|two| two[0] == two[1]).then_some(())?;
     (all > 0 && (1..=all).all(|section| fields.contains_key(&format!("loss {section}")))).then_some(())?;
     fields.insert("losses".to_string(), all as i64);
     Some(fields)
