@@ -4,21 +4,15 @@ use mathlib.Core.Path.{_≡_, sym, _∙_}
 use mathlib.Core.Bool.{true, false}
 use Prim.Native.Nat.{ℕ, suc, _+_, _-_, _≤_, _<_}
 use native.Mathlib.Omega.{arith}
-use mathlib.Core.List.{List}
-use lib.IntN.{ℤ, pos, _+ℤ_}
-use lib.ListN.{getD}
+use lib.IntN.{ℤ}
 use lib.Signed.{ltZ, leZ}
-use Rattle.basis.specs.Slots.{slots}
-use Rattle.basis.specs.Sections.{pathOf}
-use Rattle.basis.proofs.Slots.{slots-in}
 use Rattle.basis.proofs.Bools.{never, apart}
 use Rattle.fields.specs.declared.Job.{Job}
-use Rattle.fields.specs.Fields.{countOf, sectionOf}
-use Rattle.tree.specs.Tree.{parentOf}
+use Rattle.fields.specs.Fields.{countOf}
 use Rattle.heads.specs.Signed.{greater}
 use Rattle.heads.specs.Heads.{reachOf, greatestTo, dictatingOf}
 use Rattle.heads.proofs.Signed.{le-self, le-trans, le-total, less-not, not-less, greater-first, greater-second}
-use Rattle.heads.proofs.Maximum.{greatest-one, greatest-more, greatest-bound, greatest-ext}
+use Rattle.heads.proofs.Maximum.{greatest-one, greatest-more, greatest-bound}
 use Rattle.basis.proofs.Lowest.{Lowest, lowest-only}
 
 pub record Best (f : ℕ → ℤ) (n : ℕ) (most : ℤ) (section : ℕ) : Type 0 where
@@ -68,27 +62,8 @@ module _ {f : ℕ → ℤ} {most : ℤ} {section : ℕ} (i : ℕ) (b : Best f (i
         lowest = record { low = l .low; high = omega (arith, l .high); holds = l .holds; first = l .first };
       }
 
--- elevation + free head + the path loss at the section's place
-abbrev pub reachIn : Job → List ℕ → ℕ → ℤ
-reachIn job paths i = sectionOf job i .elevation +ℤ pos (sectionOf job i .free + getD paths i 0)
-
--- over the path losses at their places, the best of all sections is the greatest reach and the dictating section
-pub best-end : (job : Job) (loss : ℕ → ℕ) {paths : List ℕ} {most : ℤ} {section : ℕ} → Best (reachIn job paths) (countOf job) most section →
-    paths ≡ slots 64 1 (countOf job + 1) 0 (pathOf (parentOf job) loss) → 0 < countOf job → countOf job ≤ 63 →
+-- the best of all sections is the greatest reach and the dictating section
+pub best-end : (job : Job) (loss : ℕ → ℕ) {most : ℤ} {section : ℕ} → Best (reachOf job loss) (countOf job) most section →
     (most ≡ greatestTo (countOf job) (reachOf job loss)) × (section ≡ dictatingOf job loss)
-unfolding reachOf dictatingOf
-best-end job loss {paths} {most} {section} b e some few =
-    let same : (i : ℕ) → 0 < i → i ≤ countOf job → reachIn job paths i ≡ reachOf job loss i =
-    λ i h k. rw (e, slots-in 64 1 (countOf job + 1) 0 (pathOf (parentOf job) loss) i 0 h (omega arith) (omega arith)) in
-    let g = b .greatest ∙ greatest-ext (reachIn job paths) (reachOf job loss) (countOf job) some same in
-    let l = b .lowest in (
-      g,
-      lowest-only (countOf job) _ section
-          (rw (← g)
-          (record {
-            low = l .low;
-            high = l .high;
-            holds = rw (← same section (l .low) (l .high)) (l .holds);
-            first = λ j p q. rw (← same j p (omega (arith, l .high))) (l .first j p q);
-          })),
-    )
+unfolding dictatingOf
+best-end job loss {most} {section} b = (b .greatest, lowest-only (countOf job) _ section (rw (← b .greatest) (b .lowest)))

@@ -1,6 +1,5 @@
 -- What a job that keeps 3 and 5 and losses within the bound say of the sizes: path losses, reaches, the greatest of them, required head and dictating section.
 -- Assumes nothing.
-use mathlib.Core.Path.{_≡_}
 use mathlib.Core.List.{List}
 use Prim.Native.Nat.{ℕ, _+_, _≤_, _<_}
 use native.Mathlib.Nat.{le-trans}
@@ -8,7 +7,6 @@ use native.Mathlib.Omega.{arith}
 use lib.IntN.{pos}
 use lib.ListN.{getD}
 use lib.Signed.{mag}
-use Rattle.basis.specs.Slots.{slots}
 use Rattle.basis.specs.Sections.{pathOf}
 use Rattle.fields.specs.declared.Job.{Job}
 use Rattle.fields.specs.Fields.{countOf, sectionOf}
@@ -20,7 +18,7 @@ use Rattle.rules.proofs.Elevation.{elevation-small}
 use Rattle.heads.specs.Heads.{reachOf, greatestTo, requiredOf, dictatingOf}
 use Rattle.heads.specs.Contracts.{Given}
 use Rattle.heads.proofs.Signed.{add-mag}
-use Rattle.heads.proofs.Loss.{path-within, path-held}
+use Rattle.heads.proofs.Loss.{path-within}
 use Rattle.basis.proofs.Lowest.{lowest-within}
 use Rattle.heads.proofs.Maximum.{Reached, greatest-reached}
 
@@ -33,11 +31,6 @@ module _ {job : Job} {losses : List ℕ} (g : Given job losses) where
 
   pub path-small : (i : ℕ) → i ≤ countOf job → pathOf (parentOf job) (λ i. getD losses i 0) i ≤ 268365825
   path-small i k = omega (arith, path-within job given-rooted (λ i. getD losses i 0) (g .top) i k, given-rooted .few)
-
-  pub held-small : (paths : List ℕ) → paths ≡ slots 64 1 (countOf job + 1) 0 (pathOf (parentOf job) (λ i. getD losses i 0)) →
-      (i : ℕ) → i ≤ countOf job → getD paths i 0 ≤ 268365825
-  held-small paths e i k =
-      rw (e, path-held job (λ i. getD losses i 0) (countOf job + 1) i (omega arith) (omega (arith, given-rooted .few))) (path-small i k)
 
   pub reach-small : (i : ℕ) → 0 < i → i ≤ countOf job → mag (reachOf job (λ i. getD losses i 0) i) < 268372827
   unfolding reachOf

@@ -1,3 +1,4 @@
 pub mod Signed
 pub mod Heads
 pub mod Contracts
+pub mod Walk

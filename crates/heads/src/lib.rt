@@ -5,7 +5,6 @@ ghost use mathlib.Core.Path.{_≡_};
 ghost use Prim.Native.Nat.{_+_, _≤_};
 ghost use lib.ListN.{getD};
 ghost use lib.IntN.{pos, _+ℤ_};
-ghost use Rattle.basis.specs.Slots.{slots};
 ghost use Rattle.basis.specs.Sections.{pathOf};
 ghost use Rattle.fields.specs.Fields.{countOf};
 ghost use Rattle.tree.specs.Tree.{parentOf};
@@ -25,20 +24,18 @@ struct Greatest {
     section: usize,
 }
 
-// The path loss of each section, at the section's place; a parent comes before its sections.
-pub fn paths(job: Job, losses: [u32; 64]) -> [u32; 64]
-    requires { ⌜ Given job losses ⌝ }
-    ensures { λ r. ⌜ r ≡ slots 64 1 (countOf job + 1) 0 (pathOf (parentOf job) (λ i. getD losses i 0)) ⌝ }
+// The path loss of a section: the walk from it over its parents to the pump, one section at each turn.
+pub fn path_loss(job: Job, losses: [u32; 64], section: usize) -> u32
+    requires { ⌜ Given job losses × (section ≤ countOf job) ⌝ }
+    ensures { λ r. ⌜ r ≡ pathOf (parentOf job) (λ i. getD losses i 0) section ⌝ }
 {
-    let count = job.header.sections as usize;
-    let mut paths = [0u32; 64];
-    let mut i: usize = 1;
-    while i <= count {
-        let p = job.sections[i].parent as usize;
-        paths[i] = losses[i] + paths[p];
-        i += 1;
+    let mut sum: u32 = 0;
+    let mut at = section;
+    while 0 < at {
+        sum += losses[at];
+        at = job.sections[at].parent as usize;
     }
-    paths
+    sum
 }
 
 // Elevation + free head + `more` at the end of a section; with its path loss that is the section's reach.
@@ -49,6 +46,14 @@ pub fn reach(s: Section, more: u32) -> i32
     (s.elevation as i32) + ((s.free as u32 + more) as i32)
 }
 
+// A section's reach with its own path loss.
+fn reach_at(job: Job, losses: [u32; 64], section: usize) -> i32
+    requires { ⌜ Given job losses × (section ≤ countOf job) ⌝ }
+    ensures { λ r. ⌜ r ≡ reachOf job (λ i. getD losses i 0) section ⌝ }
+{
+    reach(job.sections[section], path_loss(job, losses, section))
+}
+
 // The greatest reach over all sections, and the lowest section that has it.
 fn dictating(job: Job, losses: [u32; 64]) -> Greatest
     requires { ⌜ Given job losses ⌝ }
@@ -56,14 +61,13 @@ fn dictating(job: Job, losses: [u32; 64]) -> Greatest
         × (r .section ≡ dictatingOf job (λ i. getD losses i 0)) ⌝ }
 {
     let count = job.header.sections as usize;
-    let paths = paths(job, losses);
     let mut best = Greatest {
-        reach: reach(job.sections[1], paths[1]),
+        reach: reach_at(job, losses, 1),
         section: 1,
     };
     let mut i: usize = 2;
     while i <= count {
-        let r = reach(job.sections[i], paths[i]);
+        let r = reach_at(job, losses, i);
         if best.reach < r {
             best = Greatest {
                 reach: r,
