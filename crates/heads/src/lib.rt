@@ -2,7 +2,7 @@
 use fields::Job;
 use fields::Section;
 ghost use mathlib.Core.Path.{_≡_};
-ghost use Prim.Native.Nat.{_+_, _≤_};
+ghost use Prim.Native.Nat.{_+_, _≤_, _<_};
 ghost use lib.ListN.{getD};
 ghost use lib.IntN.{pos, _+ℤ_};
 ghost use Rattle.basis.specs.Sections.{pathOf};
@@ -26,7 +26,7 @@ struct Greatest {
 
 // The path loss of a section: the walk from it over its parents to the pump, one section at each turn.
 pub fn path_loss(job: Job, losses: [u32; 64], section: usize) -> u32
-    requires { ⌜ Given job losses × (section ≤ countOf job) ⌝ }
+    requires { ⌜ Given job losses × (0 < section) × (section ≤ countOf job) ⌝ }
     ensures { λ r. ⌜ r ≡ pathOf (parentOf job) (λ i. getD losses i 0) section ⌝ }
 {
     let mut sum: u32 = 0;
@@ -48,7 +48,7 @@ pub fn reach(s: Section, more: u32) -> i32
 
 // A section's reach with its own path loss.
 fn reach_at(job: Job, losses: [u32; 64], section: usize) -> i32
-    requires { ⌜ Given job losses × (section ≤ countOf job) ⌝ }
+    requires { ⌜ Given job losses × (0 < section) × (section ≤ countOf job) ⌝ }
     ensures { λ r. ⌜ r ≡ reachOf job (λ i. getD losses i 0) section ⌝ }
 {
     reach(job.sections[section], path_loss(job, losses, section))

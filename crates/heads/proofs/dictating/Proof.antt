@@ -54,5 +54,5 @@ returns c =
 pub dictating-spec : {M : Type 1} → statement M
 dictating-spec =
     tie.close
-    (tie.spec Inv-loop μ-loop (λ c. search needs) (λ c κs. (c .before .pre, given-head (c .before .pre) .sections .low)) loop-holds
-    (λ c κs. (c .before .before .before .before .pre, omega arith)) (λ c. search needs) (λ c. search needs) loop-again returns)
+    (tie.spec Inv-loop μ-loop (λ c. search needs) (λ c κs. (c .before .pre, omega arith, given-head (c .before .pre) .sections .low)) loop-holds
+    (λ c κs. (c .before .before .before .before .pre, omega arith, omega arith)) (λ c. search needs) (λ c. search needs) loop-again returns)

@@ -50,10 +50,10 @@ module _ (c : tie.In-loop Inv-loop μ-loop) where
   step = rw (← parent-at job at (omega arith)) (path-step (parent-lower job rooted) loss at (omega arith) (omega arith))
 
   within : pathOf (parentOf job) loss (start .args .section) ≤ 268365825
-  within = path-small (start .pre .0) (start .args .section) (start .pre .1)
+  within = path-small (start .pre .0) (start .args .section) (start .pre .2)
 
 loop-holds : tie.Need-loop-holds Inv-loop μ-loop
-loop-holds c = (c .pre .1, omega arith)
+loop-holds c = (c .pre .2, omega arith)
 
 loop-again : tie.Need-loop-again Inv-loop μ-loop
 loop-again c = (omega (arith, lower c), omega (arith, step c))

@@ -14,7 +14,7 @@ inside : (c : tie.Start) → c .args .section < 64
 inside c = omega (arith, given-rooted (c .pre .0) .few)
 
 small : tie.Need-reach-requires
-small c κs = let start = c .before .before in rw (c .path-loss .ensures) (path-small (start .pre .0) (start .args .section) (start .pre .1))
+small c κs = let start = c .before .before in rw (c .path-loss .ensures) (path-small (start .pre .0) (start .args .section) (start .pre .2))
 
 returns : tie.Need-returns
 unfolding reachOf
