@@ -43,7 +43,7 @@ pub fn bench() -> String {
         "\nflow, meter, rating and its two calls, heat: library against the model (8 meters, 12 sizes of 64 rows)\n{OTHERS}"
     );
     for sections in [8, 32, 63] {
-        OTHER_CALLS.into_iter().for_each(|(call, hot)| text += &other(call, hot, sections));
+        OTHER_CALLS.into_iter().for_each(|(call, on)| text += &other(call, on, sections));
     }
     text + &growth::table()
 }
@@ -55,15 +55,44 @@ const OTHERS: &str = "\
 |call|S|library µs|over model|
 |-|-|-|-|";
 
-/// The calls that are timed against the model alone, in the order of their lines, and whether on the house's hot line.
-const OTHER_CALLS: [(Call, bool); 7] = [
-    (Call::Flow, false),
-    (Call::Flow, true),
-    (Call::Meter, false),
-    (Call::Rate, false),
-    (Call::Losses, false),
-    (Call::Heads, false),
-    (Call::Heat, true),
+/// What another call than choosing is asked of.
+#[derive(Clone, Copy, PartialEq, Eq)]
+enum On {
+    House,
+    /// The same house in version 2 with service 2.
+    HotLine,
+    /// All sections in one line, so that no house of as many has longer ways to the pump.
+    Chain,
+}
+
+impl On {
+    fn words(self) -> &'static str {
+        match self {
+            On::House => "",
+            On::HotLine => " of a hot line",
+            On::Chain => " of a chain",
+        }
+    }
+
+    fn pipes(self) -> Pipes {
+        match self {
+            On::Chain => Pipes::WorstChain,
+            _ => Pipes::AllServe,
+        }
+    }
+}
+
+/// The calls that are timed against the model alone, in the order of their lines, and on what.
+const OTHER_CALLS: [(Call, On); 9] = [
+    (Call::Flow, On::House),
+    (Call::Flow, On::HotLine),
+    (Call::Meter, On::House),
+    (Call::Rate, On::House),
+    (Call::Rate, On::Chain),
+    (Call::Losses, On::House),
+    (Call::Heads, On::House),
+    (Call::Heads, On::Chain),
+    (Call::Heat, On::HotLine),
 ];
 
 /// What a search is made to do.
@@ -126,10 +155,10 @@ fn side(cost: i128, mut search: impl FnMut() -> Found) -> impl FnMut() {
 }
 
 /// A case of another call than choosing. The model is given no catalogue to read where the call takes none.
-fn other_case(call: Call, hot: bool, sections: usize) -> Case {
-    let mut case = Load { sections, head: 3_000, sizes: 12, pipes: Pipes::AllServe }.case();
+fn other_case(call: Call, on: On, sections: usize) -> Case {
+    let mut case = Load { sections, head: 3_000, sizes: 12, pipes: on.pipes() }.case();
     case.call = call;
-    if hot {
+    if on == On::HotLine {
         case.job = hot_line(&case.job);
     }
     match call {
@@ -165,8 +194,8 @@ fn lent(case: &Case, out: &mut [u8]) -> u32 {
     }
 }
 
-fn other(call: Call, hot: bool, sections: usize) -> String {
-    let case = other_case(call, hot, sections);
+fn other(call: Call, on: On, sections: usize) -> String {
+    let case = other_case(call, on, sections);
     let mut out = vec![0; case.out.length];
     let judged = judge(&case);
     assert_eq!(judged.number, 0, "the benchmark's house is accepted");
@@ -176,8 +205,8 @@ fn other(call: Call, hot: bool, sections: usize) -> String {
     let mut model = || drop(black_box(judge(black_box(&case))));
     let sides: &mut [Side] = &mut [&mut library, &mut model];
     let times = race(sides);
-    let of = if hot { " of a hot line" } else { "" };
-    format!("|{}{of}|{sections}|{}|{}|\n", call.name(), micros(&times[0]), Spread::of_ratios(&times[0], &times[1]))
+    let (name, of) = (call.name(), on.words());
+    format!("|{name}{of}|{sections}|{}|{}|\n", micros(&times[0]), Spread::of_ratios(&times[0], &times[1]))
 }
 
 #[cfg(test)]
@@ -200,9 +229,9 @@ mod tests {
     /// What is timed is a result and no refusal, of the library as of the model.
     #[test]
     fn the_other_calls_give_results() {
-        for (call, hot) in OTHER_CALLS {
+        for (call, on) in OTHER_CALLS {
             for sections in [8, 32, 63] {
-                let case = other_case(call, hot, sections);
+                let case = other_case(call, on, sections);
                 let mut out = vec![0; case.out.length];
                 assert_eq!((judge(&case).number, lent(&case, &mut out)), (0, 0), "{} {sections}", call.name());
                 assert!(out.iter().any(|byte| *byte != 0), "{} {sections}", call.name());
