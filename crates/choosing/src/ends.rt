@@ -28,11 +28,10 @@ pub fn ends_of(job: Job) -> Ends
     ensures { λ r. ⌜ EndsOf job (r .parents) (r .needs) ⌝ }
 {
     let count = job.header.sections as usize;
-    let mut parents = [0u8; 64];
+    let parents = tree::parents_of(job);
     let mut needs = [0u32; 64];
     let mut i: usize = 1;
     while i <= count {
-        parents[i] = job.sections[i].parent;
         needs[i] = need(job.sections[i]);
         i += 1;
     }

@@ -18,7 +18,7 @@ use Rattle.rules.proofs.Elevation.{elevation-small}
 use Rattle.heads.specs.Heads.{reachOf, greatestTo, requiredOf, dictatingOf}
 use Rattle.heads.specs.Contracts.{Given}
 use Rattle.heads.proofs.Signed.{add-mag}
-use Rattle.heads.proofs.Loss.{path-within}
+use Rattle.heads.proofs.Loss.{parent-lower, path-within}
 use Rattle.basis.proofs.Lowest.{lowest-within}
 use Rattle.heads.proofs.Maximum.{Reached, greatest-reached}
 
@@ -30,7 +30,7 @@ module _ {job : Job} {losses : List ℕ} (g : Given job losses) where
   given-rooted = rooted-of job (omega (arith, given-head .sections .high)) (g .sections)
 
   pub path-small : (i : ℕ) → i ≤ countOf job → pathOf (parentOf job) (λ i. getD losses i 0) i ≤ 268365825
-  path-small i k = omega (arith, path-within job given-rooted (λ i. getD losses i 0) (g .top) i k, given-rooted .few)
+  path-small i k = omega (arith, path-within (parent-lower job given-rooted) (λ i. getD losses i 0) (g .top) i k, given-rooted .few)
 
   pub reach-small : (i : ℕ) → 0 < i → i ≤ countOf job → mag (reachOf job (λ i. getD losses i 0) i) < 268372827
   unfolding reachOf

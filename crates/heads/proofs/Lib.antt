@@ -4,3 +4,4 @@ pub mod Maximum
 pub mod Best
 pub mod Same
 pub mod Bounds
+pub mod Walked

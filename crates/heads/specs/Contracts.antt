@@ -14,3 +14,10 @@ pub record Given (job : Job) (losses : List ℕ) : Type 0 where
   pub header : headerOk (job .header) ≡ true
   pub sections : sectionsOk job ≡ true
   pub top : (i : ℕ) → 0 < i → i ≤ countOf job → getD losses i 0 ≤ 4259775
+
+-- what a walk from a section asks: up to it each parent's number is less, and each loss is within the bound
+pub record Walkable (parents losses : List ℕ) (section : ℕ) : Type 0 where
+  pub low : 0 < section
+  pub high : section < 64
+  pub lower : (i : ℕ) → 0 < i → i ≤ section → getD parents i 0 < i
+  pub top : (i : ℕ) → 0 < i → i ≤ section → getD losses i 0 ≤ 4259775

@@ -7,9 +7,8 @@ ghost use lib.ListN.{getD};
 ghost use lib.IntN.{pos, _+ℤ_};
 ghost use Rattle.basis.specs.Sections.{pathOf};
 ghost use Rattle.fields.specs.Fields.{countOf};
-ghost use Rattle.tree.specs.Tree.{parentOf};
 ghost use Rattle.heads.specs.Heads.{reachOf, greatestTo, requiredOf, pumpOf, dictatingOf};
-ghost use Rattle.heads.specs.Contracts.{Given};
+ghost use Rattle.heads.specs.Contracts.{Given, Walkable};
 
 // Required head in cm, pump head in cm, and the dictating section.
 pub struct Heads {
@@ -25,15 +24,15 @@ struct Greatest {
 }
 
 // The path loss of a section: the walk from it over its parents to the pump, one section at each turn.
-pub fn path_loss(job: Job, losses: [u32; 64], section: usize) -> u32
-    requires { ⌜ Given job losses × (0 < section) × (section ≤ countOf job) ⌝ }
-    ensures { λ r. ⌜ r ≡ pathOf (parentOf job) (λ i. getD losses i 0) section ⌝ }
+pub fn path_loss(parents: &[u8; 64], losses: &[u32; 64], section: usize) -> u32
+    requires { ⌜ Walkable (now parents) (now losses) section ⌝ }
+    ensures { λ r. ⌜ r ≡ pathOf (λ i. getD (now (parents .entry)) i 0) (λ i. getD (now (losses .entry)) i 0) section ⌝ }
 {
     let mut sum: u32 = 0;
     let mut at = section;
     while 0 < at {
         sum += losses[at];
-        at = job.sections[at].parent as usize;
+        at = parents[at] as usize;
     }
     sum
 }
@@ -46,12 +45,13 @@ pub fn reach(s: Section, more: u32) -> i32
     (s.elevation as i32) + ((s.free as u32 + more) as i32)
 }
 
-// A section's reach with its own path loss.
-fn reach_at(job: Job, losses: [u32; 64], section: usize) -> i32
-    requires { ⌜ Given job losses × (0 < section) × (section ≤ countOf job) ⌝ }
-    ensures { λ r. ⌜ r ≡ reachOf job (λ i. getD losses i 0) section ⌝ }
+// A section's reach with its path loss.
+fn reach_at(s: Section, parents: &[u8; 64], losses: &[u32; 64], section: usize) -> i32
+    requires { ⌜ Walkable (now parents) (now losses) section ⌝ }
+    ensures { λ r. ⌜ r ≡ (s .elevation) +ℤ pos (s .free
+        + pathOf (λ i. getD (now (parents .entry)) i 0) (λ i. getD (now (losses .entry)) i 0) section) ⌝ }
 {
-    reach(job.sections[section], path_loss(job, losses, section))
+    reach(s, path_loss(parents, losses, section))
 }
 
 // The greatest reach over all sections, and the lowest section that has it.
@@ -61,13 +61,14 @@ fn dictating(job: Job, losses: [u32; 64]) -> Greatest
         × (r .section ≡ dictatingOf job (λ i. getD losses i 0)) ⌝ }
 {
     let count = job.header.sections as usize;
+    let parents = tree::parents_of(job);
     let mut best = Greatest {
-        reach: reach_at(job, losses, 1),
+        reach: reach_at(job.sections[1], &parents, &losses, 1),
         section: 1,
     };
     let mut i: usize = 2;
     while i <= count {
-        let r = reach_at(job, losses, i);
+        let r = reach_at(job.sections[i], &parents, &losses, i);
         if best.reach < r {
             best = Greatest {
                 reach: r,

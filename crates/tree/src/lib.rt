@@ -1,11 +1,27 @@
-// What each section serves: the set of the sections at or below it, and their fixtures of each kind.
+// Where each section hangs, and what it serves: the set of the sections at or below it, and their fixtures of each kind.
 use fields::Job;
 ghost use mathlib.Core.Path.{_≡_};
 ghost use Prim.Native.Nat.{ℕ, _+_, _*_, _≤_, _<_};
 ghost use lib.ListN.{getD};
+ghost use Rattle.basis.specs.Slots.{slots};
 ghost use Rattle.fields.specs.Fields.{countOf};
-ghost use Rattle.tree.specs.Tree.{setOf, fixturesBelow, Rooted};
+ghost use Rattle.tree.specs.Tree.{parentOf, setOf, fixturesBelow, Rooted};
 ghost use Rattle.tree.specs.Rows.{Kinds, RowsFit, RowAdded, Zeros, Owned, Counted, Singles};
+
+// Each section's parent, at the section's place.
+pub fn parents_of(job: Job) -> [u8; 64]
+    requires { ⌜ countOf job ≤ 63 ⌝ }
+    ensures { λ r. ⌜ r ≡ slots 64 1 (countOf job + 1) 0 (parentOf job) ⌝ }
+{
+    let count = job.header.sections as usize;
+    let mut parents = [0u8; 64];
+    let mut i: usize = 1;
+    while i <= count {
+        parents[i] = job.sections[i].parent;
+        i += 1;
+    }
+    parents
+}
 
 // Section j's own bit at place j.
 fn singles(count: usize) -> [u64; 64]
