@@ -57,5 +57,6 @@ pub mod record;
 pub mod service;
 pub mod table;
 pub mod taps;
+pub mod walk;
 pub mod warnings;
 pub mod which;

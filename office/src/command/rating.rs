@@ -39,12 +39,17 @@ impl Rated {
         Rated::of(job, cat, choice.sizes, Some(choice.cost), rating)
     }
 
+    /// The library's rating with each section's part in it, unless what is shown would come to other heads.
     fn of(job: &[u8], cat: &[u8], sizes: Vec<u8>, cost: Option<u32>, rating: Rating) -> Result<Rated, Unanswered> {
         let demand = Demand::of(job)?;
         // What the library has rated can be read; were it otherwise there would be no pipes to show.
         let pipes = pipes(job, cat, &sizes, (&demand.flow, &demand.taps), &rating).unwrap_or_default();
         let cost = cost.map_or_else(|| pipes.iter().map(Pipe::cost).sum(), u64::from);
-        Ok(Rated { record: Record::read(job).unwrap_or_default(), sizes, cost, rating, demand, pipes })
+        let record = Record::read(job).unwrap_or_default();
+        match required::difference(&record, &pipes, &rating.heads()) {
+            Some(why) => Err(Unanswered::Differs(why)),
+            None => Ok(Rated { record, sizes, cost, rating, demand, pipes }),
+        }
     }
 
     pub fn drawing(&self) -> String {

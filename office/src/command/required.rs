@@ -5,7 +5,29 @@ use super::json::Json;
 use super::network::{Demand, for_the_line};
 use super::report::Fields;
 use office::Heads;
+use office::pipes::Pipe;
 use office::record::Record;
+
+/// What the ends ask for by the command's walks to the pump, where it is not what the library's heads say.
+pub fn difference(record: &Record, pipes: &[Pipe], heads: &Heads) -> Option<String> {
+    // Of equals the last counts, which from behind is the lowest number.
+    let Some(end) = pipes.iter().rev().max_by_key(|pipe| pipe.asked(record.meter)) else {
+        return Some("heads come for a house of which the command can read no section".to_string());
+    };
+    let (required, own) = (i64::from(heads.required), end.asked(record.meter));
+    if required != own {
+        return Some(format!("the required head is {required} cm by the library and {own} cm by the command"));
+    }
+    let (dictating, lowest) = (heads.dictating, end.number);
+    let words = || format!("the dictating section is {dictating} by the library and {lowest} by the command");
+    (dictating != lowest).then(words)
+}
+
+/// What an end asks for beside its path loss, as the parts of a sum.
+pub fn parts(record: &Record, end: &Pipe) -> String {
+    let (elevation, free) = (end.section.elevation, end.section.free);
+    format!("meter loss {} + elevation {elevation} + free head {free}", record.meter)
+}
 
 /// How many cm of the delivered head are left over; fewer than none where it is too little.
 fn spare(record: &Record, heads: &Heads) -> i64 {
