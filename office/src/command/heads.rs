@@ -10,6 +10,7 @@ use super::refused::Given;
 use super::report::{self, Fields, Unanswered};
 use super::required;
 use super::sections::{self, Known};
+use super::walked::{self, Start, Walked};
 use office::answer::of_another_line;
 use office::pipes::{Pipe, turns, without_sizes};
 use office::record::Record;
@@ -17,6 +18,7 @@ use office::walk::Turn;
 use office::{Heads, calls, loss};
 
 pub fn heads(arguments: &Arguments) -> Result<Outcome, Misuse> {
+    let start = Start::of(arguments)?;
     let job = arguments.file(0).job()?;
     let list = match arguments.file(1).losses()? {
         Lent::Losses(list) => list,
@@ -31,7 +33,9 @@ pub fn heads(arguments: &Arguments) -> Result<Outcome, Misuse> {
     if let Some(why) = headed.is_of_another_house(&list) {
         return Err(Misuse::AnotherHouse(list.source.name, why));
     }
-    report::answer(arguments, &given, || headed.fields(), || headed.chart().into_bytes())
+    let walked = Walked::of(start, &headed.record, &headed.pipes, headed.heads)?;
+    let fields = || walked::fields(headed.fields(), &walked);
+    report::answer(arguments, &given, fields, || walked::words(headed.chart(), &walked))
 }
 
 /// The library's heads with the losses that were given.
@@ -135,13 +139,20 @@ mod tests {
         // Document 01 has 921 for a loss of 71: 50 + 600 + 200 + 71.
         let heads = Heads { required: 921, pump: 421, dictating: 1 };
         assert!(Headed::of(&job, &list, heads).is_ok());
-        for (other, list) in [
-            (Heads { required: 922, ..heads }, list.clone()),
-            (Heads { dictating: 2, ..heads }, list),
-            (heads, loss::bytes(&[72])),
-            (heads, Vec::new()),
+        let required = |library: u32, own: u32| {
+            format!("the required head is {library} cm by the library and {own} cm by the command")
+        };
+        for (other, list, why) in [
+            (Heads { required: 922, ..heads }, list.clone(), required(922, 921)),
+            (
+                Heads { dictating: 2, ..heads },
+                list,
+                "the dictating section is 2 by the library and 1 by the command".to_string(),
+            ),
+            (heads, loss::bytes(&[72]), required(921, 922)),
+            (heads, Vec::new(), "heads come for a house of which the command can read no section".to_string()),
         ] {
-            assert!(matches!(Headed::of(&job, &list, other), Err(Unanswered::Differs(_))), "{other:?}");
+            assert_eq!(Headed::of(&job, &list, other).err(), Some(Unanswered::Differs(why)), "{other:?}");
         }
     }
 }
