@@ -1,5 +1,5 @@
-//! `--walk N` of `office rate` and `office heads`: the walk from a section to the pump, by hand from the losses, and from every section
-//! of the examples against the model, which adds no path up but counts each loss at the ends below it.
+//! `--walk N` of `office rate` and `office heads`: the walk from a section to the pump, by hand from the losses, and from every
+//! section of the examples against the model, which adds no path up but counts each loss at the ends below it.
 
 #[path = "tools/json.rs"]
 mod json;
@@ -130,9 +130,9 @@ fn list(name: &str, losses: &[u32]) -> String {
     file
 }
 
-/// As many sections as a house may have, one behind the other, of which the last loses 1 cm, the one before it 2 cm, and so on. After
-/// turn t the sum is t (t + 1) / 2, from section 63 in the end 2,016, and 50 + 0 + 200 + 2,016 are 2,266. Section 40 is the 24th from
-/// behind: it loses 24 cm, the main 63, and the 40 of them 40 × 87 / 2, 1,740.
+/// As many sections as a house may have, one behind the other, of which the last loses 1 cm, the one before it 2 cm, and so on.
+/// After turn t the sum is t (t + 1) / 2, from section 63 in the end 2,016, and 50 + 0 + 200 + 2,016 are 2,266. Section 40 is the
+/// 24th from behind: it loses 24 cm, the main 63, and the 40 of them 40 × 87 / 2, 1,740.
 #[test]
 fn a_chain_of_63_sections() {
     let house = written("walk-chain.txt", &(0..63).map(|parent| (parent, 0)).collect::<Vec<_>>());
@@ -191,7 +191,8 @@ fn of_equals_the_lowest_dictates() {
     assert_eq!(last("4"), sum(4, 299, 669) + "1 cm below the required head of 670 cm, which section 2 dictates");
 }
 
-/// Each end lies below the pump. With a loss of 10 cm a section, section 1 asks for 60 - 120 + 10, and section 6 for 60 - 950 + 150 + 30.
+/// Each end lies below the pump. With a loss of 10 cm a section, section 1 asks for 60 - 120 + 10, and section 6 for
+/// 60 - 950 + 150 + 30.
 #[test]
 fn heads_below_the_pump_are_negative() {
     let list = list("walk-attic.csv", &[10; 6]);

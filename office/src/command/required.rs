@@ -74,7 +74,8 @@ mod tests {
         Pipe { number, section: Section { elevation, free, ..Section::default() }, path_loss, ..Pipe::default() }
     }
 
-    /// Sections 2 and 3 ask for 50 + 300 + 200 + 100 and 50 + 320 + 200 + 80, both 650 cm; section 2 dictates. Section 1 asks for 90.
+    /// Sections 2 and 3 ask for 50 + 300 + 200 + 100 and 50 + 320 + 200 + 80, both 650 cm, and section 2 dictates; section 1 asks
+    /// for 90.
     #[test]
     fn a_wrong_walk_is_found() {
         let record = Record { meter: 50, ..Record::default() };
