@@ -26,6 +26,7 @@ mod sections;
 mod topics;
 mod trials;
 mod version;
+mod walked;
 
 use crate::closed;
 use arguments::Arguments;

@@ -6,8 +6,8 @@
 //! - `model` is document 01 once more, written independently; [`soak`] and [`replay`] compare the two.
 //! - [`bench()`] times the library against the model and against `rivals`, searches in safe Rust.
 //! - [`house`], [`table`], [`meters`] and [`losses`](mod@losses) are the readable files, [`answer`] takes losses that the command has
-//!   printed, [`places`] says where a refusal lies, [`taps`] what sets a flow, [`draw`] draws a house; the command `office` puts
-//!   them before people.
+//!   printed, [`places`] says where a refusal lies, [`taps`] what sets a flow, [`walk`] goes from a section to the pump, [`draw`] draws a
+//!   house; the command `office` puts them before people.
 
 #![deny(unsafe_code)]
 
@@ -57,5 +57,6 @@ pub mod record;
 pub mod service;
 pub mod table;
 pub mod taps;
+pub mod walk;
 pub mod warnings;
 pub mod which;

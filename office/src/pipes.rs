@@ -5,6 +5,7 @@ use crate::catalogue::{Catalogue, Size};
 use crate::places::{gentlest, reading};
 use crate::record::{Record, Section};
 use crate::taps::Taps;
+use crate::walk::{Turn, walk};
 
 /// One section with its size. Where no size serves it, its size is 0.
 #[derive(Clone, Debug, Default, PartialEq, Eq)]
@@ -24,8 +25,10 @@ pub struct Pipe {
     pub velocity: u16,
     /// cm
     pub loss: u32,
-    /// Head left at the end, in cm, when the pump delivers the delivered head: it less the meter loss, the losses of all
-    /// pipes up to this end, and the elevation. It is to be at least the free head.
+    /// What all pipes up to this end lose together, in cm.
+    pub path_loss: i64,
+    /// Head left at the end, in cm, when the pump delivers the delivered head: it less the meter loss, the path loss and the
+    /// elevation. It is to be at least the free head.
     pub left: i64,
     /// Whether the section lies between the pump and the dictating end.
     pub dictating: bool,
@@ -35,6 +38,11 @@ impl Pipe {
     /// In tenths of the price unit: the price is per metre, the length in dm.
     pub fn cost(&self) -> u64 {
         u64::from(self.price) * u64::from(self.section.length)
+    }
+
+    /// The head that the end asks for in a house with this meter loss, in cm. The greatest of all ends is the required head.
+    pub fn asked(&self, meter: u16) -> i64 {
+        i64::from(meter) + i64::from(self.section.elevation) + i64::from(self.section.free) + self.path_loss
     }
 
     /// Gives it a size of the table.
@@ -127,34 +135,21 @@ fn put_losses(pipes: &mut [Pipe], rated: &[(u16, u32)]) -> Option<()> {
     Some(())
 }
 
-/// Puts the heads left into pipes that have their losses, and marks those on the way to the dictating end.
+/// Puts path losses and heads left into pipes that have their losses, and marks those on the way to the dictating end.
 fn put_heads(pipes: &mut [Pipe], record: &Record, dictating: u8) -> Option<()> {
-    let path = path_to(record, dictating);
-    let mut paths: Vec<i64> = Vec::new();
+    let losses: Vec<u32> = pipes.iter().map(|pipe| pipe.loss).collect();
+    let path = turns(record, pipes, dictating);
     for pipe in pipes {
-        let above = match usize::from(pipe.section.parent) {
-            0 => 0,
-            parent => *paths.get(parent - 1)?,
-        };
-        let lost = above + i64::from(pipe.loss);
-        paths.push(lost);
+        pipe.path_loss = walk(&record.sections, &losses, pipe.number)?.last()?.sum;
         let elevation = i64::from(pipe.section.elevation);
-        pipe.left = i64::from(record.delivered) - i64::from(record.meter) - lost - elevation;
-        pipe.dictating = path.contains(&pipe.number);
+        pipe.left = i64::from(record.delivered) - i64::from(record.meter) - pipe.path_loss - elevation;
+        pipe.dictating = path.iter().any(|turn| turn.section == pipe.number);
     }
     Some(())
 }
 
-/// The sections between an end and the pump, the end's own first.
-fn path_to(record: &Record, end: u8) -> Vec<u8> {
-    let mut path = Vec::new();
-    let mut at = end;
-    while let Some(section) = usize::from(at).checked_sub(1).and_then(|place| record.sections.get(place)) {
-        path.push(at);
-        if section.parent >= at {
-            break;
-        }
-        at = section.parent;
-    }
-    path
+/// The walk from a section to the pump, with the losses that the pipes have; no turn where the house has no such section.
+pub fn turns(record: &Record, pipes: &[Pipe], section: u8) -> Vec<Turn> {
+    let losses: Vec<u32> = pipes.iter().map(|pipe| pipe.loss).collect();
+    walk(&record.sections, &losses, section).unwrap_or_default()
 }

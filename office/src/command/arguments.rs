@@ -21,6 +21,8 @@ pub struct Arguments {
     /// What `heat` is given beside its file, as it was written.
     pub cold_water: Option<OsString>,
     pub loss: Option<OsString>,
+    /// The section from which `rate` and `heads` walk to the pump, as it was written.
+    pub walk: Option<OsString>,
     pub help: bool,
 }
 
@@ -72,7 +74,7 @@ fn unknown(option: &str) -> Misuse {
 }
 
 /// The options behind which a value stands.
-const WITH_A_VALUE: [&str; 4] = ["-o", "--seed", "--cold-water", "--loss"];
+const WITH_A_VALUE: [&str; 5] = ["-o", "--seed", "--cold-water", "--loss", "--walk"];
 
 fn set_reading(next: &mut Reading, reading: Reading) -> Result<(), Misuse> {
     if *next != Reading::ByContent {
@@ -123,6 +125,7 @@ impl Arguments {
                 set_once(&mut self.cold_water, numeric(word, option, "a temperature in degrees C")?, option)
             }
             "--loss" => set_once(&mut self.loss, numeric(word, option, "a number of W")?, option),
+            "--walk" => set_once(&mut self.walk, numeric(word, option, "a section's number")?, option),
             seed => {
                 self.seed = Some(number(&value("a number")?.to_string_lossy(), seed)?);
                 Ok(())
@@ -193,6 +196,7 @@ impl Arguments {
             (self.seed.is_some(), "--seed"),
             (self.cold_water.is_some(), "--cold-water"),
             (self.loss.is_some(), "--loss"),
+            (self.walk.is_some(), "--walk"),
         ];
         if let Some((_, option)) = options.iter().find(|(given, option)| *given && !known.usage.contains(option)) {
             return misuse(format!("`{}` has no option {option}", self.command));

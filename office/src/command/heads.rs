@@ -10,12 +10,15 @@ use super::refused::Given;
 use super::report::{self, Fields, Unanswered};
 use super::required;
 use super::sections::{self, Known};
+use super::walked::{self, Start, Walked};
 use office::answer::of_another_line;
-use office::pipes::{Pipe, without_sizes};
+use office::pipes::{Pipe, turns, without_sizes};
 use office::record::Record;
+use office::walk::Turn;
 use office::{Heads, calls, loss};
 
 pub fn heads(arguments: &Arguments) -> Result<Outcome, Misuse> {
+    let start = Start::of(arguments)?;
     let job = arguments.file(0).job()?;
     let list = match arguments.file(1).losses()? {
         Lent::Losses(list) => list,
@@ -30,7 +33,9 @@ pub fn heads(arguments: &Arguments) -> Result<Outcome, Misuse> {
     if let Some(why) = headed.is_of_another_house(&list) {
         return Err(Misuse::AnotherHouse(list.source.name, why));
     }
-    report::answer(arguments, &given, || headed.fields(), || headed.chart().into_bytes())
+    let walked = Walked::of(start, &headed.record, &headed.pipes, headed.heads)?;
+    let fields = || walked::fields(headed.fields(), &walked);
+    report::answer(arguments, &given, fields, || walked::words(headed.chart(), &walked))
 }
 
 /// The library's heads with the losses that were given.
@@ -42,37 +47,23 @@ struct Headed {
 }
 
 impl Headed {
-    /// The library's answer with each section's part in it, unless what is shown would come to another required head.
+    /// The library's answer with each section's part in it, unless what is shown would come to other heads.
     fn of(job: &[u8], losses: &[u8], heads: Heads) -> Result<Headed, Unanswered> {
         let demand = Demand::of(job)?;
         let losses = loss::read(losses).unwrap_or_default();
         // What the library has taken can be read; were it otherwise there would be no pipes to show.
         let flows = (&demand.flow, &demand.taps);
         let pipes = without_sizes(job, flows, &losses, heads.dictating).unwrap_or_default();
-        let headed = Headed { record: Record::read(job).unwrap_or_default(), heads, demand, pipes };
-        match headed.difference() {
+        let record = Record::read(job).unwrap_or_default();
+        match required::difference(&record, &pipes, &heads) {
             Some(why) => Err(Unanswered::Differs(why)),
-            None => Ok(headed),
+            None => Ok(Headed { record, heads, demand, pipes }),
         }
     }
 
-    /// The pipes between the dictating end and the pump, the end's own first.
-    fn way(&self) -> impl Iterator<Item = &Pipe> {
-        self.pipes.iter().rev().filter(|pipe| pipe.dictating)
-    }
-
-    /// What is lost on that way, in cm.
-    fn lost(&self) -> i64 {
-        self.way().map(|pipe| i64::from(pipe.loss)).sum()
-    }
-
-    /// The required head as the command adds it up, where it is not the library's.
-    fn difference(&self) -> Option<String> {
-        let section = self.way().next().map(|pipe| pipe.section).unwrap_or_default();
-        let elevation = i64::from(section.elevation);
-        let own = i64::from(self.record.meter) + elevation + i64::from(section.free) + self.lost();
-        let given = i64::from(self.heads.required);
-        (own != given).then(|| format!("the required head is {given} cm by the library and {own} cm by the command"))
+    /// The walk from the dictating end to the pump.
+    fn way(&self) -> Vec<Turn> {
+        turns(&self.record, &self.pipes, self.heads.dictating)
     }
 
     /// What of the house is not as the list of losses says: a readable one may say which line it is of, an answer of the command
@@ -85,12 +76,13 @@ impl Headed {
     }
 
     fn fields(&self) -> Fields {
+        let way = self.way();
         let mut fields = house_fields(&self.demand);
         fields.push(("local_losses_tenths", self.record.tenths.into()));
         fields.extend(required::fields(&self.record, &self.heads));
         fields.extend([
-            ("dictating_path", Json::List(self.way().map(|pipe| pipe.number.into()).collect())),
-            ("path_loss_cm", Json::Number(self.lost())),
+            ("dictating_path", Json::List(way.iter().map(|turn| turn.section.into()).collect())),
+            ("path_loss_cm", Json::Number(way.last().map_or(0, |turn| turn.sum))),
             ("sections", sections::list(&self.pipes, Known::Heads)),
         ]);
         fields
@@ -106,22 +98,22 @@ impl Headed {
 
     /// How the required head comes about at the dictating end.
     fn sum(&self) -> String {
-        let Some(end) = self.way().next() else { return String::new() };
-        let (elevation, free) = (end.section.elevation, end.section.free);
-        let house = format!("meter loss {} + elevation {elevation} + free head {free}", self.record.meter);
-        let (lost, required) = (self.lost(), self.heads.required);
-        format!("required head: {house} + losses {lost} = {required} cm\n{}", self.losses(end.number))
+        let Some(end) = self.pipes.iter().find(|pipe| pipe.number == self.heads.dictating) else {
+            return String::new();
+        };
+        let (parts, lost, required) = (required::parts(&self.record, end), end.path_loss, self.heads.required);
+        format!("required head: {parts} + losses {lost} = {required} cm\n{}", self.losses(end))
     }
 
     /// The losses on the way from the dictating end, as far as a line holds them.
-    fn losses(&self, end: u8) -> String {
-        let (all, lost) = (self.way().count(), self.lost());
-        let parts: Vec<String> = self.way().map(|pipe| format!("{} (section {})", pipe.loss, pipe.number)).collect();
-        let words = match all > MOST_ON_A_LINE {
-            true => format!("{lost} cm in {all} sections, which have a * below"),
+    fn losses(&self, end: &Pipe) -> String {
+        let (way, lost) = (self.way(), end.path_loss);
+        let parts: Vec<String> = way.iter().map(|turn| format!("{} (section {})", turn.loss, turn.section)).collect();
+        let words = match way.len() > MOST_ON_A_LINE {
+            true => format!("{lost} cm in {} sections, which have a * below", way.len()),
             false => format!("{} = {lost} cm", parts.join(" + ")),
         };
-        format!("losses from section {end} to the pump: {words}\n")
+        format!("losses from section {} to the pump: {words}\n", end.number)
     }
 }
 
@@ -147,13 +139,20 @@ mod tests {
         // Document 01 has 921 for a loss of 71: 50 + 600 + 200 + 71.
         let heads = Heads { required: 921, pump: 421, dictating: 1 };
         assert!(Headed::of(&job, &list, heads).is_ok());
-        for (other, list) in [
-            (Heads { required: 922, ..heads }, list.clone()),
-            (Heads { dictating: 2, ..heads }, list),
-            (heads, loss::bytes(&[72])),
-            (heads, Vec::new()),
+        let required = |library: u32, own: u32| {
+            format!("the required head is {library} cm by the library and {own} cm by the command")
+        };
+        for (other, list, why) in [
+            (Heads { required: 922, ..heads }, list.clone(), required(922, 921)),
+            (
+                Heads { dictating: 2, ..heads },
+                list,
+                "the dictating section is 2 by the library and 1 by the command".to_string(),
+            ),
+            (heads, loss::bytes(&[72]), required(921, 922)),
+            (heads, Vec::new(), "heads come for a house of which the command can read no section".to_string()),
         ] {
-            assert!(matches!(Headed::of(&job, &list, other), Err(Unanswered::Differs(_))), "{other:?}");
+            assert_eq!(Headed::of(&job, &list, other).err(), Some(Unanswered::Differs(why)), "{other:?}");
         }
     }
 }

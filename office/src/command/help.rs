@@ -99,7 +99,7 @@ resistance_ten_thousandths, service_flow_l_per_h, name, loss_cm, limit_cm, over_
     },
     Command {
         name: "rate",
-        usage: "office rate JOB CAT SIZES [-o FILE] [--json] [--strict] [--record|--text]",
+        usage: "office rate JOB CAT SIZES [--walk N] [-o FILE] [--json] [--strict] [--record|--text]",
         least: 3,
         most: 3,
         reads: true,
@@ -116,12 +116,18 @@ path, and only what is done there brings the required head down.
 The delivered head plays no part in rating; `to spare` and `left` compare with it: left is the head left at a section's end
 when the delivered head is delivered, less meter loss, losses and elevation. An end with less than its free head is SHORT.
 
+--walk N puts the walk from section N to the pump below the answer: from the section over the one that it hangs from and so on, one
+section at each turn, with its own loss and the sum so far. After the last turn the sum is the path loss of section N. The line
+below adds up what its end asks for, and says how far that is below the required head, or that section N dictates it. N is the
+number of a section of the house, in digits alone.
+
 `office losses` and `office heads` give the same in two steps. `office help flow` explains the design flow, and `one tap of`
 behind it.
 
 --json: service, duty_ml_per_s, duty_one_tap_kinds, hour_l_per_h, day_l, mean_hour_l_per_h, local_losses_tenths, cost_tenths (in
 tenths of the price unit), sizes, suits, required_head_cm, pump_head_cm, guaranteed_head_cm, delivered_head_cm,
-dictating_section, sections (section, parent, size, bore_mm, length_dm, flow_ml_per_s, one_tap_kinds, velocity_mm_per_s, loss_cm, head_left_cm, free_head_cm).",
+dictating_section, sections (section, parent, size, bore_mm, length_dm, flow_ml_per_s, one_tap_kinds, velocity_mm_per_s, loss_cm, head_left_cm, free_head_cm);
+with --walk also walk (section, turns (section, loss_cm, sum_cm), path_loss_cm, asked_head_cm).",
     },
     Command {
         name: "losses",
@@ -150,7 +156,7 @@ velocity_mm_per_s, loss_cm).",
     },
     Command {
         name: "heads",
-        usage: "office heads JOB LOSSES [-o FILE] [--json] [--strict] [--record|--text]",
+        usage: "office heads JOB LOSSES [--walk N] [-o FILE] [--json] [--strict] [--record|--text]",
         least: 2,
         most: 2,
         reads: true,
@@ -182,13 +188,15 @@ loses less than the one it hangs from; losses that look like readings of gauges,
 rise. A fault that more than three sections share is one line with their count. Losses that `losses`, `rate` or `choose` worked out
 get none of these.
 
+--walk N puts the walk from section N to the pump below the answer, with the losses that are given; `office help rate` explains it.
+
 `office help flow` explains the design flow, and `one tap of` behind it.
 
 --json: service, duty_ml_per_s, duty_one_tap_kinds, hour_l_per_h, day_l, mean_hour_l_per_h, local_losses_tenths, suits,
 required_head_cm, pump_head_cm, guaranteed_head_cm, delivered_head_cm, dictating_section, dictating_path (the sections from
 there to the pump),
 path_loss_cm (what these lose together), sections (section, parent, length_dm, flow_ml_per_s, one_tap_kinds, loss_cm, head_left_cm,
-free_head_cm).",
+free_head_cm); with --walk also walk (section, turns (section, loss_cm, sum_cm), path_loss_cm, asked_head_cm).",
     },
     Command {
         name: "choose",

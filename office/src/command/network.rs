@@ -8,6 +8,7 @@ use super::outcome::{Misuse, Outcome};
 use super::rating::{Rated, bytes};
 use super::refused::Given;
 use super::report::{self, Fields, Unanswered};
+use super::walked::{self, Start, Walked};
 use office::pipes::sketch;
 use office::record::Record;
 use office::service::{self, TOTAL};
@@ -168,23 +169,32 @@ pub fn from(parent: u8) -> String {
 }
 
 pub fn rate(arguments: &Arguments) -> Result<Outcome, Misuse> {
+    let start = Start::of(arguments)?;
     let (job, cat) = (arguments.file(0).job()?, arguments.file(1).catalogue()?);
     let sizes = arguments.file(2).sizes()?;
     let given = Given { job: Some(&job), cat: Some(&cat), sizes: &sizes, ..Given::default() };
-    rated(arguments, &given, Rated::with_sizes(&given))
+    rated(arguments, &given, Rated::with_sizes(&given), start)
 }
 
 pub fn choose(arguments: &Arguments) -> Result<Outcome, Misuse> {
     let (job, cat) = (arguments.file(0).job()?, arguments.file(1).catalogue()?);
     let given = Given { job: Some(&job), cat: Some(&cat), ..Given::default() };
-    rated(arguments, &given, Rated::chosen(&given))
+    rated(arguments, &given, Rated::chosen(&given), None)
 }
 
-fn rated(arguments: &Arguments, given: &Given, rated: Result<Rated, Unanswered>) -> Result<Outcome, Misuse> {
-    match rated {
-        Ok(rated) => report::answer(arguments, given, || rated.fields(), || rated.chart().into_bytes()),
-        Err(why) => report::unanswered(arguments, &why, given),
-    }
+fn rated(
+    arguments: &Arguments,
+    given: &Given,
+    rated: Result<Rated, Unanswered>,
+    start: Option<Start>,
+) -> Result<Outcome, Misuse> {
+    let rated = match rated {
+        Ok(rated) => rated,
+        Err(why) => return report::unanswered(arguments, &why, given),
+    };
+    let walked = Walked::of(start, &rated.record, &rated.pipes, rated.rating.heads())?;
+    let fields = || walked::fields(rated.fields(), &walked);
+    report::answer(arguments, given, fields, || walked::words(rated.chart(), &walked))
 }
 
 /// With sizes the rated list, without them the cheapest.
