@@ -15,7 +15,8 @@ pub record Given (job : Job) (losses : List ℕ) : Type 0 where
   pub sections : sectionsOk job ≡ true
   pub top : (i : ℕ) → 0 < i → i ≤ countOf job → getD losses i 0 ≤ 4259775
 
--- what a walk from a section asks: up to it each parent's number is less, and each loss is within the bound
+-- what a walk asks: it starts at a section, and not at the pump; up to that section each parent's number is less, and each loss is within the
+-- bound
 pub record Walkable (parents losses : List ℕ) (section : ℕ) : Type 0 where
   pub low : 0 < section
   pub high : section < 64

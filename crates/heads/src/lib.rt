@@ -2,7 +2,7 @@
 use fields::Job;
 use fields::Section;
 ghost use mathlib.Core.Path.{_≡_};
-ghost use Prim.Native.Nat.{_+_, _≤_, _<_};
+ghost use Prim.Native.Nat.{_+_, _≤_};
 ghost use lib.ListN.{getD};
 ghost use lib.IntN.{pos, _+ℤ_};
 ghost use Rattle.basis.specs.Sections.{pathOf};
@@ -23,8 +23,9 @@ struct Greatest {
     section: usize,
 }
 
-// The path loss of a section: the walk from it over its parents to the pump, one section at each turn.
-pub fn path_loss(parents: &[u8; 64], losses: &[u32; 64], section: usize) -> u32
+// The path loss of a section: the walk from it over its parents to the pump, one section at each turn. At the start of each turn `sum` plus
+// the path loss of section `at` is the path loss asked for: `AtTurn` (specs/Walk.antt).
+fn path_loss(parents: &[u8; 64], losses: &[u32; 64], section: usize) -> u32
     requires { ⌜ Walkable (now parents) (now losses) section ⌝ }
     ensures { λ r. ⌜ r ≡ pathOf (λ i. getD (now (parents .entry)) i 0) (λ i. getD (now (losses .entry)) i 0) section ⌝ }
 {
@@ -45,13 +46,13 @@ pub fn reach(s: Section, more: u32) -> i32
     (s.elevation as i32) + ((s.free as u32 + more) as i32)
 }
 
-// A section's reach with its path loss.
-fn reach_at(s: Section, parents: &[u8; 64], losses: &[u32; 64], section: usize) -> i32
-    requires { ⌜ Walkable (now parents) (now losses) section ⌝ }
+// The reach of the section with this number, whose fields are `s`, with its path loss.
+fn reach_at(s: Section, parents: &[u8; 64], losses: &[u32; 64], number: usize) -> i32
+    requires { ⌜ Walkable (now parents) (now losses) number ⌝ }
     ensures { λ r. ⌜ r ≡ (s .elevation) +ℤ pos (s .free
-        + pathOf (λ i. getD (now (parents .entry)) i 0) (λ i. getD (now (losses .entry)) i 0) section) ⌝ }
+        + pathOf (λ i. getD (now (parents .entry)) i 0) (λ i. getD (now (losses .entry)) i 0) number) ⌝ }
 {
-    reach(s, path_loss(parents, losses, section))
+    reach(s, path_loss(parents, losses, number))
 }
 
 // The greatest reach over all sections, and the lowest section that has it.

@@ -24,7 +24,7 @@ Inv-loop job losses count parents best₀ i₀ best i =
 abbrev μ-loop : tie.MeasureT-loop
 μ-loop job losses count parents best₀ i₀ best i = countOf job + 1 - i
 
--- before the loop's first turn, and at each: from when the parents' table was made
+-- where the table of parents has just been made
 abbrev made : tie.After-reach-at Inv-loop μ-loop → tie.After-parents-of Inv-loop μ-loop
 made c = c .before .before .before .before
 

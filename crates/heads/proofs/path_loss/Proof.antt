@@ -6,7 +6,6 @@ use Prim.Native.Nat.{ℕ, _+_, _≤_, _<_}
 use lib.ListN.{getD}
 use Rattle.basis.specs.Sections.{pathOf}
 use Rattle.basis.proofs.Paths.{path-pump, path-step}
-use Rattle.heads.specs.Contracts.{Walkable}
 use Rattle.heads.specs.Walk.{AtTurn}
 use Rattle.heads.proofs.Loss.{walk-within}
 use Rattle.heads.proofs.path_loss.Statement.{statement}

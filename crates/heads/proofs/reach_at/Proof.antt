@@ -1,6 +1,6 @@
 -- `heads::reach_at` meets its contract.
 -- Assumes nothing.
-use mathlib.Core.Path.{_≡_, _∙_}
+use mathlib.Core.Path.{_∙_}
 use mir.Syntax.{w32}
 use mir.Facts.{toZ-ofZ}
 use Rattle.heads.proofs.Loss.{walk-within}
