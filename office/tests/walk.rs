@@ -388,7 +388,8 @@ fn the_number_is_given_once_and_to_rate_and_heads_alone() {
         &["--version"],
     ] {
         let ran = office(&[words, &["--walk", "1"]].concat());
-        let why = format!("office: `{}` has no option --walk\nusage: office {}", words[0], words[0]);
+        let name = words[0];
+        let why = format!("office: `{name}` has no option --walk; `rate` and `heads` have it\nusage: office {name}");
         assert!(ran.status == 2 && ran.output.is_empty() && ran.error.starts_with(&why), "{words:?}: {}", ran.error);
     }
 }

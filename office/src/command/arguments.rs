@@ -3,7 +3,7 @@
 use super::help;
 use super::input::{File, Reading};
 use super::keep;
-use super::outcome::{Misuse, word};
+use super::outcome::{Misuse, all_of, word};
 use std::borrow::Cow;
 use std::ffi::OsString;
 
@@ -198,8 +198,8 @@ impl Arguments {
             (self.loss.is_some(), "--loss"),
             (self.walk.is_some(), "--walk"),
         ];
-        if let Some((_, option)) = options.iter().find(|(given, option)| *given && !known.usage.contains(option)) {
-            return misuse(format!("`{}` has no option {option}", self.command));
+        if let Some((_, option)) = options.iter().find(|(given, option)| *given && !known.has(option)) {
+            return misuse(format!("`{}` has no option {option}{}", self.command, others_with(option)));
         }
         if self.words.iter().filter(|word| *word == "-" || *word == "@-").count() > 1 {
             return misuse("standard input can be read only once".to_string());
@@ -211,6 +211,20 @@ impl Arguments {
         Ok(())
     }
 }
+
+/// The commands that have an option, where they are few.
+fn others_with(option: &str) -> String {
+    let names: Vec<String> =
+        help::COMMANDS.iter().filter(|other| other.has(option)).map(|other| format!("`{}`", other.name)).collect();
+    match names.len() {
+        1 => format!("; {} has it", all_of(&names)),
+        2..=MOST_NAMED => format!("; {} have it", all_of(&names)),
+        _ => String::new(),
+    }
+}
+
+/// Of more commands none is named.
+const MOST_NAMED: usize = 3;
 
 fn count(known: &help::Command) -> String {
     match (known.least, known.most) {

@@ -16,6 +16,13 @@ pub struct Command {
     pub text: &'static str,
 }
 
+impl Command {
+    /// Whether it heeds an option.
+    pub fn has(&self, option: &str) -> bool {
+        self.usage.contains(option)
+    }
+}
+
 pub const COMMANDS: &[Command] = &[
     Command {
         name: "pack",
