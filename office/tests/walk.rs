@@ -336,28 +336,50 @@ fn misused(words: &[&str], why: &str) {
     }
 }
 
+/// What is said of a word that can't be a section's number.
+fn no_section(word: &str) -> String {
+    format!("`{word}` is no section's number for `--walk`: give a whole number of 1 or more in digits, as `--walk 3`")
+}
+
 #[test]
 fn what_is_no_section_is_misuse() {
     for words in [&RATE[..], &HEADS] {
         let with = |number: &'static str| [words, &["--walk", number]].concat();
         for odd in ["", "x", "-1", "+7", "7.0", "7,0", "1e1", " 7", "7 ", "7m", "section 7", "٧", "0x7", "-"] {
-            let why = "the section from which the walk goes to the pump is given by its number in the house, 1 or more, in digits \
-                       alone";
-            misused(&with(odd), &format!("`{odd}` is no whole number for `--walk`; {why}"));
+            misused(&with(odd), &no_section(odd));
         }
         for pump in ["0", "000"] {
             let why = "the pump, which is no section and where the walk ends; sections number from 1";
             misused(&with(pump), &format!("`{pump}` for `--walk` is {why}"));
         }
-        for more in ["13", "63", "64", "255", "256", "257", "268", "4294967297", "18446744073709551617"] {
-            misused(&with(more), &format!("`{more}` for `--walk` is no section's number; sections of the house: 12"));
+        for more in ["13", "013", "63", "64", "255", "256", "257", "268", "4294967297", "18446744073709551617"] {
+            misused(&with(more), &format!("the house has no section {more} for `--walk`; its sections are 1 to 12"));
         }
         assert_eq!(office(&with("012")).output, office(&with("12")).output, "zeros in front change no number");
     }
     misused(
         &["rate", OWN, OWN_TABLE, "2", "--walk", "2"],
-        "`2` for `--walk` is no section's number; sections of the house: 1",
+        "the house has no section 2 for `--walk`; its only section is 1",
     );
+}
+
+/// Where the number is left out, the file behind `--walk` is named, and not the count of the words that are left.
+#[test]
+fn a_file_in_place_of_the_number_is_named() {
+    for (words, file) in [
+        (&["rate", "--walk", "house.txt", "table.csv", "5,4"][..], "house.txt"),
+        (&["rate", "--walk", HOUSE, TABLE, SIZES], HOUSE),
+        (&["rate", HOUSE, "--walk", TABLE, SIZES], TABLE),
+        (&["rate", HOUSE, TABLE, "--walk", SIZES], SIZES),
+        (&["--walk", "heads", HOUSE, LOSSES], "heads"),
+        (&["heads", "--walk", HOUSE, LOSSES], HOUSE),
+        (&["heads", HOUSE, "--walk", LOSSES], LOSSES),
+    ] {
+        misused(words, &no_section(file));
+    }
+    // With a number it is the count that is wrong.
+    let ran = office(&["rate", "--walk", "3", HOUSE, TABLE]);
+    assert!(ran.status == 2 && ran.error.starts_with("office: `rate` takes 3 words, not 2\n"), "{}", ran.error);
 }
 
 #[test]
@@ -369,11 +391,13 @@ fn the_number_is_given_once_and_to_rate_and_heads_alone() {
             "there is no option `--walk=12`; write a blank in place of `=`, as `--walk 12`",
         );
         for next in ["--json", "--strict", "-o", "--walk"] {
-            let why = format!("`--walk` has no number: `{next}` stands behind it; it wants a section's number");
+            let why = "it wants a section's number, as `--walk 3`";
+            let why = format!("`--walk` has no number: `{next}` stands behind it; {why}");
             misused(&[words, &["--walk", next]].concat(), &why);
         }
         let last = office(&[words, &["--walk"]].concat());
-        assert_eq!((last.status, last.error.as_str()), (2, "office: `--walk` wants a section's number\n"));
+        let why = "office: `--walk` wants a section's number, as `--walk 3`\n";
+        assert_eq!((last.status, last.error.as_str()), (2, why));
     }
     for words in [
         &["flow", HOUSE][..],

@@ -1,6 +1,5 @@
 //! `--walk N`: the walk from a section to the pump, below an answer of `rate` or `heads`.
 
-use super::arguments::Arguments;
 use super::charts::{chart, number};
 use super::json::Json;
 use super::outcome::{Misuse, word};
@@ -10,22 +9,26 @@ use office::Heads;
 use office::pipes::{Pipe, turns};
 use office::record::Record;
 use office::walk::Turn;
+use std::ffi::OsStr;
+
+/// What stands behind `--walk`.
+pub const WANTED: &str = "a section's number, as `--walk 3`";
 
 /// The section from which a walk is asked for: its number, and the word that it was given as.
+#[derive(Debug)]
 pub struct Start {
     number: usize,
     word: String,
 }
 
 impl Start {
-    /// The number behind `--walk`, where that is given. How many sections there are is known with the house alone.
-    pub fn of(arguments: &Arguments) -> Result<Option<Start>, Misuse> {
-        let Some(given) = arguments.walk.as_ref().map(|given| given.to_string_lossy()) else { return Ok(None) };
+    /// The word behind `--walk`. How many sections there are is known with the house alone.
+    pub fn read(given: &OsStr) -> Result<Start, Misuse> {
+        let given = given.to_string_lossy();
         let (word, digits) = (word(&given), !given.is_empty() && given.bytes().all(|b| b.is_ascii_digit()));
         if !digits {
             return Err(Misuse::Words(format!(
-                "`{word}` is no whole number for `--walk`; the section from which the walk goes to the pump is given by its number \
-                 in the house, 1 or more, in digits alone"
+                "`{word}` is no section's number for `--walk`: give a whole number of 1 or more in digits, as `--walk 3`"
             )));
         }
         // What a number of this width can't hold is more than any house has.
@@ -33,8 +36,18 @@ impl Start {
             0 => Err(Misuse::Words(format!(
                 "`{word}` for `--walk` is the pump, which is no section and where the walk ends; sections number from 1"
             ))),
-            number => Ok(Some(Start { number, word })),
+            number => Ok(Start { number, word }),
         }
+    }
+
+    /// Its place in a house with so many sections.
+    fn place(&self, sections: usize) -> Result<usize, Misuse> {
+        if self.number <= sections {
+            return Ok(self.number - 1);
+        }
+        let there =
+            if sections == 1 { "its only section is 1".into() } else { format!("its sections are 1 to {sections}") };
+        Err(Misuse::Words(format!("the house has no section {} for `--walk`; {there}", self.word)))
     }
 }
 
@@ -49,19 +62,14 @@ pub struct Walked<'a> {
 impl<'a> Walked<'a> {
     /// The walk where one is asked for, in a house with the library's heads. The pipes are of an accepted house.
     pub fn of(
-        start: Option<Start>,
+        start: Option<&Start>,
         record: &'a Record,
         pipes: &'a [Pipe],
         heads: Heads,
     ) -> Result<Option<Walked<'a>>, Misuse> {
-        let Some(Start { number, word }) = start else { return Ok(None) };
-        match number.checked_sub(1).and_then(|place| pipes.get(place)) {
-            Some(end) => Ok(Some(Walked { record, heads, end, turns: turns(record, pipes, end.number) })),
-            None => Err(Misuse::Words(format!(
-                "`{word}` for `--walk` is no section's number; sections of the house: {}",
-                pipes.len()
-            ))),
-        }
+        let Some(start) = start else { return Ok(None) };
+        let end = &pipes[start.place(pipes.len())?];
+        Ok(Some(Walked { record, heads, end, turns: turns(record, pipes, end.number) }))
     }
 
     fn json(&self) -> Json {
