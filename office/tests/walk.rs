@@ -208,13 +208,28 @@ of -50 cm, which section 1 dictates
     assert_eq!((walk.number("asked_head_cm"), printed.number("required_head_cm")), (-710, -50));
 }
 
-/// The walk of an answer as JSON: section, turns of section, loss and sum, path loss and asked head.
-type Walk = (i64, Vec<[i64; 3]>, i64, i64);
+/// The walk of an answer as JSON, or by the model.
+#[derive(Debug, PartialEq)]
+struct Walk {
+    section: i64,
+    /// Section, loss and sum.
+    turns: Vec<[i64; 3]>,
+    path_loss: i64,
+    /// Meter loss, elevation and free head.
+    parts: [i64; 3],
+    asked: i64,
+}
 
 fn walk_of(printed: &Value) -> Walk {
     let walk = printed.get("walk");
     let turns = walk.list("turns").iter().map(|turn| ["section", "loss_cm", "sum_cm"].map(|key| turn.number(key)));
-    (walk.number("section"), turns.collect(), walk.number("path_loss_cm"), walk.number("asked_head_cm"))
+    Walk {
+        section: walk.number("section"),
+        turns: turns.collect(),
+        path_loss: walk.number("path_loss_cm"),
+        parts: ["meter_loss_cm", "elevation_cm", "free_head_cm"].map(|key| walk.number(key)),
+        asked: walk.number("asked_head_cm"),
+    }
 }
 
 /// The key stands last, and all before it is as without the walk.
@@ -224,12 +239,19 @@ fn as_json() {
     let text = office(&[&RATE[..], &["--json", "--walk", "12"]].concat()).text();
     let own = "\"walk\":{\"section\":12,\"turns\":[{\"section\":12,\"loss_cm\":38,\"sum_cm\":38},\
                {\"section\":10,\"loss_cm\":447,\"sum_cm\":485},{\"section\":6,\"loss_cm\":50,\"sum_cm\":535},\
-               {\"section\":1,\"loss_cm\":133,\"sum_cm\":668}],\"path_loss_cm\":668,\"asked_head_cm\":1718}";
+               {\"section\":1,\"loss_cm\":133,\"sum_cm\":668}],\"path_loss_cm\":668,\
+               \"meter_loss_cm\":120,\"elevation_cm\":730,\"free_head_cm\":200,\"asked_head_cm\":1718}";
     assert_eq!(text, format!("{},{own}}}\n", plain.strip_suffix("}\n").expect("an object")));
     let printed = json::parse(&office(&[&HEADS[..], &["--json", "--walk", "9"]].concat()).text());
     let turns = vec![[9, 31, 31], [8, 55, 86], [7, 64, 150], [6, 56, 206], [1, 133, 339]];
-    assert_eq!(walk_of(&printed), (9, turns, 339, 1_799));
-    assert_eq!(printed.number("path_loss_cm"), 339, "that of the dictating path");
+    let riser = Walk { section: 9, turns, path_loss: 339, parts: [120, 1_040, 300], asked: 1_799 };
+    assert_eq!(walk_of(&printed), riser);
+    let other = json::parse(&office(&[&HEADS[..], &["--json", "--walk", "1"]].concat()).text());
+    assert_eq!(
+        (other.number("path_loss_cm"), walk_of(&other).path_loss),
+        (339, 133),
+        "the dictating path, and section 1's"
+    );
     // The page has each key.
     let page = read("docs/COMMAND.md");
     let row = page.lines().find(|line| line.starts_with("|`rate` and `heads` with `--walk`|")).expect("a row");
@@ -263,22 +285,30 @@ fn judged(call: Call, files: [&str; 2], sizes: &[u8]) -> (Judged, Vec<i128>) {
     (judged, losses)
 }
 
-/// The walk from a section as the model has it: its path, the losses of the sections on it, and what its end asks for.
-fn of_model(judged: &Judged, losses: &[i128], section: usize) -> Walk {
-    let heads: &Heads = match &judged.result {
+fn heads_of(judged: &Judged) -> &Heads {
+    match &judged.result {
         Expected::Rated(rating) => &rating.heads,
         Expected::Headed(heads) => heads,
         _ => panic!("no heads"),
-    };
+    }
+}
+
+/// The walk from a section as the model has it: its path, the losses of the sections on it, and what its end asks for.
+fn of_model(judged: &Judged, losses: &[i128], section: usize) -> Walk {
     let path = &judged.house.paths[section - 1];
     let turn = |(place, at): (usize, &usize)| {
         let sum: i128 = path[..=place].iter().map(|at| losses[at - 1]).sum();
         [*at as i64, losses[at - 1] as i64, sum as i64]
     };
-    let (own, reach) = (&judged.house.sections[section - 1], heads.reaches[section - 1]);
-    let path_loss = reach - own.elevation - own.free;
-    let asked = judged.house.meter + reach;
-    (section as i64, path.iter().enumerate().map(turn).collect(), path_loss as i64, asked as i64)
+    let (own, reach) = (&judged.house.sections[section - 1], heads_of(judged).reaches[section - 1]);
+    let meter = judged.house.meter;
+    Walk {
+        section: section as i64,
+        turns: path.iter().enumerate().map(turn).collect(),
+        path_loss: (reach - own.elevation - own.free) as i64,
+        parts: [meter, own.elevation, own.free].map(|part| part as i64),
+        asked: (meter + reach) as i64,
+    }
 }
 
 /// Every section of every example house, with the widest sizes and with its cheapest or given ones.
@@ -318,11 +348,12 @@ fn every_walk_is_the_models() {
 fn the_walk_goes_with_the_table() {
     for (section, words) in (1..=12).flat_map(|section| [(section, &RATE[..]), (section, &HEADS[..])]) {
         let printed = json::parse(&office(&[words, &["--walk", &section.to_string(), "--json"]].concat()).text());
-        let (_, turns, path_loss, asked) = walk_of(&printed);
+        let Walk { turns, path_loss, parts, asked, .. } = walk_of(&printed);
         let own = &printed.list("sections")[section - 1];
         let left = printed.number("delivered_head_cm") - asked + own.number("free_head_cm");
         assert_eq!(own.number("head_left_cm"), left, "{words:?} {section}");
         assert_eq!(turns.last().map(|[.., sum]| *sum), Some(path_loss));
+        assert_eq!(parts.iter().sum::<i64>() + path_loss, asked, "it can be checked from the object");
         let dictates = printed.number("dictating_section") == section as i64;
         assert_eq!(asked == printed.number("required_head_cm"), dictates, "no two ends ask for the same here");
     }
@@ -502,7 +533,7 @@ fn the_page_names_the_line_where_a_turn_starts() {
     assert!(page.contains(&format!("\nLine {line} of `office/src/walk.rs` is the start of a turn.")), "line {line}");
     let command = RATE.join(" ");
     assert!(page.contains(&format!("\n    gdb --args office/target/debug/office {command} --walk 12\n")), "{command}");
-    let (_, turns, path_loss, _) =
+    let Walk { turns, path_loss, .. } =
         walk_of(&json::parse(&office(&[&RATE[..], &["--walk", "12", "--json"]].concat()).text()));
     let before = [0].into_iter().chain(turns.iter().map(|[.., sum]| *sum));
     let at = turns.iter().map(|[section, ..]| *section).chain([0]);

@@ -133,8 +133,9 @@ behind it.
 
 --json: service, duty_ml_per_s, duty_one_tap_kinds, hour_l_per_h, day_l, mean_hour_l_per_h, local_losses_tenths, cost_tenths (in
 tenths of the price unit), sizes, suits, required_head_cm, pump_head_cm, guaranteed_head_cm, delivered_head_cm,
-dictating_section, sections (section, parent, size, bore_mm, length_dm, flow_ml_per_s, one_tap_kinds, velocity_mm_per_s, loss_cm, head_left_cm, free_head_cm);
-with --walk also walk (section, turns (section, loss_cm, sum_cm), path_loss_cm, asked_head_cm).",
+dictating_section, sections (section, parent, size, bore_mm, length_dm, flow_ml_per_s, one_tap_kinds, velocity_mm_per_s,
+loss_cm, head_left_cm, free_head_cm); with --walk also walk (section, turns (section, loss_cm, sum_cm), path_loss_cm,
+meter_loss_cm, elevation_cm, free_head_cm, asked_head_cm).",
     },
     Command {
         name: "losses",
@@ -201,9 +202,9 @@ get none of these.
 
 --json: service, duty_ml_per_s, duty_one_tap_kinds, hour_l_per_h, day_l, mean_hour_l_per_h, local_losses_tenths, suits,
 required_head_cm, pump_head_cm, guaranteed_head_cm, delivered_head_cm, dictating_section, dictating_path (the sections from
-there to the pump),
-path_loss_cm (what these lose together), sections (section, parent, length_dm, flow_ml_per_s, one_tap_kinds, loss_cm, head_left_cm,
-free_head_cm); with --walk also walk (section, turns (section, loss_cm, sum_cm), path_loss_cm, asked_head_cm).",
+there to the pump), path_loss_cm (what these lose together), sections (section, parent, length_dm, flow_ml_per_s, one_tap_kinds,
+loss_cm, head_left_cm, free_head_cm); with --walk also walk (section, turns (section, loss_cm, sum_cm), path_loss_cm,
+meter_loss_cm, elevation_cm, free_head_cm, asked_head_cm).",
     },
     Command {
         name: "choose",

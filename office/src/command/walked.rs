@@ -81,6 +81,9 @@ impl<'a> Walked<'a> {
             ("section", self.end.number.into()),
             ("turns", Json::List(self.turns.iter().map(turn).collect())),
             ("path_loss_cm", self.end.path_loss.into()),
+            ("meter_loss_cm", self.record.meter.into()),
+            ("elevation_cm", self.end.section.elevation.into()),
+            ("free_head_cm", self.end.section.free.into()),
             ("asked_head_cm", self.end.asked(self.record.meter).into()),
         ])
     }
