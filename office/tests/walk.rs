@@ -36,15 +36,24 @@ fn walked(words: &[&str], section: &str) -> String {
     walk.strip_prefix('\n').expect("an empty line between answer and walk").to_string()
 }
 
+/// The last lines of a walk, as many as are wanted.
+fn last_lines(words: &[&str], section: &str, count: usize) -> Vec<String> {
+    let walk = walked(words, section);
+    let lines: Vec<&str> = walk.lines().collect();
+    lines[lines.len() - count..].iter().map(|line| line.to_string()).collect()
+}
+
 /// Document 01's own case: a loss of 71, and 50 + 600 + 200 + 71 are 921.
 #[test]
 fn the_own_case() {
     let wanted = "\
-turn  section  own loss  sum
-                     cm   cm
-   1        1        71   71
-path loss of section 1: 71 cm; meter loss 50 + elevation 600 + free head 200 + path loss 71 = 921 cm, which is the required head: \
-section 1 dictates it
+walk from section 1 to the pump
+section  own loss  sum
+               cm   cm
+      1        71   71
+sum: lost from the end of section 1 back to where this section begins; in the last line it is the path loss of section 1
+section 1 asks for meter loss 50 + elevation 600 + free head 200 + path loss 71 = 921 cm
+that is the required head: section 1 dictates it
 ";
     assert_eq!(walked(&["rate", OWN, OWN_TABLE, "2"], "1"), wanted);
     let list = scratch("walk-own.csv");
@@ -57,26 +66,30 @@ section 1 dictates it
 #[test]
 fn a_house_of_several_levels() {
     let wing = "\
-turn  section  own loss  sum
-                     cm   cm
-   1       12        38   38
-   2       10       447  485
-   3        6        50  535
-   4        1       133  668
-path loss of section 12: 668 cm; meter loss 120 + elevation 730 + free head 200 + path loss 668 = 1718 cm, 79 cm below the required \
-head of 1797 cm, which section 5 dictates
+walk from section 12 to the pump
+section  own loss  sum
+               cm   cm
+     12        38   38
+     10       447  485
+      6        50  535
+      1       133  668
+sum: lost from the end of section 12 back to where this section begins; in the last line it is the path loss of section 12
+section 12 asks for meter loss 120 + elevation 730 + free head 200 + path loss 668 = 1718 cm
+that is 79 cm less than the required head of 1797 cm, which section 5 dictates
 ";
     assert_eq!(walked(&RATE, "12"), wing);
     let riser = "\
-turn  section  own loss  sum
-                     cm   cm
-   1        5        28   28
-   2        4        52   80
-   3        3        51  131
-   4        2        73  204
-   5        1       133  337
-path loss of section 5: 337 cm; meter loss 120 + elevation 1040 + free head 300 + path loss 337 = 1797 cm, which is the required \
-head: section 5 dictates it
+walk from section 5 to the pump
+section  own loss  sum
+               cm   cm
+      5        28   28
+      4        52   80
+      3        51  131
+      2        73  204
+      1       133  337
+sum: lost from the end of section 5 back to where this section begins; in the last line it is the path loss of section 5
+section 5 asks for meter loss 120 + elevation 1040 + free head 300 + path loss 337 = 1797 cm
+that is the required head: section 5 dictates it
 ";
     assert_eq!(walked(&RATE, "5"), riser);
 }
@@ -86,25 +99,96 @@ head: section 5 dictates it
 #[test]
 fn the_losses_are_those_that_are_given() {
     let riser = "\
-turn  section  own loss  sum
-                     cm   cm
-   1        9        31   31
-   2        8        55   86
-   3        7        64  150
-   4        6        56  206
-   5        1       133  339
-path loss of section 9: 339 cm; meter loss 120 + elevation 1040 + free head 300 + path loss 339 = 1799 cm, which is the required \
-head: section 9 dictates it
+walk from section 9 to the pump
+section  own loss  sum
+               cm   cm
+      9        31   31
+      8        55   86
+      7        64  150
+      6        56  206
+      1       133  339
+sum: lost from the end of section 9 back to where this section begins; in the last line it is the path loss of section 9
+section 9 asks for meter loss 120 + elevation 1040 + free head 300 + path loss 339 = 1799 cm
+that is the required head: section 9 dictates it
 ";
     assert_eq!(walked(&HEADS, "9"), riser);
     let main = "\
-turn  section  own loss  sum
-                     cm   cm
-   1        1       133  133
-path loss of section 1: 133 cm; meter loss 120 + elevation 60 + free head 0 + path loss 133 = 313 cm, 1486 cm below the required \
-head of 1799 cm, which section 9 dictates
+walk from section 1 to the pump
+section  own loss  sum
+               cm   cm
+      1       133  133
+sum: lost from the end of section 1 back to where this section begins; in the last line it is the path loss of section 1
+section 1 asks for meter loss 120 + elevation 60 + free head 0 + path loss 133 = 313 cm
+that is 1486 cm less than the required head of 1799 cm, which section 9 dictates
+further on from there, section 9 asks for the most: 1799 cm
 ";
     assert_eq!(walked(&HEADS, "1"), main);
+}
+
+/// With its cheapest sizes riser B loses 50, 51, 52 and 28 cm, the last three as riser A does, so that section 9 asks for
+/// 120 + 1,040 + 300 and 314, 1,774, and section 8 for 120 + 710 + 300 and 286, 1,416. The wing's junction asks for 120 + 80 and
+/// 447 + 50 + 133, 830, and of its two ends 12 for 1,718, and 11, with 59 cm, for 120 + 400 + 200 + 689, 1,409.
+#[test]
+fn a_junction_is_not_taken_for_its_branch() {
+    let riser = [
+        "section 6 asks for meter loss 120 + elevation 60 + free head 0 + path loss 183 = 363 cm",
+        "that is 1434 cm less than the required head of 1797 cm, which section 5 dictates",
+        "further on from there, section 9 asks for the most: 1774 cm",
+    ];
+    assert_eq!(last_lines(&RATE, "6", 3), riser);
+    let wing = [
+        "section 10 asks for meter loss 120 + elevation 80 + free head 0 + path loss 630 = 830 cm",
+        "that is 967 cm less than the required head of 1797 cm, which section 5 dictates",
+        "further on from there, section 12 asks for the most: 1718 cm",
+    ];
+    assert_eq!(last_lines(&RATE, "10", 3), wing);
+    // Fixtures at the end of a section make no difference: what counts is that another hangs from it.
+    assert_eq!(last_lines(&RATE, "8", 1), ["further on from there, section 9 asks for the most: 1774 cm"]);
+    for end in ["5", "9", "11", "12"] {
+        assert!(!walked(&RATE, end).contains("further on"), "nothing hangs from {end}");
+    }
+}
+
+/// The example house with another delivered head.
+fn delivering(name: &str, head: u16) -> String {
+    let (file, text) = (scratch(name), read(HOUSE));
+    assert!(text.contains("\ndelivered head  1800 cm "), "{text}");
+    let other = text.replacen("delivered head  1800 cm", &format!("delivered head {head} cm"), 1);
+    std::fs::write(&file, other).expect("written");
+    file
+}
+
+/// Section 9 asks for 1,774 cm, section 5 for 1,797, section 12 for 1,718 and section 8 for 1,416, as above.
+#[test]
+fn a_delivered_head_that_is_too_little() {
+    let low = delivering("walk-low.txt", 1_750);
+    let low = ["rate", &low, TABLE, SIZES];
+    let riser = [
+        "section 9 asks for meter loss 120 + elevation 1040 + free head 300 + path loss 314 = 1774 cm",
+        "that is 23 cm less than the required head of 1797 cm, which section 5 dictates",
+        "the delivered head of 1750 cm is 24 cm too little for it",
+    ];
+    assert_eq!(last_lines(&low, "9", 3), riser);
+    let dictating = [
+        "that is the required head: section 5 dictates it",
+        "the delivered head of 1750 cm is 47 cm too little for it",
+    ];
+    assert_eq!(last_lines(&low, "5", 2), dictating);
+    for enough in ["8", "12"] {
+        assert!(!walked(&low, enough).contains("too little"), "{enough}");
+    }
+    // What is just enough is enough.
+    let (just, less) = (delivering("walk-just.txt", 1_774), delivering("walk-less.txt", 1_773));
+    assert!(!walked(&["rate", &just, TABLE, SIZES], "9").contains("too little"));
+    let lacking = ["the delivered head of 1773 cm is 1 cm too little for it"];
+    assert_eq!(last_lines(&["rate", &less, TABLE, SIZES], "9", 1), lacking);
+    let lowest = delivering("walk-lowest.txt", 1_400);
+    let both = [
+        "that is 381 cm less than the required head of 1797 cm, which section 5 dictates",
+        "the delivered head of 1400 cm is 16 cm too little for it",
+        "further on from there, section 9 asks for the most: 1774 cm",
+    ];
+    assert_eq!(last_lines(&["rate", &lowest, TABLE, SIZES], "8", 3), both);
 }
 
 /// The fields of document 01's own case, and sections of kind 7 below them, each from its parent at this elevation.
@@ -132,7 +216,7 @@ fn list(name: &str, losses: &[u32]) -> String {
 
 /// As many sections as a house may have, one behind the other, of which the last loses 1 cm, the one before it 2 cm, and so on.
 /// After turn t the sum is t (t + 1) / 2, from section 63 in the end 2,016, and 50 + 0 + 200 + 2,016 are 2,266. Section 40 is the
-/// 24th from behind: it loses 24 cm, the main 63, and the 40 of them 40 × 87 / 2, 1,740.
+/// 24th from behind: it loses 24 cm, the main 63, and the 40 of them 40 × 87 / 2, 1,740. The delivered head is 1,200.
 #[test]
 fn a_chain_of_63_sections() {
     let house = written("walk-chain.txt", &(0..63).map(|parent| (parent, 0)).collect::<Vec<_>>());
@@ -140,69 +224,108 @@ fn a_chain_of_63_sections() {
     let words = ["heads", house.as_str(), list.as_str()];
     let walk = walked(&words, "63");
     let lines: Vec<&str> = walk.lines().collect();
-    assert_eq!(lines.len(), 2 + 63 + 1);
-    for (turn, line) in (1..=63).zip(&lines[2..]) {
+    assert_eq!(lines.len(), 3 + 63 + 4);
+    for (turn, line) in (1..=63).zip(&lines[3..]) {
         let numbers: Vec<usize> = line.split_whitespace().map(|number| number.parse().expect("a number")).collect();
-        assert_eq!(numbers, [turn, 64 - turn, turn, turn * (turn + 1) / 2]);
+        assert_eq!(numbers, [64 - turn, turn, turn * (turn + 1) / 2]);
     }
-    let last = "path loss of section 63: 2016 cm; meter loss 50 + elevation 0 + free head 200 + path loss 2016 = 2266 cm, which is \
-                the required head: section 63 dictates it";
-    assert_eq!(lines[65], last);
+    let last = [
+        "sum: lost from the end of section 63 back to where this section begins; in the last line it is the path loss of section 63",
+        "section 63 asks for meter loss 50 + elevation 0 + free head 200 + path loss 2016 = 2266 cm",
+        "that is the required head: section 63 dictates it",
+        "the delivered head of 1200 cm is 1066 cm too little for it",
+    ];
+    assert_eq!(lines[66..], last);
     let walk = walked(&words, "40");
     let lines: Vec<&str> = walk.lines().collect();
-    assert_eq!(lines[2..=3], ["   1       40        24    24", "   2       39        25    49"]);
+    assert_eq!(lines[3..=4], ["     40        24    24", "     39        25    49"]);
     let last = [
-        "  40        1        63  1740",
-        "path loss of section 40: 1740 cm; meter loss 50 + elevation 0 + free head 200 + path loss 1740 = 1990 cm, 276 cm below the \
-         required head of 2266 cm, which section 63 dictates",
+        "      1        63  1740",
+        "sum: lost from the end of section 40 back to where this section begins; in the last line it is the path loss of section 40",
+        "section 40 asks for meter loss 50 + elevation 0 + free head 200 + path loss 1740 = 1990 cm",
+        "that is 276 cm less than the required head of 2266 cm, which section 63 dictates",
+        "the delivered head of 1200 cm is 790 cm too little for it",
+        "further on from there, section 63 asks for the most: 2266 cm",
     ];
-    assert_eq!(lines[41..], last);
+    assert_eq!(lines[42..], last);
 }
 
-/// The most that losses can be: 63 times 4,259,775 are 268,365,825, and 268,366,075 with 50 + 200.
+/// The most that losses can be: 63 times 4,259,775 are 268,365,825, and 268,366,075 with 50 + 200. Of these 1,200 are delivered.
 #[test]
 fn the_greatest_losses() {
     let house = written("walk-greatest.txt", &(0..63).map(|parent| (parent, 0)).collect::<Vec<_>>());
     let list = list("walk-greatest.csv", &[4_259_775; 63]);
     let walk = walked(&["heads", &house, &list], "63");
-    assert!(walk.contains("\n  63        1   4259775  268365825\npath loss of section 63: 268365825 cm; "), "{walk}");
-    assert!(walk.ends_with(" = 268366075 cm, which is the required head: section 63 dictates it\n"), "{walk}");
+    assert!(walk.contains("\n      1   4259775  268365825\nsum: lost from "), "{walk}");
+    let last = "\
+section 63 asks for meter loss 50 + elevation 0 + free head 200 + path loss 268365825 = 268366075 cm
+that is the required head: section 63 dictates it
+the delivered head of 1200 cm is 268364875 cm too little for it
+";
+    assert!(walk.ends_with(last), "{walk}");
 }
 
-/// Sections 2 and 3 ask for 50 + 300 + 200 and 100 + 20, 670 both, and the lower number dictates. Section 4 asks for 1 cm less.
+/// Sections 2 and 3 ask for 50 + 300 + 200 and 100 + 20, 670 both, and the lower number dictates. Section 4 asks for 1 cm less, and
+/// section 1 for 50 + 0 + 200 + 100.
 #[test]
-fn of_equals_the_lowest_dictates() {
+fn of_equals_the_lowest_number_dictates() {
     let house = written("walk-equals.txt", &[(0, 0), (1, 300), (1, 300), (1, 299)]);
     let list = list("walk-equals.csv", &[100, 20, 20, 20]);
-    let last = |section: &str| {
-        let walk = walked(&["heads", &house, &list], section);
-        walk.lines().last().expect("a line").to_string()
-    };
+    let last = |section: &str, count: usize| last_lines(&["heads", &house, &list], section, count);
     let sum = |section: u8, elevation: u16, asked: u16| {
         format!(
-            "path loss of section {section}: 120 cm; meter loss 50 + elevation {elevation} + free head 200 + path loss 120 = {asked} cm, "
+            "section {section} asks for meter loss 50 + elevation {elevation} + free head 200 + path loss 120 = {asked} cm"
         )
     };
-    assert_eq!(last("2"), sum(2, 300, 670) + "which is the required head: section 2 dictates it");
-    assert_eq!(
-        last("3"),
-        sum(3, 300, 670) + "which is the required head too; section 2 dictates it, the lowest that asks for it"
-    );
-    assert_eq!(last("4"), sum(4, 299, 669) + "1 cm below the required head of 670 cm, which section 2 dictates");
+    let dictates = "that is the required head: section 2 dictates it, and section 3 asks for as much";
+    assert_eq!(last("2", 2), [sum(2, 300, 670), dictates.to_string()]);
+    let lower = "that is the required head too: of the sections that ask for it, section 2 has the lowest number and dictates it";
+    assert_eq!(last("3", 2), [sum(3, 300, 670), lower.to_string()]);
+    let less = "that is 1 cm less than the required head of 670 cm, which section 2 dictates";
+    assert_eq!(last("4", 2), [sum(4, 299, 669), less.to_string()]);
+    let main = [
+        "that is 320 cm less than the required head of 670 cm, which section 2 dictates",
+        "further on from there, section 2 asks for the most: 670 cm",
+    ];
+    assert_eq!(last("1", 2), main);
 }
 
-/// Each end lies below the pump. With a loss of 10 cm a section, section 1 asks for 60 - 120 + 10, and section 6 for
-/// 60 - 950 + 150 + 30.
+/// As many ends behind the main as ask for 670 cm each, from section 2 on. Up to three beside the one that dictates are named.
+#[test]
+fn equals_are_named_or_counted() {
+    for (ends, others) in [
+        (1, ""),
+        (2, ", and section 3 asks for as much"),
+        (3, ", and sections 3 and 4 ask for as much"),
+        (4, ", and sections 3, 4 and 5 ask for as much"),
+        (5, ", and 4 other sections ask for as much"),
+        (6, ", and 5 other sections ask for as much"),
+    ] {
+        let sections = [vec![(0, 0)], vec![(1, 300); ends]].concat();
+        let house = written("walk-as-much.txt", &sections);
+        let list = list("walk-as-much.csv", &[vec![100], vec![20; ends]].concat());
+        let wanted = format!("that is the required head: section 2 dictates it{others}");
+        assert_eq!(last_lines(&["heads", &house, &list], "2", 1), [wanted]);
+    }
+}
+
+/// Each end lies below the pump. With a loss of 10 cm a section, section 1 asks for 60 - 120 + 10, section 6 for
+/// 60 - 950 + 150 + 30, and section 4, a junction, for 60 - 150 + 20, more than any other behind section 1.
 #[test]
 fn heads_below_the_pump_are_negative() {
     let list = list("walk-attic.csv", &[10; 6]);
     let words = ["heads", "examples/attic.txt", list.as_str()];
     let walk = walked(&words, "6");
     let last = "\
-path loss of section 6: 30 cm; meter loss 60 + elevation -950 + free head 150 + path loss 30 = -710 cm, 660 cm below the required head \
-of -50 cm, which section 1 dictates
+section 6 asks for meter loss 60 + elevation -950 + free head 150 + path loss 30 = -710 cm
+that is 660 cm less than the required head of -50 cm, which section 1 dictates
 ";
     assert!(walk.ends_with(last), "{walk}");
+    let main = [
+        "that is the required head: section 1 dictates it",
+        "further on from there, section 4 asks for the most: -70 cm",
+    ];
+    assert_eq!(last_lines(&words, "1", 2), main);
     let printed = json::parse(&office(&[&words[..], &["--walk", "6", "--json"]].concat()).text());
     let walk = printed.get("walk");
     assert_eq!((walk.number("asked_head_cm"), printed.number("required_head_cm")), (-710, -50));
@@ -311,6 +434,23 @@ fn of_model(judged: &Judged, losses: &[i128], section: usize) -> Walk {
     }
 }
 
+/// The lines that only some walks have, as the model's heads ask for them.
+fn more_lines(judged: &Judged, section: usize) -> String {
+    let (house, reaches) = (&judged.house, &heads_of(judged).reaches);
+    let asked = |section: usize| house.meter + reaches[section - 1];
+    let (delivered, lacking) = (house.delivered, asked(section) - house.delivered);
+    let mut lines = String::new();
+    if lacking > 0 {
+        lines.push_str(&format!("the delivered head of {delivered} cm is {lacking} cm too little for it\n"));
+    }
+    let further: Vec<usize> = house.below[section - 1].members().filter(|below| *below != section).collect();
+    if let Some(most) = further.iter().map(|below| asked(*below)).max() {
+        let first = further.iter().filter(|below| asked(**below) == most).min().expect("one asks for the most");
+        lines.push_str(&format!("further on from there, section {first} asks for the most: {most} cm\n"));
+    }
+    lines
+}
+
 /// Every section of every example house, with the widest sizes and with its cheapest or given ones.
 #[test]
 fn every_walk_is_the_models() {
@@ -334,7 +474,11 @@ fn every_walk_is_the_models() {
         words.extend((!sizes.is_empty()).then_some(list.as_str()));
         for section in 1..=judged.house.sections.len() {
             let number = section.to_string();
-            assert!(walked(&words, &number).starts_with("turn  section  own loss "), "{words:?}");
+            let text = walked(&words, &number);
+            let first = format!("walk from section {number} to the pump\nsection  own loss ");
+            assert!(text.starts_with(&first), "{words:?}: {text}");
+            let (_, more) = text.split_once("\nthat is ").and_then(|(_, last)| last.split_once('\n')).expect("lines");
+            assert_eq!(more, more_lines(&judged, section), "{words:?}");
             let printed = office(&[&words[..], &["--walk", &number, "--json"]].concat());
             assert_eq!(walk_of(&json::parse(&printed.text())), of_model(&judged, &losses, section), "{words:?}");
             seen += 1;
@@ -490,7 +634,7 @@ fn with_other_options() {
     assert_eq!((ran.status, ran.output.len(), std::fs::read(&kept).expect("kept")), (0, 0, text));
     // A loss of 0 gets a warning.
     let list = list("walk-warned.csv", &[133, 73, 51, 52, 28, 56, 64, 55, 31, 447, 59, 0]);
-    assert!(walked(&["heads", HOUSE, &list], "12").contains("\n   1       12         0    0\n"));
+    assert!(walked(&["heads", HOUSE, &list], "12").contains("\n     12         0    0\n"));
     let strict = office(&["heads", HOUSE, &list, "--walk", "12", "--strict"]);
     assert!(strict.status == 2 && strict.output.is_empty() && strict.error.contains("--strict makes a warning"));
 }
@@ -540,4 +684,20 @@ fn the_page_names_the_line_where_a_turn_starts() {
     let rows: String = (1..).zip(at.zip(before)).map(|(stop, (at, sum))| format!("|{stop}|{at}|{sum}|\n")).collect();
     assert!(page.contains(&format!("|stop|`at`|`sum`|\n|-|-|-|\n{rows}\n")), "{rows}");
     assert!(rows.ends_with(&format!("|0|{path_loss}|\n")));
+}
+
+/// Help and page say how the walk goes in the same words. An end that asks for less than the required head is not called short.
+#[test]
+fn help_and_page_have_the_same_words() {
+    let unfolded = |text: String| text.split_whitespace().collect::<Vec<_>>().join(" ");
+    let [rate, heads] = ["rate", "heads"].map(|command| unfolded(office(&["help", command]).text()));
+    let page = unfolded(read("docs/COMMAND.md"));
+    let way = "first section N, then the section that it hangs from, and so on to the pump, one at each turn";
+    for text in [&rate, &page] {
+        assert!(text.contains(way), "{text}");
+        assert!(text.contains("all their paths must lose less before it falls"), "{text}");
+    }
+    for text in [rate, heads, page] {
+        assert!(!text.contains("below the required head"), "{text}");
+    }
 }
