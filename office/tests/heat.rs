@@ -206,8 +206,11 @@ fn both_numbers_are_needed_once_and_by_heat_alone() {
     misused(&["heat", HOT, "--loss", "0", "--cold-water"], "`--cold-water` wants a temperature in degrees C");
     misused(&["heat", HOT, "--loss", "0", "--cold-water", "5", "--loss", "1"], "`--loss` is given twice");
     misused(&["heat", HOT, "--loss", "0", "--cold-water", "5", "--cold-water", "5"], "`--cold-water` is given twice");
-    misused(&["flow", HOT, "--loss", "0"], "`flow` has no option --loss");
-    misused(&["losses", HOT, "examples/table.csv", "1", "--cold-water", "5"], "`losses` has no option --cold-water");
+    misused(&["flow", HOT, "--loss", "0"], "`flow` has no option --loss; `heat` has it\nusage: office flow");
+    misused(
+        &["losses", HOT, "examples/table.csv", "1", "--cold-water", "5"],
+        "`losses` has no option --cold-water; `heat` has it\nusage: office losses",
+    );
     misused(
         &["heat", "examples/table.csv", "--cold-water", "5", "--loss", "0"],
         "is a table of sizes; a house is expected",

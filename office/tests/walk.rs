@@ -36,15 +36,24 @@ fn walked(words: &[&str], section: &str) -> String {
     walk.strip_prefix('\n').expect("an empty line between answer and walk").to_string()
 }
 
+/// The last lines of a walk, as many as are wanted.
+fn last_lines(words: &[&str], section: &str, count: usize) -> Vec<String> {
+    let walk = walked(words, section);
+    let lines: Vec<&str> = walk.lines().collect();
+    lines[lines.len() - count..].iter().map(|line| line.to_string()).collect()
+}
+
 /// Document 01's own case: a loss of 71, and 50 + 600 + 200 + 71 are 921.
 #[test]
 fn the_own_case() {
     let wanted = "\
-turn  section  own loss  sum
-                     cm   cm
-   1        1        71   71
-path loss of section 1: 71 cm; meter loss 50 + elevation 600 + free head 200 + path loss 71 = 921 cm, which is the required head: \
-section 1 dictates it
+walk from section 1 to the pump
+section  own loss  sum
+               cm   cm
+      1        71   71
+sum: lost from the end of section 1 back to where this section begins; in the last line it is the path loss of section 1
+section 1 asks for meter loss 50 + elevation 600 + free head 200 + path loss 71 = 921 cm
+that is the required head: section 1 dictates it
 ";
     assert_eq!(walked(&["rate", OWN, OWN_TABLE, "2"], "1"), wanted);
     let list = scratch("walk-own.csv");
@@ -57,26 +66,30 @@ section 1 dictates it
 #[test]
 fn a_house_of_several_levels() {
     let wing = "\
-turn  section  own loss  sum
-                     cm   cm
-   1       12        38   38
-   2       10       447  485
-   3        6        50  535
-   4        1       133  668
-path loss of section 12: 668 cm; meter loss 120 + elevation 730 + free head 200 + path loss 668 = 1718 cm, 79 cm below the required \
-head of 1797 cm, which section 5 dictates
+walk from section 12 to the pump
+section  own loss  sum
+               cm   cm
+     12        38   38
+     10       447  485
+      6        50  535
+      1       133  668
+sum: lost from the end of section 12 back to where this section begins; in the last line it is the path loss of section 12
+section 12 asks for meter loss 120 + elevation 730 + free head 200 + path loss 668 = 1718 cm
+that is 79 cm less than the required head of 1797 cm, which section 5 dictates
 ";
     assert_eq!(walked(&RATE, "12"), wing);
     let riser = "\
-turn  section  own loss  sum
-                     cm   cm
-   1        5        28   28
-   2        4        52   80
-   3        3        51  131
-   4        2        73  204
-   5        1       133  337
-path loss of section 5: 337 cm; meter loss 120 + elevation 1040 + free head 300 + path loss 337 = 1797 cm, which is the required \
-head: section 5 dictates it
+walk from section 5 to the pump
+section  own loss  sum
+               cm   cm
+      5        28   28
+      4        52   80
+      3        51  131
+      2        73  204
+      1       133  337
+sum: lost from the end of section 5 back to where this section begins; in the last line it is the path loss of section 5
+section 5 asks for meter loss 120 + elevation 1040 + free head 300 + path loss 337 = 1797 cm
+that is the required head: section 5 dictates it
 ";
     assert_eq!(walked(&RATE, "5"), riser);
 }
@@ -86,25 +99,96 @@ head: section 5 dictates it
 #[test]
 fn the_losses_are_those_that_are_given() {
     let riser = "\
-turn  section  own loss  sum
-                     cm   cm
-   1        9        31   31
-   2        8        55   86
-   3        7        64  150
-   4        6        56  206
-   5        1       133  339
-path loss of section 9: 339 cm; meter loss 120 + elevation 1040 + free head 300 + path loss 339 = 1799 cm, which is the required \
-head: section 9 dictates it
+walk from section 9 to the pump
+section  own loss  sum
+               cm   cm
+      9        31   31
+      8        55   86
+      7        64  150
+      6        56  206
+      1       133  339
+sum: lost from the end of section 9 back to where this section begins; in the last line it is the path loss of section 9
+section 9 asks for meter loss 120 + elevation 1040 + free head 300 + path loss 339 = 1799 cm
+that is the required head: section 9 dictates it
 ";
     assert_eq!(walked(&HEADS, "9"), riser);
     let main = "\
-turn  section  own loss  sum
-                     cm   cm
-   1        1       133  133
-path loss of section 1: 133 cm; meter loss 120 + elevation 60 + free head 0 + path loss 133 = 313 cm, 1486 cm below the required \
-head of 1799 cm, which section 9 dictates
+walk from section 1 to the pump
+section  own loss  sum
+               cm   cm
+      1       133  133
+sum: lost from the end of section 1 back to where this section begins; in the last line it is the path loss of section 1
+section 1 asks for meter loss 120 + elevation 60 + free head 0 + path loss 133 = 313 cm
+that is 1486 cm less than the required head of 1799 cm, which section 9 dictates
+further on from there, section 9 asks for the most: 1799 cm
 ";
     assert_eq!(walked(&HEADS, "1"), main);
+}
+
+/// With its cheapest sizes riser B loses 50, 51, 52 and 28 cm, the last three as riser A does, so that section 9 asks for
+/// 120 + 1,040 + 300 and 314, 1,774, and section 8 for 120 + 710 + 300 and 286, 1,416. The wing's junction asks for 120 + 80 and
+/// 447 + 50 + 133, 830, and of its two ends 12 for 1,718, and 11, with 59 cm, for 120 + 400 + 200 + 689, 1,409.
+#[test]
+fn a_junction_is_not_taken_for_its_branch() {
+    let riser = [
+        "section 6 asks for meter loss 120 + elevation 60 + free head 0 + path loss 183 = 363 cm",
+        "that is 1434 cm less than the required head of 1797 cm, which section 5 dictates",
+        "further on from there, section 9 asks for the most: 1774 cm",
+    ];
+    assert_eq!(last_lines(&RATE, "6", 3), riser);
+    let wing = [
+        "section 10 asks for meter loss 120 + elevation 80 + free head 0 + path loss 630 = 830 cm",
+        "that is 967 cm less than the required head of 1797 cm, which section 5 dictates",
+        "further on from there, section 12 asks for the most: 1718 cm",
+    ];
+    assert_eq!(last_lines(&RATE, "10", 3), wing);
+    // Fixtures at the end of a section make no difference: what counts is that another hangs from it.
+    assert_eq!(last_lines(&RATE, "8", 1), ["further on from there, section 9 asks for the most: 1774 cm"]);
+    for end in ["5", "9", "11", "12"] {
+        assert!(!walked(&RATE, end).contains("further on"), "nothing hangs from {end}");
+    }
+}
+
+/// The example house with another delivered head.
+fn delivering(name: &str, head: u16) -> String {
+    let (file, text) = (scratch(name), read(HOUSE));
+    assert!(text.contains("\ndelivered head  1800 cm "), "{text}");
+    let other = text.replacen("delivered head  1800 cm", &format!("delivered head {head} cm"), 1);
+    std::fs::write(&file, other).expect("written");
+    file
+}
+
+/// Section 9 asks for 1,774 cm, section 5 for 1,797, section 12 for 1,718 and section 8 for 1,416, as above.
+#[test]
+fn a_delivered_head_that_is_too_little() {
+    let low = delivering("walk-low.txt", 1_750);
+    let low = ["rate", &low, TABLE, SIZES];
+    let riser = [
+        "section 9 asks for meter loss 120 + elevation 1040 + free head 300 + path loss 314 = 1774 cm",
+        "that is 23 cm less than the required head of 1797 cm, which section 5 dictates",
+        "the delivered head of 1750 cm is 24 cm too little for it",
+    ];
+    assert_eq!(last_lines(&low, "9", 3), riser);
+    let dictating = [
+        "that is the required head: section 5 dictates it",
+        "the delivered head of 1750 cm is 47 cm too little for it",
+    ];
+    assert_eq!(last_lines(&low, "5", 2), dictating);
+    for enough in ["8", "12"] {
+        assert!(!walked(&low, enough).contains("too little"), "{enough}");
+    }
+    // What is just enough is enough.
+    let (just, less) = (delivering("walk-just.txt", 1_774), delivering("walk-less.txt", 1_773));
+    assert!(!walked(&["rate", &just, TABLE, SIZES], "9").contains("too little"));
+    let lacking = ["the delivered head of 1773 cm is 1 cm too little for it"];
+    assert_eq!(last_lines(&["rate", &less, TABLE, SIZES], "9", 1), lacking);
+    let lowest = delivering("walk-lowest.txt", 1_400);
+    let both = [
+        "that is 381 cm less than the required head of 1797 cm, which section 5 dictates",
+        "the delivered head of 1400 cm is 16 cm too little for it",
+        "further on from there, section 9 asks for the most: 1774 cm",
+    ];
+    assert_eq!(last_lines(&["rate", &lowest, TABLE, SIZES], "8", 3), both);
 }
 
 /// The fields of document 01's own case, and sections of kind 7 below them, each from its parent at this elevation.
@@ -132,7 +216,7 @@ fn list(name: &str, losses: &[u32]) -> String {
 
 /// As many sections as a house may have, one behind the other, of which the last loses 1 cm, the one before it 2 cm, and so on.
 /// After turn t the sum is t (t + 1) / 2, from section 63 in the end 2,016, and 50 + 0 + 200 + 2,016 are 2,266. Section 40 is the
-/// 24th from behind: it loses 24 cm, the main 63, and the 40 of them 40 × 87 / 2, 1,740.
+/// 24th from behind: it loses 24 cm, the main 63, and the 40 of them 40 × 87 / 2, 1,740. The delivered head is 1,200.
 #[test]
 fn a_chain_of_63_sections() {
     let house = written("walk-chain.txt", &(0..63).map(|parent| (parent, 0)).collect::<Vec<_>>());
@@ -140,81 +224,135 @@ fn a_chain_of_63_sections() {
     let words = ["heads", house.as_str(), list.as_str()];
     let walk = walked(&words, "63");
     let lines: Vec<&str> = walk.lines().collect();
-    assert_eq!(lines.len(), 2 + 63 + 1);
-    for (turn, line) in (1..=63).zip(&lines[2..]) {
+    assert_eq!(lines.len(), 3 + 63 + 4);
+    for (turn, line) in (1..=63).zip(&lines[3..]) {
         let numbers: Vec<usize> = line.split_whitespace().map(|number| number.parse().expect("a number")).collect();
-        assert_eq!(numbers, [turn, 64 - turn, turn, turn * (turn + 1) / 2]);
+        assert_eq!(numbers, [64 - turn, turn, turn * (turn + 1) / 2]);
     }
-    let last = "path loss of section 63: 2016 cm; meter loss 50 + elevation 0 + free head 200 + path loss 2016 = 2266 cm, which is \
-                the required head: section 63 dictates it";
-    assert_eq!(lines[65], last);
+    let last = [
+        "sum: lost from the end of section 63 back to where this section begins; in the last line it is the path loss of section 63",
+        "section 63 asks for meter loss 50 + elevation 0 + free head 200 + path loss 2016 = 2266 cm",
+        "that is the required head: section 63 dictates it",
+        "the delivered head of 1200 cm is 1066 cm too little for it",
+    ];
+    assert_eq!(lines[66..], last);
     let walk = walked(&words, "40");
     let lines: Vec<&str> = walk.lines().collect();
-    assert_eq!(lines[2..=3], ["   1       40        24    24", "   2       39        25    49"]);
+    assert_eq!(lines[3..=4], ["     40        24    24", "     39        25    49"]);
     let last = [
-        "  40        1        63  1740",
-        "path loss of section 40: 1740 cm; meter loss 50 + elevation 0 + free head 200 + path loss 1740 = 1990 cm, 276 cm below the \
-         required head of 2266 cm, which section 63 dictates",
+        "      1        63  1740",
+        "sum: lost from the end of section 40 back to where this section begins; in the last line it is the path loss of section 40",
+        "section 40 asks for meter loss 50 + elevation 0 + free head 200 + path loss 1740 = 1990 cm",
+        "that is 276 cm less than the required head of 2266 cm, which section 63 dictates",
+        "the delivered head of 1200 cm is 790 cm too little for it",
+        "further on from there, section 63 asks for the most: 2266 cm",
     ];
-    assert_eq!(lines[41..], last);
+    assert_eq!(lines[42..], last);
 }
 
-/// The most that losses can be: 63 times 4,259,775 are 268,365,825, and 268,366,075 with 50 + 200.
+/// The most that losses can be: 63 times 4,259,775 are 268,365,825, and 268,366,075 with 50 + 200. Of these 1,200 are delivered.
 #[test]
 fn the_greatest_losses() {
     let house = written("walk-greatest.txt", &(0..63).map(|parent| (parent, 0)).collect::<Vec<_>>());
     let list = list("walk-greatest.csv", &[4_259_775; 63]);
     let walk = walked(&["heads", &house, &list], "63");
-    assert!(walk.contains("\n  63        1   4259775  268365825\npath loss of section 63: 268365825 cm; "), "{walk}");
-    assert!(walk.ends_with(" = 268366075 cm, which is the required head: section 63 dictates it\n"), "{walk}");
+    assert!(walk.contains("\n      1   4259775  268365825\nsum: lost from "), "{walk}");
+    let last = "\
+section 63 asks for meter loss 50 + elevation 0 + free head 200 + path loss 268365825 = 268366075 cm
+that is the required head: section 63 dictates it
+the delivered head of 1200 cm is 268364875 cm too little for it
+";
+    assert!(walk.ends_with(last), "{walk}");
 }
 
-/// Sections 2 and 3 ask for 50 + 300 + 200 and 100 + 20, 670 both, and the lower number dictates. Section 4 asks for 1 cm less.
+/// Sections 2 and 3 ask for 50 + 300 + 200 and 100 + 20, 670 both, and the lower number dictates. Section 4 asks for 1 cm less, and
+/// section 1 for 50 + 0 + 200 + 100.
 #[test]
-fn of_equals_the_lowest_dictates() {
+fn of_equals_the_lowest_number_dictates() {
     let house = written("walk-equals.txt", &[(0, 0), (1, 300), (1, 300), (1, 299)]);
     let list = list("walk-equals.csv", &[100, 20, 20, 20]);
-    let last = |section: &str| {
-        let walk = walked(&["heads", &house, &list], section);
-        walk.lines().last().expect("a line").to_string()
-    };
+    let last = |section: &str, count: usize| last_lines(&["heads", &house, &list], section, count);
     let sum = |section: u8, elevation: u16, asked: u16| {
         format!(
-            "path loss of section {section}: 120 cm; meter loss 50 + elevation {elevation} + free head 200 + path loss 120 = {asked} cm, "
+            "section {section} asks for meter loss 50 + elevation {elevation} + free head 200 + path loss 120 = {asked} cm"
         )
     };
-    assert_eq!(last("2"), sum(2, 300, 670) + "which is the required head: section 2 dictates it");
-    assert_eq!(
-        last("3"),
-        sum(3, 300, 670) + "which is the required head too; section 2 dictates it, the lowest that asks for it"
-    );
-    assert_eq!(last("4"), sum(4, 299, 669) + "1 cm below the required head of 670 cm, which section 2 dictates");
+    let dictates = "that is the required head: section 2 dictates it, and section 3 asks for as much";
+    assert_eq!(last("2", 2), [sum(2, 300, 670), dictates.to_string()]);
+    let lower = "that is the required head too: of the sections that ask for it, section 2 has the lowest number and dictates it";
+    assert_eq!(last("3", 2), [sum(3, 300, 670), lower.to_string()]);
+    let less = "that is 1 cm less than the required head of 670 cm, which section 2 dictates";
+    assert_eq!(last("4", 2), [sum(4, 299, 669), less.to_string()]);
+    let main = [
+        "that is 320 cm less than the required head of 670 cm, which section 2 dictates",
+        "further on from there, section 2 asks for the most: 670 cm",
+    ];
+    assert_eq!(last("1", 2), main);
 }
 
-/// Each end lies below the pump. With a loss of 10 cm a section, section 1 asks for 60 - 120 + 10, and section 6 for
-/// 60 - 950 + 150 + 30.
+/// As many ends behind the main as ask for 670 cm each, from section 2 on. Up to three beside the one that dictates are named.
+#[test]
+fn equals_are_named_or_counted() {
+    for (ends, others) in [
+        (1, ""),
+        (2, ", and section 3 asks for as much"),
+        (3, ", and sections 3 and 4 ask for as much"),
+        (4, ", and sections 3, 4 and 5 ask for as much"),
+        (5, ", and 4 other sections ask for as much"),
+        (6, ", and 5 other sections ask for as much"),
+    ] {
+        let sections = [vec![(0, 0)], vec![(1, 300); ends]].concat();
+        let house = written("walk-as-much.txt", &sections);
+        let list = list("walk-as-much.csv", &[vec![100], vec![20; ends]].concat());
+        let wanted = format!("that is the required head: section 2 dictates it{others}");
+        assert_eq!(last_lines(&["heads", &house, &list], "2", 1), [wanted]);
+    }
+}
+
+/// Each end lies below the pump. With a loss of 10 cm a section, section 1 asks for 60 - 120 + 10, section 6 for
+/// 60 - 950 + 150 + 30, and section 4, a junction, for 60 - 150 + 20, more than any other behind section 1.
 #[test]
 fn heads_below_the_pump_are_negative() {
     let list = list("walk-attic.csv", &[10; 6]);
     let words = ["heads", "examples/attic.txt", list.as_str()];
     let walk = walked(&words, "6");
     let last = "\
-path loss of section 6: 30 cm; meter loss 60 + elevation -950 + free head 150 + path loss 30 = -710 cm, 660 cm below the required head \
-of -50 cm, which section 1 dictates
+section 6 asks for meter loss 60 + elevation -950 + free head 150 + path loss 30 = -710 cm
+that is 660 cm less than the required head of -50 cm, which section 1 dictates
 ";
     assert!(walk.ends_with(last), "{walk}");
+    let main = [
+        "that is the required head: section 1 dictates it",
+        "further on from there, section 4 asks for the most: -70 cm",
+    ];
+    assert_eq!(last_lines(&words, "1", 2), main);
     let printed = json::parse(&office(&[&words[..], &["--walk", "6", "--json"]].concat()).text());
     let walk = printed.get("walk");
     assert_eq!((walk.number("asked_head_cm"), printed.number("required_head_cm")), (-710, -50));
 }
 
-/// The walk of an answer as JSON: section, turns of section, loss and sum, path loss and asked head.
-type Walk = (i64, Vec<[i64; 3]>, i64, i64);
+/// The walk of an answer as JSON, or by the model.
+#[derive(Debug, PartialEq)]
+struct Walk {
+    section: i64,
+    /// Section, loss and sum.
+    turns: Vec<[i64; 3]>,
+    path_loss: i64,
+    /// Meter loss, elevation and free head.
+    parts: [i64; 3],
+    asked: i64,
+}
 
 fn walk_of(printed: &Value) -> Walk {
     let walk = printed.get("walk");
     let turns = walk.list("turns").iter().map(|turn| ["section", "loss_cm", "sum_cm"].map(|key| turn.number(key)));
-    (walk.number("section"), turns.collect(), walk.number("path_loss_cm"), walk.number("asked_head_cm"))
+    Walk {
+        section: walk.number("section"),
+        turns: turns.collect(),
+        path_loss: walk.number("path_loss_cm"),
+        parts: ["meter_loss_cm", "elevation_cm", "free_head_cm"].map(|key| walk.number(key)),
+        asked: walk.number("asked_head_cm"),
+    }
 }
 
 /// The key stands last, and all before it is as without the walk.
@@ -224,12 +362,19 @@ fn as_json() {
     let text = office(&[&RATE[..], &["--json", "--walk", "12"]].concat()).text();
     let own = "\"walk\":{\"section\":12,\"turns\":[{\"section\":12,\"loss_cm\":38,\"sum_cm\":38},\
                {\"section\":10,\"loss_cm\":447,\"sum_cm\":485},{\"section\":6,\"loss_cm\":50,\"sum_cm\":535},\
-               {\"section\":1,\"loss_cm\":133,\"sum_cm\":668}],\"path_loss_cm\":668,\"asked_head_cm\":1718}";
+               {\"section\":1,\"loss_cm\":133,\"sum_cm\":668}],\"path_loss_cm\":668,\
+               \"meter_loss_cm\":120,\"elevation_cm\":730,\"free_head_cm\":200,\"asked_head_cm\":1718}";
     assert_eq!(text, format!("{},{own}}}\n", plain.strip_suffix("}\n").expect("an object")));
     let printed = json::parse(&office(&[&HEADS[..], &["--json", "--walk", "9"]].concat()).text());
     let turns = vec![[9, 31, 31], [8, 55, 86], [7, 64, 150], [6, 56, 206], [1, 133, 339]];
-    assert_eq!(walk_of(&printed), (9, turns, 339, 1_799));
-    assert_eq!(printed.number("path_loss_cm"), 339, "that of the dictating path");
+    let riser = Walk { section: 9, turns, path_loss: 339, parts: [120, 1_040, 300], asked: 1_799 };
+    assert_eq!(walk_of(&printed), riser);
+    let other = json::parse(&office(&[&HEADS[..], &["--json", "--walk", "1"]].concat()).text());
+    assert_eq!(
+        (other.number("path_loss_cm"), walk_of(&other).path_loss),
+        (339, 133),
+        "the dictating path, and section 1's"
+    );
     // The page has each key.
     let page = read("docs/COMMAND.md");
     let row = page.lines().find(|line| line.starts_with("|`rate` and `heads` with `--walk`|")).expect("a row");
@@ -263,22 +408,47 @@ fn judged(call: Call, files: [&str; 2], sizes: &[u8]) -> (Judged, Vec<i128>) {
     (judged, losses)
 }
 
-/// The walk from a section as the model has it: its path, the losses of the sections on it, and what its end asks for.
-fn of_model(judged: &Judged, losses: &[i128], section: usize) -> Walk {
-    let heads: &Heads = match &judged.result {
+fn heads_of(judged: &Judged) -> &Heads {
+    match &judged.result {
         Expected::Rated(rating) => &rating.heads,
         Expected::Headed(heads) => heads,
         _ => panic!("no heads"),
-    };
+    }
+}
+
+/// The walk from a section as the model has it: its path, the losses of the sections on it, and what its end asks for.
+fn of_model(judged: &Judged, losses: &[i128], section: usize) -> Walk {
     let path = &judged.house.paths[section - 1];
     let turn = |(place, at): (usize, &usize)| {
         let sum: i128 = path[..=place].iter().map(|at| losses[at - 1]).sum();
         [*at as i64, losses[at - 1] as i64, sum as i64]
     };
-    let (own, reach) = (&judged.house.sections[section - 1], heads.reaches[section - 1]);
-    let path_loss = reach - own.elevation - own.free;
-    let asked = judged.house.meter + reach;
-    (section as i64, path.iter().enumerate().map(turn).collect(), path_loss as i64, asked as i64)
+    let (own, reach) = (&judged.house.sections[section - 1], heads_of(judged).reaches[section - 1]);
+    let meter = judged.house.meter;
+    Walk {
+        section: section as i64,
+        turns: path.iter().enumerate().map(turn).collect(),
+        path_loss: (reach - own.elevation - own.free) as i64,
+        parts: [meter, own.elevation, own.free].map(|part| part as i64),
+        asked: (meter + reach) as i64,
+    }
+}
+
+/// The lines that only some walks have, as the model's heads ask for them.
+fn more_lines(judged: &Judged, section: usize) -> String {
+    let (house, reaches) = (&judged.house, &heads_of(judged).reaches);
+    let asked = |section: usize| house.meter + reaches[section - 1];
+    let (delivered, lacking) = (house.delivered, asked(section) - house.delivered);
+    let mut lines = String::new();
+    if lacking > 0 {
+        lines.push_str(&format!("the delivered head of {delivered} cm is {lacking} cm too little for it\n"));
+    }
+    let further: Vec<usize> = house.below[section - 1].members().filter(|below| *below != section).collect();
+    if let Some(most) = further.iter().map(|below| asked(*below)).max() {
+        let first = further.iter().filter(|below| asked(**below) == most).min().expect("one asks for the most");
+        lines.push_str(&format!("further on from there, section {first} asks for the most: {most} cm\n"));
+    }
+    lines
 }
 
 /// Every section of every example house, with the widest sizes and with its cheapest or given ones.
@@ -304,7 +474,11 @@ fn every_walk_is_the_models() {
         words.extend((!sizes.is_empty()).then_some(list.as_str()));
         for section in 1..=judged.house.sections.len() {
             let number = section.to_string();
-            assert!(walked(&words, &number).starts_with("turn  section  own loss "), "{words:?}");
+            let text = walked(&words, &number);
+            let first = format!("walk from section {number} to the pump\nsection  own loss ");
+            assert!(text.starts_with(&first), "{words:?}: {text}");
+            let (_, more) = text.split_once("\nthat is ").and_then(|(_, last)| last.split_once('\n')).expect("lines");
+            assert_eq!(more, more_lines(&judged, section), "{words:?}");
             let printed = office(&[&words[..], &["--walk", &number, "--json"]].concat());
             assert_eq!(walk_of(&json::parse(&printed.text())), of_model(&judged, &losses, section), "{words:?}");
             seen += 1;
@@ -318,11 +492,12 @@ fn every_walk_is_the_models() {
 fn the_walk_goes_with_the_table() {
     for (section, words) in (1..=12).flat_map(|section| [(section, &RATE[..]), (section, &HEADS[..])]) {
         let printed = json::parse(&office(&[words, &["--walk", &section.to_string(), "--json"]].concat()).text());
-        let (_, turns, path_loss, asked) = walk_of(&printed);
+        let Walk { turns, path_loss, parts, asked, .. } = walk_of(&printed);
         let own = &printed.list("sections")[section - 1];
         let left = printed.number("delivered_head_cm") - asked + own.number("free_head_cm");
         assert_eq!(own.number("head_left_cm"), left, "{words:?} {section}");
         assert_eq!(turns.last().map(|[.., sum]| *sum), Some(path_loss));
+        assert_eq!(parts.iter().sum::<i64>() + path_loss, asked, "it can be checked from the object");
         let dictates = printed.number("dictating_section") == section as i64;
         assert_eq!(asked == printed.number("required_head_cm"), dictates, "no two ends ask for the same here");
     }
@@ -336,28 +511,50 @@ fn misused(words: &[&str], why: &str) {
     }
 }
 
+/// What is said of a word that can't be a section's number.
+fn no_section(word: &str) -> String {
+    format!("`{word}` is no section's number for `--walk`: give a whole number of 1 or more in digits, as `--walk 3`")
+}
+
 #[test]
 fn what_is_no_section_is_misuse() {
     for words in [&RATE[..], &HEADS] {
         let with = |number: &'static str| [words, &["--walk", number]].concat();
         for odd in ["", "x", "-1", "+7", "7.0", "7,0", "1e1", " 7", "7 ", "7m", "section 7", "٧", "0x7", "-"] {
-            let why = "the section from which the walk goes to the pump is given by its number in the house, 1 or more, in digits \
-                       alone";
-            misused(&with(odd), &format!("`{odd}` is no whole number for `--walk`; {why}"));
+            misused(&with(odd), &no_section(odd));
         }
         for pump in ["0", "000"] {
             let why = "the pump, which is no section and where the walk ends; sections number from 1";
             misused(&with(pump), &format!("`{pump}` for `--walk` is {why}"));
         }
-        for more in ["13", "63", "64", "255", "256", "257", "268", "4294967297", "18446744073709551617"] {
-            misused(&with(more), &format!("`{more}` for `--walk` is no section's number; sections of the house: 12"));
+        for more in ["13", "013", "63", "64", "255", "256", "257", "268", "4294967297", "18446744073709551617"] {
+            misused(&with(more), &format!("the house has no section {more} for `--walk`; its sections are 1 to 12"));
         }
         assert_eq!(office(&with("012")).output, office(&with("12")).output, "zeros in front change no number");
     }
     misused(
         &["rate", OWN, OWN_TABLE, "2", "--walk", "2"],
-        "`2` for `--walk` is no section's number; sections of the house: 1",
+        "the house has no section 2 for `--walk`; its only section is 1",
     );
+}
+
+/// Where the number is left out, the file behind `--walk` is named, and not the count of the words that are left.
+#[test]
+fn a_file_in_place_of_the_number_is_named() {
+    for (words, file) in [
+        (&["rate", "--walk", "house.txt", "table.csv", "5,4"][..], "house.txt"),
+        (&["rate", "--walk", HOUSE, TABLE, SIZES], HOUSE),
+        (&["rate", HOUSE, "--walk", TABLE, SIZES], TABLE),
+        (&["rate", HOUSE, TABLE, "--walk", SIZES], SIZES),
+        (&["--walk", "heads", HOUSE, LOSSES], "heads"),
+        (&["heads", "--walk", HOUSE, LOSSES], HOUSE),
+        (&["heads", HOUSE, "--walk", LOSSES], LOSSES),
+    ] {
+        misused(words, &no_section(file));
+    }
+    // With a number it is the count that is wrong.
+    let ran = office(&["rate", "--walk", "3", HOUSE, TABLE]);
+    assert!(ran.status == 2 && ran.error.starts_with("office: `rate` takes 3 words, not 2\n"), "{}", ran.error);
 }
 
 #[test]
@@ -369,11 +566,13 @@ fn the_number_is_given_once_and_to_rate_and_heads_alone() {
             "there is no option `--walk=12`; write a blank in place of `=`, as `--walk 12`",
         );
         for next in ["--json", "--strict", "-o", "--walk"] {
-            let why = format!("`--walk` has no number: `{next}` stands behind it; it wants a section's number");
+            let why = "it wants a section's number, as `--walk 3`";
+            let why = format!("`--walk` has no number: `{next}` stands behind it; {why}");
             misused(&[words, &["--walk", next]].concat(), &why);
         }
         let last = office(&[words, &["--walk"]].concat());
-        assert_eq!((last.status, last.error.as_str()), (2, "office: `--walk` wants a section's number\n"));
+        let why = "office: `--walk` wants a section's number, as `--walk 3`\n";
+        assert_eq!((last.status, last.error.as_str()), (2, why));
     }
     for words in [
         &["flow", HOUSE][..],
@@ -388,7 +587,8 @@ fn the_number_is_given_once_and_to_rate_and_heads_alone() {
         &["--version"],
     ] {
         let ran = office(&[words, &["--walk", "1"]].concat());
-        let why = format!("office: `{}` has no option --walk\nusage: office {}", words[0], words[0]);
+        let name = words[0];
+        let why = format!("office: `{name}` has no option --walk; `rate` and `heads` have it\nusage: office {name}");
         assert!(ran.status == 2 && ran.output.is_empty() && ran.error.starts_with(&why), "{words:?}: {}", ran.error);
     }
 }
@@ -434,7 +634,7 @@ fn with_other_options() {
     assert_eq!((ran.status, ran.output.len(), std::fs::read(&kept).expect("kept")), (0, 0, text));
     // A loss of 0 gets a warning.
     let list = list("walk-warned.csv", &[133, 73, 51, 52, 28, 56, 64, 55, 31, 447, 59, 0]);
-    assert!(walked(&["heads", HOUSE, &list], "12").contains("\n   1       12         0    0\n"));
+    assert!(walked(&["heads", HOUSE, &list], "12").contains("\n     12         0    0\n"));
     let strict = office(&["heads", HOUSE, &list, "--walk", "12", "--strict"]);
     assert!(strict.status == 2 && strict.output.is_empty() && strict.error.contains("--strict makes a warning"));
 }
@@ -477,11 +677,27 @@ fn the_page_names_the_line_where_a_turn_starts() {
     assert!(page.contains(&format!("\nLine {line} of `office/src/walk.rs` is the start of a turn.")), "line {line}");
     let command = RATE.join(" ");
     assert!(page.contains(&format!("\n    gdb --args office/target/debug/office {command} --walk 12\n")), "{command}");
-    let (_, turns, path_loss, _) =
+    let Walk { turns, path_loss, .. } =
         walk_of(&json::parse(&office(&[&RATE[..], &["--walk", "12", "--json"]].concat()).text()));
     let before = [0].into_iter().chain(turns.iter().map(|[.., sum]| *sum));
     let at = turns.iter().map(|[section, ..]| *section).chain([0]);
     let rows: String = (1..).zip(at.zip(before)).map(|(stop, (at, sum))| format!("|{stop}|{at}|{sum}|\n")).collect();
     assert!(page.contains(&format!("|stop|`at`|`sum`|\n|-|-|-|\n{rows}\n")), "{rows}");
     assert!(rows.ends_with(&format!("|0|{path_loss}|\n")));
+}
+
+/// Help and page say how the walk goes in the same words. An end that asks for less than the required head is not called short.
+#[test]
+fn help_and_page_have_the_same_words() {
+    let unfolded = |text: String| text.split_whitespace().collect::<Vec<_>>().join(" ");
+    let [rate, heads] = ["rate", "heads"].map(|command| unfolded(office(&["help", command]).text()));
+    let page = unfolded(read("docs/COMMAND.md"));
+    let way = "first section N, then the section that it hangs from, and so on to the pump, one at each turn";
+    for text in [&rate, &page] {
+        assert!(text.contains(way), "{text}");
+        assert!(text.contains("all their paths must lose less before it falls"), "{text}");
+    }
+    for text in [rate, heads, page] {
+        assert!(!text.contains("below the required head"), "{text}");
+    }
 }

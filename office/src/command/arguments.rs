@@ -3,7 +3,8 @@
 use super::help;
 use super::input::{File, Reading};
 use super::keep;
-use super::outcome::{Misuse, word};
+use super::outcome::{Misuse, all_of, word};
+use super::walked::{self, Start};
 use std::borrow::Cow;
 use std::ffi::OsString;
 
@@ -21,8 +22,8 @@ pub struct Arguments {
     /// What `heat` is given beside its file, as it was written.
     pub cold_water: Option<OsString>,
     pub loss: Option<OsString>,
-    /// The section from which `rate` and `heads` walk to the pump, as it was written.
-    pub walk: Option<OsString>,
+    /// The section from which `rate` and `heads` walk to the pump.
+    pub walk: Option<Start>,
     pub help: bool,
 }
 
@@ -85,7 +86,7 @@ fn set_reading(next: &mut Reading, reading: Reading) -> Result<(), Misuse> {
 }
 
 /// Takes the value of an option that may be given once only: of two only one could be meant.
-fn set_once(place: &mut Option<OsString>, value: OsString, option: &str) -> Result<(), Misuse> {
+fn set_once<T>(place: &mut Option<T>, value: T, option: &str) -> Result<(), Misuse> {
     match place.replace(value) {
         None => Ok(()),
         Some(_) => Err(Misuse::Words(format!("`{option}` is given twice"))),
@@ -125,7 +126,8 @@ impl Arguments {
                 set_once(&mut self.cold_water, numeric(word, option, "a temperature in degrees C")?, option)
             }
             "--loss" => set_once(&mut self.loss, numeric(word, option, "a number of W")?, option),
-            "--walk" => set_once(&mut self.walk, numeric(word, option, "a section's number")?, option),
+            // Judged before words are counted: of a file in the number's place, the count would only say that one is missing.
+            "--walk" => set_once(&mut self.walk, Start::read(&numeric(word, option, walked::WANTED)?)?, option),
             seed => {
                 self.seed = Some(number(&value("a number")?.to_string_lossy(), seed)?);
                 Ok(())
@@ -198,8 +200,8 @@ impl Arguments {
             (self.loss.is_some(), "--loss"),
             (self.walk.is_some(), "--walk"),
         ];
-        if let Some((_, option)) = options.iter().find(|(given, option)| *given && !known.usage.contains(option)) {
-            return misuse(format!("`{}` has no option {option}", self.command));
+        if let Some((_, option)) = options.iter().find(|(given, option)| *given && !known.has(option)) {
+            return misuse(format!("`{}` has no option {option}{}", self.command, others_with(option)));
         }
         if self.words.iter().filter(|word| *word == "-" || *word == "@-").count() > 1 {
             return misuse("standard input can be read only once".to_string());
@@ -211,6 +213,20 @@ impl Arguments {
         Ok(())
     }
 }
+
+/// The commands that have an option, where they are few.
+fn others_with(option: &str) -> String {
+    let names: Vec<String> =
+        help::COMMANDS.iter().filter(|other| other.has(option)).map(|other| format!("`{}`", other.name)).collect();
+    match names.len() {
+        1 => format!("; {} has it", all_of(&names)),
+        2..=MOST_NAMED => format!("; {} have it", all_of(&names)),
+        _ => String::new(),
+    }
+}
+
+/// Of more commands none is named.
+const MOST_NAMED: usize = 3;
 
 fn count(known: &help::Command) -> String {
     match (known.least, known.most) {

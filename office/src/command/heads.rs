@@ -10,7 +10,7 @@ use super::refused::Given;
 use super::report::{self, Fields, Unanswered};
 use super::required;
 use super::sections::{self, Known};
-use super::walked::{self, Start, Walked};
+use super::walked::{self, Walked};
 use office::answer::of_another_line;
 use office::pipes::{Pipe, turns, without_sizes};
 use office::record::Record;
@@ -18,7 +18,6 @@ use office::walk::Turn;
 use office::{Heads, calls, loss};
 
 pub fn heads(arguments: &Arguments) -> Result<Outcome, Misuse> {
-    let start = Start::of(arguments)?;
     let job = arguments.file(0).job()?;
     let list = match arguments.file(1).losses()? {
         Lent::Losses(list) => list,
@@ -33,7 +32,7 @@ pub fn heads(arguments: &Arguments) -> Result<Outcome, Misuse> {
     if let Some(why) = headed.is_of_another_house(&list) {
         return Err(Misuse::AnotherHouse(list.source.name, why));
     }
-    let walked = Walked::of(start, &headed.record, &headed.pipes, headed.heads)?;
+    let walked = Walked::of(arguments.walk.as_ref(), &headed.record, &headed.pipes, headed.heads)?;
     let fields = || walked::fields(headed.fields(), &walked);
     report::answer(arguments, &given, fields, || walked::words(headed.chart(), &walked))
 }

@@ -16,6 +16,13 @@ pub struct Command {
     pub text: &'static str,
 }
 
+impl Command {
+    /// Whether it heeds an option.
+    pub fn has(&self, option: &str) -> bool {
+        self.usage.contains(option)
+    }
+}
+
 pub const COMMANDS: &[Command] = &[
     Command {
         name: "pack",
@@ -111,23 +118,27 @@ section 1 first: 5,4,3,3 or @FILE with such numbers, or with the size bytes them
 Delivered head: the most head that there is behind the pump set, the guaranteed head and the most that the set may add.
 Required head: the head that the list of sizes asks for. Pump head: what the list needs of the pump set, required head less
 guaranteed head. Dictating section: the section whose end asks for the most; the path from the pump to it is the dictating
-path, and only what is done there brings the required head down.
+path, and only what is done there brings the required head down. Several ends may ask for the required head; the lowest
+number of them dictates, and all their paths must lose less before it falls.
 
 The delivered head plays no part in rating; `to spare` and `left` compare with it: left is the head left at a section's end
 when the delivered head is delivered, less meter loss, losses and elevation. An end with less than its free head is SHORT.
 
---walk N puts the walk from section N to the pump below the answer: from the section over the one that it hangs from and so on, one
-section at each turn, with its own loss and the sum so far. After the last turn the sum is the path loss of section N. The line
-below adds up what its end asks for, and says how far that is below the required head, or that section N dictates it. N is the
-number of a section of the house, in digits alone.
+--walk N puts the walk from section N to the pump below the answer: first section N, then the section that it hangs from, and so
+on to the pump, one at each turn, with its own loss and the sum so far. In the last line of the table the sum is the path loss
+of section N. Below it stands what its end asks for, and by how much that is less than the required head, or that it is the
+required head and which section dictates it. Where the delivered head is too little for it, a line says by how much. Where
+sections hang from section N, a line says which of those further on asks for the most. N is the number of a section of the
+house, in digits alone.
 
 `office losses` and `office heads` give the same in two steps. `office help flow` explains the design flow, and `one tap of`
 behind it.
 
 --json: service, duty_ml_per_s, duty_one_tap_kinds, hour_l_per_h, day_l, mean_hour_l_per_h, local_losses_tenths, cost_tenths (in
 tenths of the price unit), sizes, suits, required_head_cm, pump_head_cm, guaranteed_head_cm, delivered_head_cm,
-dictating_section, sections (section, parent, size, bore_mm, length_dm, flow_ml_per_s, one_tap_kinds, velocity_mm_per_s, loss_cm, head_left_cm, free_head_cm);
-with --walk also walk (section, turns (section, loss_cm, sum_cm), path_loss_cm, asked_head_cm).",
+dictating_section, sections (section, parent, size, bore_mm, length_dm, flow_ml_per_s, one_tap_kinds, velocity_mm_per_s,
+loss_cm, head_left_cm, free_head_cm); with --walk also walk (section, turns (section, loss_cm, sum_cm), path_loss_cm,
+meter_loss_cm, elevation_cm, free_head_cm, asked_head_cm).",
     },
     Command {
         name: "losses",
@@ -188,15 +199,15 @@ loses less than the one it hangs from; losses that look like readings of gauges,
 rise. A fault that more than three sections share is one line with their count. Losses that `losses`, `rate` or `choose` worked out
 get none of these.
 
---walk N puts the walk from section N to the pump below the answer, with the losses that are given; `office help rate` explains it.
+--walk N puts the walk from section N to the pump, with the given losses, below the answer; `office help rate` explains it.
 
 `office help flow` explains the design flow, and `one tap of` behind it.
 
 --json: service, duty_ml_per_s, duty_one_tap_kinds, hour_l_per_h, day_l, mean_hour_l_per_h, local_losses_tenths, suits,
 required_head_cm, pump_head_cm, guaranteed_head_cm, delivered_head_cm, dictating_section, dictating_path (the sections from
-there to the pump),
-path_loss_cm (what these lose together), sections (section, parent, length_dm, flow_ml_per_s, one_tap_kinds, loss_cm, head_left_cm,
-free_head_cm); with --walk also walk (section, turns (section, loss_cm, sum_cm), path_loss_cm, asked_head_cm).",
+there to the pump), path_loss_cm (what these lose together), sections (section, parent, length_dm, flow_ml_per_s, one_tap_kinds,
+loss_cm, head_left_cm, free_head_cm); with --walk also walk (section, turns (section, loss_cm, sum_cm), path_loss_cm,
+meter_loss_cm, elevation_cm, free_head_cm, asked_head_cm).",
     },
     Command {
         name: "choose",

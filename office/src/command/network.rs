@@ -8,7 +8,7 @@ use super::outcome::{Misuse, Outcome};
 use super::rating::{Rated, bytes};
 use super::refused::Given;
 use super::report::{self, Fields, Unanswered};
-use super::walked::{self, Start, Walked};
+use super::walked::{self, Walked};
 use office::pipes::sketch;
 use office::record::Record;
 use office::service::{self, TOTAL};
@@ -169,30 +169,25 @@ pub fn from(parent: u8) -> String {
 }
 
 pub fn rate(arguments: &Arguments) -> Result<Outcome, Misuse> {
-    let start = Start::of(arguments)?;
     let (job, cat) = (arguments.file(0).job()?, arguments.file(1).catalogue()?);
     let sizes = arguments.file(2).sizes()?;
     let given = Given { job: Some(&job), cat: Some(&cat), sizes: &sizes, ..Given::default() };
-    rated(arguments, &given, Rated::with_sizes(&given), start)
+    rated(arguments, &given, Rated::with_sizes(&given))
 }
 
 pub fn choose(arguments: &Arguments) -> Result<Outcome, Misuse> {
     let (job, cat) = (arguments.file(0).job()?, arguments.file(1).catalogue()?);
     let given = Given { job: Some(&job), cat: Some(&cat), ..Given::default() };
-    rated(arguments, &given, Rated::chosen(&given), None)
+    rated(arguments, &given, Rated::chosen(&given))
 }
 
-fn rated(
-    arguments: &Arguments,
-    given: &Given,
-    rated: Result<Rated, Unanswered>,
-    start: Option<Start>,
-) -> Result<Outcome, Misuse> {
+/// With the walk where one is asked for, which `choose` has no option for.
+fn rated(arguments: &Arguments, given: &Given, rated: Result<Rated, Unanswered>) -> Result<Outcome, Misuse> {
     let rated = match rated {
         Ok(rated) => rated,
         Err(why) => return report::unanswered(arguments, &why, given),
     };
-    let walked = Walked::of(start, &rated.record, &rated.pipes, rated.rating.heads())?;
+    let walked = Walked::of(arguments.walk.as_ref(), &rated.record, &rated.pipes, rated.rating.heads())?;
     let fields = || walked::fields(rated.fields(), &walked);
     report::answer(arguments, given, fields, || walked::words(rated.chart(), &walked))
 }

@@ -44,6 +44,14 @@ pub fn word(word: &str) -> String {
     echo::shown(word).replace('\n', "\\n")
 }
 
+/// Names or numbers for a message, as `one, two and three`.
+pub fn all_of(names: &[String]) -> String {
+    match names.split_last() {
+        Some((last, others)) if !others.is_empty() => format!("{} and {last}", others.join(", ")),
+        _ => names.concat(),
+    }
+}
+
 pub struct Outcome {
     /// For standard output, or for the file of `-o` where this is an answer.
     pub output: Vec<u8>,
