@@ -242,7 +242,7 @@ mod tests {
     #[test]
     fn each_meter_loses_less_than_the_one_before() {
         for sections in [8, 32, 63] {
-            let judged = judge(&other_case(Call::Meter, false, sections));
+            let judged = judge(&other_case(Call::Meter, On::House, sections));
             let ranked = judged.meters.ranked(judged.demand.house_flow(), judged.demand.mean_hour());
             let places: Vec<usize> = ranked.iter().map(|(_, place)| *place).collect();
             assert_eq!(places, [8, 7, 6, 5, 4, 3, 2, 1], "{sections} sections: {ranked:?}");

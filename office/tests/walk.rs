@@ -120,7 +120,7 @@ section  own loss  sum
 sum: lost from the end of section 1 back to where this section begins; in the last line it is the path loss of section 1
 section 1 asks for meter loss 120 + elevation 60 + free head 0 + path loss 133 = 313 cm
 that is 1486 cm less than the required head of 1799 cm, which section 9 dictates
-further on from there, section 9 asks for the most: 1799 cm
+further on from section 1, section 9 asks for the most: 1799 cm
 ";
     assert_eq!(walked(&HEADS, "1"), main);
 }
@@ -133,17 +133,17 @@ fn a_junction_is_not_taken_for_its_branch() {
     let riser = [
         "section 6 asks for meter loss 120 + elevation 60 + free head 0 + path loss 183 = 363 cm",
         "that is 1434 cm less than the required head of 1797 cm, which section 5 dictates",
-        "further on from there, section 9 asks for the most: 1774 cm",
+        "further on from section 6, section 9 asks for the most: 1774 cm",
     ];
     assert_eq!(last_lines(&RATE, "6", 3), riser);
     let wing = [
         "section 10 asks for meter loss 120 + elevation 80 + free head 0 + path loss 630 = 830 cm",
         "that is 967 cm less than the required head of 1797 cm, which section 5 dictates",
-        "further on from there, section 12 asks for the most: 1718 cm",
+        "further on from section 10, section 12 asks for the most: 1718 cm",
     ];
     assert_eq!(last_lines(&RATE, "10", 3), wing);
     // Fixtures at the end of a section make no difference: what counts is that another hangs from it.
-    assert_eq!(last_lines(&RATE, "8", 1), ["further on from there, section 9 asks for the most: 1774 cm"]);
+    assert_eq!(last_lines(&RATE, "8", 1), ["further on from section 8, section 9 asks for the most: 1774 cm"]);
     for end in ["5", "9", "11", "12"] {
         assert!(!walked(&RATE, end).contains("further on"), "nothing hangs from {end}");
     }
@@ -166,12 +166,12 @@ fn a_delivered_head_that_is_too_little() {
     let riser = [
         "section 9 asks for meter loss 120 + elevation 1040 + free head 300 + path loss 314 = 1774 cm",
         "that is 23 cm less than the required head of 1797 cm, which section 5 dictates",
-        "the delivered head of 1750 cm is 24 cm too little for it",
+        "the delivered head of 1750 cm is 24 cm too little for section 9",
     ];
     assert_eq!(last_lines(&low, "9", 3), riser);
     let dictating = [
         "that is the required head: section 5 dictates it",
-        "the delivered head of 1750 cm is 47 cm too little for it",
+        "the delivered head of 1750 cm is 47 cm too little for section 5",
     ];
     assert_eq!(last_lines(&low, "5", 2), dictating);
     for enough in ["8", "12"] {
@@ -180,13 +180,13 @@ fn a_delivered_head_that_is_too_little() {
     // What is just enough is enough.
     let (just, less) = (delivering("walk-just.txt", 1_774), delivering("walk-less.txt", 1_773));
     assert!(!walked(&["rate", &just, TABLE, SIZES], "9").contains("too little"));
-    let lacking = ["the delivered head of 1773 cm is 1 cm too little for it"];
+    let lacking = ["the delivered head of 1773 cm is 1 cm too little for section 9"];
     assert_eq!(last_lines(&["rate", &less, TABLE, SIZES], "9", 1), lacking);
     let lowest = delivering("walk-lowest.txt", 1_400);
     let both = [
         "that is 381 cm less than the required head of 1797 cm, which section 5 dictates",
-        "the delivered head of 1400 cm is 16 cm too little for it",
-        "further on from there, section 9 asks for the most: 1774 cm",
+        "the delivered head of 1400 cm is 16 cm too little for section 8",
+        "further on from section 8, section 9 asks for the most: 1774 cm",
     ];
     assert_eq!(last_lines(&["rate", &lowest, TABLE, SIZES], "8", 3), both);
 }
@@ -233,7 +233,7 @@ fn a_chain_of_63_sections() {
         "sum: lost from the end of section 63 back to where this section begins; in the last line it is the path loss of section 63",
         "section 63 asks for meter loss 50 + elevation 0 + free head 200 + path loss 2016 = 2266 cm",
         "that is the required head: section 63 dictates it",
-        "the delivered head of 1200 cm is 1066 cm too little for it",
+        "the delivered head of 1200 cm is 1066 cm too little for section 63",
     ];
     assert_eq!(lines[66..], last);
     let walk = walked(&words, "40");
@@ -244,8 +244,8 @@ fn a_chain_of_63_sections() {
         "sum: lost from the end of section 40 back to where this section begins; in the last line it is the path loss of section 40",
         "section 40 asks for meter loss 50 + elevation 0 + free head 200 + path loss 1740 = 1990 cm",
         "that is 276 cm less than the required head of 2266 cm, which section 63 dictates",
-        "the delivered head of 1200 cm is 790 cm too little for it",
-        "further on from there, section 63 asks for the most: 2266 cm",
+        "the delivered head of 1200 cm is 790 cm too little for section 40",
+        "further on from section 40, section 63 asks for the most: 2266 cm",
     ];
     assert_eq!(lines[42..], last);
 }
@@ -260,7 +260,7 @@ fn the_greatest_losses() {
     let last = "\
 section 63 asks for meter loss 50 + elevation 0 + free head 200 + path loss 268365825 = 268366075 cm
 that is the required head: section 63 dictates it
-the delivered head of 1200 cm is 268364875 cm too little for it
+the delivered head of 1200 cm is 268364875 cm too little for section 63
 ";
     assert!(walk.ends_with(last), "{walk}");
 }
@@ -285,7 +285,7 @@ fn of_equals_the_lowest_number_dictates() {
     assert_eq!(last("4", 2), [sum(4, 299, 669), less.to_string()]);
     let main = [
         "that is 320 cm less than the required head of 670 cm, which section 2 dictates",
-        "further on from there, section 2 asks for the most: 670 cm",
+        "further on from section 1, section 2 asks for the most: 670 cm",
     ];
     assert_eq!(last("1", 2), main);
 }
@@ -323,7 +323,7 @@ that is 660 cm less than the required head of -50 cm, which section 1 dictates
     assert!(walk.ends_with(last), "{walk}");
     let main = [
         "that is the required head: section 1 dictates it",
-        "further on from there, section 4 asks for the most: -70 cm",
+        "further on from section 1, section 4 asks for the most: -70 cm",
     ];
     assert_eq!(last_lines(&words, "1", 2), main);
     let printed = json::parse(&office(&[&words[..], &["--walk", "6", "--json"]].concat()).text());
@@ -441,12 +441,14 @@ fn more_lines(judged: &Judged, section: usize) -> String {
     let (delivered, lacking) = (house.delivered, asked(section) - house.delivered);
     let mut lines = String::new();
     if lacking > 0 {
-        lines.push_str(&format!("the delivered head of {delivered} cm is {lacking} cm too little for it\n"));
+        lines.push_str(&format!(
+            "the delivered head of {delivered} cm is {lacking} cm too little for section {section}\n"
+        ));
     }
     let further: Vec<usize> = house.below[section - 1].members().filter(|below| *below != section).collect();
     if let Some(most) = further.iter().map(|below| asked(*below)).max() {
         let first = further.iter().filter(|below| asked(**below) == most).min().expect("one asks for the most");
-        lines.push_str(&format!("further on from there, section {first} asks for the most: {most} cm\n"));
+        lines.push_str(&format!("further on from section {section}, section {first} asks for the most: {most} cm\n"));
     }
     lines
 }

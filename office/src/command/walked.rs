@@ -142,8 +142,9 @@ impl<'a> Walked<'a> {
     /// By how much the delivered head is too little for the end, where it is.
     fn too_little(&self) -> Option<String> {
         let delivered = i64::from(self.record.delivered);
-        let lacking = self.asked(self.end) - delivered;
-        (lacking > 0).then(|| format!("the delivered head of {delivered} cm is {lacking} cm too little for it"))
+        let (own, lacking) = (self.end.number, self.asked(self.end) - delivered);
+        (lacking > 0)
+            .then(|| format!("the delivered head of {delivered} cm is {lacking} cm too little for section {own}"))
     }
 
     /// What is asked for at most by the sections whose own walks come through this one, where there are any. A junction asks for
@@ -155,7 +156,7 @@ impl<'a> Walked<'a> {
         let further = self.pipes.iter().rev().filter(|pipe| pipe.number != own && through(pipe));
         let most = further.max_by_key(|pipe| self.asked(pipe))?;
         let (section, asked) = (most.number, self.asked(most));
-        Some(format!("further on from there, section {section} asks for the most: {asked} cm"))
+        Some(format!("further on from section {own}, section {section} asks for the most: {asked} cm"))
     }
 }
 
