@@ -6,7 +6,7 @@ use mathlib.Core.Path.{_≡_}
 use Prim.Native.Nat.{_+_, _-_, _≤_, _<_}
 use Rattle.basis.specs.Slots.{slots}
 use Rattle.basis.proofs.Slots.{slots-none, slots-more}
-use Rattle.fields.specs.Fields.{countOf}
+use Rattle.fields.specs.Fields.{countOf, sectionOf}
 use Rattle.tree.specs.Tree.{parentOf}
 use Rattle.tree.proofs.Below.{parent-at}
 use Rattle.tree.proofs.parents_of.Statement.{statement}
@@ -24,10 +24,11 @@ inside c = omega arith
 loop-again : tie.Need-loop-again Inv-loop μ-loop
 loop-again c =
     let job = c .before .before .args .t1 in
-    let i = c .before .loop .i in (
+    let i = c .before .loop .i in
+    let put : sectionOf job i .parent ≡ parentOf job i = omega (arith, parent-at job i (omega arith)) in (
       omega arith,
       omega arith,
-      rw (c .before .loop .inv .2, ← parent-at job i (omega arith)) (slots-more 64 1 i 0 (parentOf job) (omega arith) (inside c)),
+      rw (c .before .loop .inv .2, put) (slots-more 64 1 i 0 (parentOf job) (omega arith) (inside c)),
     )
 
 returns : tie.Need-returns Inv-loop μ-loop
