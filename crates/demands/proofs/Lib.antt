@@ -12,3 +12,4 @@ mod Versions
 mod Counterpart
 pub mod HotAndCold
 pub mod Worked
+mod OneSection
