@@ -99,7 +99,7 @@ pub record SmallFlows : Type 0 where
   -- it gives velocity and slope of two bytes, as before
   pub two-bytes : (cat : List ℕ) → catNo cat ≡ 0 → Bytes cat → (s q : ℕ) → 0 < s → s ≤ sizesOf cat →
       (readRows (partOf cat s) (rowsOf cat) q .velocity ≤ 65535) × (readRows (partOf cat s) (rowsOf cat) q .slope ≤ 65535)
-  -- no section of an accepted job has the flow 0, so none is at rest and none loses nothing
+  -- no section of an accepted job has the flow 0, so with a size that serves it velocity and loss are at least 1
   pub something : (job cat : List ℕ) (s i : ℕ) → jobNo job ≡ 0 → catNo cat ≡ 0 → 0 < s → s ≤ sizesOf cat → 0 < i → i ≤ countOf (decode job) →
       readingOf (decode job) cat s i .serves ≡ true → Something (decode job) cat s i
   -- a section with a size is no worse than it was
