@@ -1,4 +1,4 @@
--- The value between rows whose flows rise: the straight line from zero, the line around q, never over the last row's and never 0.
+-- The value between rows whose flows rise: the straight line from zero, the line around q, never over the last row's, and not 0 for a flow above 0.
 -- Assumes nothing.
 use mathlib.Core.Path.{_≡_, refl, _∙_}
 use mathlib.Core.Logic.{⊎-elim}
@@ -65,11 +65,11 @@ module _ (flow value : ℕ → ℕ) where
         (λ b. rw (before-last n q b) (omega (arith, between-high n q (less r) (λ k l. keep k (omega arith)) b)))
         (lt-or-ge (flow n) q)
 
-    pub between-some : (n q : ℕ) → 0 < q → ((k : ℕ) → k ≤ n → 0 < value k) → 0 < between flow value n q
+    pub between-pos : (n q : ℕ) → 0 < q → ((k : ℕ) → k ≤ n → 0 < value k) → 0 < between flow value n q
     unfolding between
-    between-some zero q h own = up-pos (q * value 0) (flow 0) (mul-pos h (own 0 (omega arith))) some
-    between-some (suc n) q h own =
+    between-pos zero q h own = up-pos (q * value 0) (flow 0) (mul-pos h (own 0 (omega arith))) some
+    between-pos (suc n) q h own =
         ⊎-elim
         (λ b. rw (at-last n q b) (omega (arith, own n (omega arith), line-low (flow n) (value n) (flow (suc n)) (value (suc n)) q)))
-        (λ b. rw (before-last n q b) (between-some n q h (λ k l. own k (omega arith))))
+        (λ b. rw (before-last n q b) (between-pos n q h (λ k l. own k (omega arith))))
         (lt-or-ge (flow n) q)

@@ -18,7 +18,7 @@ use Rattle.catalogue.specs.Reading.{between, servesAt, readRows}
 use Rattle.catalogue.specs.Contracts.{Rows, Above, UpToFirst, fromZero}
 use Rattle.catalogue.proofs.RowBounds.{RowIn, Rises, row-in, rows-own}
 use Rattle.catalogue.proofs.Rising.{rises, flows-rise}
-use Rattle.catalogue.proofs.Lines.{Rising, rising-le, between-first, between-line, between-high, between-some}
+use Rattle.catalogue.proofs.Lines.{Rising, rising-le, between-first, between-line, between-high, between-pos}
 
 module _ (rows : List ℕ) (n q : ℕ) where
   pub serves-last : servesAt rows n q ≡ true → q ≤ flowAt rows (n - 1)
@@ -33,7 +33,7 @@ module _ (rows : List ℕ) (n q : ℕ) where
   unfolding readRows servesAt
   reading-over h = rw (lt-leb q (flowAt rows (n - 1)) h)
 
--- the first row, with the straight line from zero at q
+-- the lines from (0, 0) to the first row, as the code draws them
 pub lines-zero : (rows : List ℕ) (q : ℕ) →
     record {
       serves = true;
@@ -128,9 +128,9 @@ module _ {rows : List ℕ} {n : ℕ} (r : Rows rows n) where
 
   -- where a flow above 0 is served, neither is 0
   module _ (q : ℕ) (h : 0 < q) (e : servesAt rows n q ≡ true) where
-    least : (value : ℕ → ℕ) → ((k : ℕ) → k < n → 0 < value k) → 0 < cond (servesAt rows n q) (between (flowAt rows) value (n - 1) q) 0
-    least value each = rw e (between-some (flowAt rows) value first-flow (n - 1) q h (λ k l. each k (omega (arith, r .low))))
+    above : (value : ℕ → ℕ) → ((k : ℕ) → k < n → 0 < value k) → 0 < cond (servesAt rows n q) (between (flowAt rows) value (n - 1) q) 0
+    above value each = rw e (between-pos (flowAt rows) value first-flow (n - 1) q h (λ k l. each k (omega (arith, r .low))))
 
-    pub reading-some : (0 < readRows rows n q .velocity) × (0 < readRows rows n q .slope)
+    pub reading-pos : (0 < readRows rows n q .velocity) × (0 < readRows rows n q .slope)
     unfolding readRows
-    reading-some = (least (velocityAt rows) (λ k l. own k l .velocity), least (slopeAt rows) (λ k l. own k l .slope))
+    reading-pos = (above (velocityAt rows) (λ k l. own k l .velocity), above (slopeAt rows) (λ k l. own k l .slope))

@@ -1,4 +1,4 @@
--- What the catalogue's contracts ask: room for size s, and rows that keep their rules.
+-- What the catalogue's contracts ask: room for size s, rows that keep their rules, the row above a flow; and the line that one of them gives.
 -- Assumes nothing.
 use mathlib.Core.Path.{_≡_}
 use mathlib.Core.Bool.{true}

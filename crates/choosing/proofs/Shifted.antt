@@ -64,36 +64,29 @@ reach-met (pos a) f p m h need s e k = omega (arith, leb-true (m + (a + (f + p))
 reach-met (negsuc a) f p m h need s e k =
     omega (arith, le-sub (m + (f + p)) (suc a) h (rw (add-sub m (f + p) (suc a)) at k), left-over (f + 1000) (suc a) need e)
 
--- a greater reach needs no less
-sub-mono : (m a b : ℕ) → b ≤ a → leZ (subℕ m (suc a)) (subℕ m (suc b)) ≡ true
-sub-mono m a b h =
+-- less taken from more leaves no less
+sub-mono : (m n a b : ℕ) → m ≤ n → b ≤ a → leZ (subℕ m (suc a)) (subℕ n (suc b)) ≡ true
+sub-mono m n a b g h =
     ⊎-elim
     (λ l. rw (sub-under m (suc a) l)
     (⊎-elim
-    (λ k. rw (sub-under m (suc b) k) (le-leb (suc b - suc m) (suc a - suc m) (omega arith)))
-    (λ k. rw (sub-over m (suc b) k))
-    (lt-or-ge m (suc b))))
-    (λ g. rw (sub-over m (suc a) g, sub-over m (suc b) (omega arith)) (le-leb (m - suc a) (m - suc b) (omega arith)))
+    (λ k. rw (sub-under n (suc b) k) (le-leb (suc b - suc n) (suc a - suc m) (omega arith)))
+    (λ k. rw (sub-over n (suc b) k))
+    (lt-or-ge n (suc b))))
+    (λ k. rw (sub-over m (suc a) k, sub-over n (suc b) (omega arith)) (le-leb (m - suc a) (n - suc b) (omega arith)))
     (lt-or-ge m (suc a))
 
+-- a greater reach needs no less
 pub add-mono : (m : ℕ) (x y : ℤ) → leZ x y ≡ true → leZ (pos m +ℤ x) (pos m +ℤ y) ≡ true
 add-mono m (pos a) (pos b) e = le-leb (m + a) (m + b) (omega (arith, leb-true a b e))
 add-mono m (pos a) (negsuc b) e = absurd (apart e refl)
 add-mono m (negsuc a) (pos b) e = sub-le m (suc a) (m + b) (omega arith)
-add-mono m (negsuc a) (negsuc b) e = sub-mono m a b (leb-true b a e)
+add-mono m (negsuc a) (negsuc b) e = sub-mono m m a b (omega arith) (leb-true b a e)
 
--- and so does more path loss
-pub add-behind : (z : ℤ) (a b : ℕ) → a ≤ b → leZ (z +ℤ pos a) (z +ℤ pos b) ≡ true
-add-behind (pos n) a b h = le-leb (n + a) (n + b) (omega arith)
-add-behind (negsuc n) a b h =
-    ⊎-elim
-    (λ l. rw (sub-under a (suc n) l)
-    (⊎-elim
-    (λ k. rw (sub-under b (suc n) k) (le-leb (suc n - suc b) (suc n - suc a) (omega arith)))
-    (λ k. rw (sub-over b (suc n) k))
-    (lt-or-ge b (suc n))))
-    (λ g. rw (sub-over a (suc n) g, sub-over b (suc n) (omega arith)) (le-leb (a - suc n) (b - suc n) (omega arith)))
-    (lt-or-ge a (suc n))
+-- more path loss, no less reach
+pub add-mono-right : (z : ℤ) (a b : ℕ) → a ≤ b → leZ (z +ℤ pos a) (z +ℤ pos b) ≡ true
+add-mono-right (pos n) a b h = le-leb (n + a) (n + b) (omega arith)
+add-mono-right (negsuc n) a b h = sub-mono a b n n h (omega arith)
 
 -- 1,000 more than an elevation in its range is not negative
 pub not-negative : (elevation : ℤ) (n : ℕ) → elevationOk elevation ≡ true → 1000 ≤ n → T (nonNeg (elevation +ℤ pos n))

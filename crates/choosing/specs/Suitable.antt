@@ -24,7 +24,7 @@ pub record SuitableWith (job : Job) (cat : List ℕ) (read : ℕ → ℕ → Siz
   -- the required head is at most the delivered head
   pub reaches : leZ (requiredOf job (lossesWith job read list)) (pos delivered) ≡ true
 
--- by the catalogue's own reading
+-- by `readingOf`
 abbrev pub SuitableAt : Job → List ℕ → ℕ → List ℕ → Type 0
 SuitableAt job cat delivered list = SuitableWith job cat (readingOf job cat) delivered list
 

@@ -35,8 +35,8 @@ module _ (job : Job) (n : ℕ → ℕ) where
   flow-top h = omega (arith, flow-is job n, average-top h, one-tap-top job n)
 
 -- no section is without flow: one fixture of a kind that it serves draws at least 100 ml/s
-pub flow-some : {job : Job} → Valid job → (i : ℕ) → 0 < i → i ≤ countOf job → 0 < sectionFlow job i
-flow-some {job} valid i a b =
+pub flow-pos : {job : Job} → Valid job → (i : ℕ) → 0 < i → i ≤ countOf job → 0 < sectionFlow job i
+flow-pos {job} valid i a b =
     let s : Serves (servedOf job i) = serves valid i a b in
     let norm : NormIn (normAt job (s .kind)) = norm-at job (s .kind) (s .low) (s .high) in
     omega (arith, flow-is job (servedOf job i), one-tap-bound job (servedOf job i) (s .kind) (s .low) (s .high) (s .some), norm .fixture .low)

@@ -13,9 +13,13 @@ use Rattle.record.specs.Record.{headerAt, decode}
 use Rattle.acceptance.specs.Acceptance.{jobNo}
 use Rattle.heads.specs.Heads.{requiredOf}
 use Rattle.sizing.specs.Losses.{lossesWith}
+use Rattle.basis.specs.Range.{concatTo}
+use Rattle.wire.specs.Wire.{bitsOf}
+use Rattle.rated_bytes.specs.RatedBytes.{figuresBytes}
+use Rattle.rating.specs.Calls.{lossesBytes}
 use Rattle.choosing.specs.Suitable.{Suitable, costOf}
 use Rattle.demands.specs.OwnCase.{ownCat}
-use Rattle.demands.specs.SmallFlows.{readBefore, beforeOf, SuitedBefore, basinJob, Basin}
+use Rattle.demands.specs.SmallFlows.{readBefore, beforeOf, SuitableBefore, basinJob, Basin}
 use Rattle.demands.proofs.OneSection.{one-size, gives-list}
 use Rattle.demands.proofs.Worked.{computed}
 
@@ -32,7 +36,7 @@ figures : Figures
 unfolding computed readBefore beforeOf
 figures = record { accepted = refl; suits = record { sizes = refl; serves = refl; reaches = refl }; one = refl; two = refl; short = refl }
 
-least-before : (y : List ℕ) → SuitedBefore (decode basinJob) ownCat 1200 y → 1040000 ≤ costOf (decode basinJob) ownCat y
+least-before : (y : List ℕ) → SuitableBefore (decode basinJob) ownCat 1200 y → 1040000 ≤ costOf (decode basinJob) ownCat y
 unfolding decode headerAt
 least-before y s =
     ⊎-elim
@@ -49,13 +53,15 @@ only-one y s h =
     (one-size (decode basinJob) refl y (s .sizes))
 
 pub basin : Basin
-unfolding computed readBefore beforeOf
+unfolding computed readBefore beforeOf bitsOf concatTo figuresBytes lossesBytes
 basin =
     record {
       job = figures .accepted;
       flow = refl;
       losses-before = (refl, refl);
+      heads-before = (refl, refl);
       losses = (refl, refl);
+      heads = (refl, refl);
       suited = record { sizes = refl; serves = refl; reaches = refl };
       cost-before = figures .two;
       least-before = least-before;

@@ -28,7 +28,7 @@ use Rattle.sizing.proofs.LossBounds.{loss-mono}
 use Rattle.sizing.proofs.Named.{list-names}
 use Rattle.choosing.specs.Suitable.{SuitableWith}
 use Rattle.choosing.proofs.EachEnd.{required-ends, ends-required}
-use Rattle.choosing.proofs.Shifted.{add-mono, add-behind}
+use Rattle.choosing.proofs.Shifted.{add-mono, add-mono-right}
 use Rattle.demands.specs.SmallFlows.{Lower}
 
 -- a size that is not over stays so
@@ -69,7 +69,7 @@ module _ {job : Job} (valid : Valid job) (cat : List ℕ) (read other : ℕ → 
     reach : (i : ℕ) → i ≤ countOf job → leZ (reachOf job (lossesWith job read list) i) (reachOf job (lossesWith job other list) i) ≡ true
     unfolding reachOf
     reach i k =
-        add-behind (sectionOf job i .elevation) (sectionOf job i .free + pathOf (parentOf job) (lossesWith job read list) i)
+        add-mono-right (sectionOf job i .elevation) (sectionOf job i .free + pathOf (parentOf job) (lossesWith job read list) i)
         (sectionOf job i .free + pathOf (parentOf job) (lossesWith job other list) i) (omega (arith, path i k))
 
     end : (i : ℕ) → 0 < i → i ≤ countOf job →

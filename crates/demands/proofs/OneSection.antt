@@ -1,4 +1,4 @@
--- A house of one section under document 01's catalogue: its list is size 1 or size 2, and choosing gives the one that is cheapest alone.
+-- A house of one section under document 01's catalogue: its list is size 1 or size 2, and choosing gives the one that suits where the other suits not or costs more.
 -- Assumes nothing.
 use mathlib.Core.Path.{_≡_, ap, _∙_}
 use mathlib.Core.Logic.{_⊎_, inl, inr, ⊎-elim}
@@ -41,7 +41,7 @@ module _ (listed : catNo ownCat ≡ 0) (b : List ℕ) (accepted : jobNo b ≡ 0)
     pub gives-16 : ((y : List ℕ) → Suitable (decode b) ownCat y → ⊥) → n ≡ 16
     gives-16 none = ⊎-elim (λ u. u .number) (λ f. absurd (none (f .list) (f .suits))) given
 
-    -- a list that suits, and that every other one that suits costs more than
+    -- a list that suits, where every other list that suits costs more
     pub gives-list : (x : List ℕ) → Suitable (decode b) ownCat x →
         ((y : List ℕ) → Suitable (decode b) ownCat y → costOf (decode b) ownCat y ≤ costOf (decode b) ownCat x → y ≡ x) →
         (n ≡ 0) × (out ≡ stored out₀ 0 (chooseBytes (decode b) ownCat x))

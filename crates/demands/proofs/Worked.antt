@@ -65,7 +65,7 @@ only-two high low y s =
     (λ e. e)
     (one-size (decode (jobOf high low)) refl y (s .sizes))
 
--- what is computed of the bytes: the inputs are accepted, size 2 suits H 921 at 130,000, and H 920 is below its required head
+-- what is computed of the bytes: the inputs are accepted, size 2 suits H 921, and H 920 is below its required head
 pub record Computed : Type 0 where
   pub own : jobNo ownJob ≡ 0
   pub accepted-921 : jobNo job921 ≡ 0
@@ -74,6 +74,7 @@ pub record Computed : Type 0 where
   pub suits : Suitable (decode job921) ownCat (2 ∷ [])
   pub short : leZ (requiredOf (decode job920) (lossesOf (decode job920) ownCat (2 ∷ []))) (pos (decode job920 .header .delivered)) ≡ false
 
+-- a proof that unfolds this unfolds all that is named here, as that of L6's basin does
 unfoldable pub computed : Computed
 unfolding
     over-one allTo firstNo signedOf bytesOf

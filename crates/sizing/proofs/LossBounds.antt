@@ -1,4 +1,4 @@
--- A loss fits: 65,535 mm per metre over 5,000 decimetres with k 3 is the most. It is never 0, and a gentler slope loses no more.
+-- A loss fits: 65,535 mm per metre over 5,000 decimetres with k 3 is the most. It is not 0 where slope and length are not, and a gentler slope loses no more.
 -- Assumes nothing.
 use Prim.Native.Nat.{ℕ, _+_, _*_, _≤_, _<_}
 use native.Mathlib.Nat.{mul-le-mul, mul-le-mul-right, mul-pos}
@@ -17,9 +17,9 @@ module _ (slope decimetres tenths : ℕ) (s : slope ≤ 65535) (d : decimetres �
   unfolding lossOf
   loss-top = up-le (slope * decimetres * (10 + tenths)) 4259775 (omega arith) (omega (arith, product-top))
 
-pub loss-some : (slope decimetres tenths : ℕ) → 0 < slope → 0 < decimetres → 0 < lossOf slope decimetres tenths
+pub loss-pos : (slope decimetres tenths : ℕ) → 0 < slope → 0 < decimetres → 0 < lossOf slope decimetres tenths
 unfolding lossOf
-loss-some slope decimetres tenths s d =
+loss-pos slope decimetres tenths s d =
     up-pos (slope * decimetres * (10 + tenths)) 1000 (mul-pos (mul-pos s d) (omega arith)) (omega arith)
 
 pub loss-mono : (slope other decimetres tenths : ℕ) → slope ≤ other → lossOf slope decimetres tenths ≤ lossOf other decimetres tenths

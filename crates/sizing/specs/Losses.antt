@@ -37,7 +37,7 @@ module _ (job : Job) (read : ℕ → ℕ → SizeAtFlow) where
   unfoldable pub overWith : ℕ → ℕ → Bool
   overWith s i = overBy (job .header .limit) (read s i)
 
-  -- a section of a list is
+  -- a section of a list is over its last row or the limit
   unfoldable pub anyWith : List ℕ → Bool
   anyWith list = anyTo (countOf job) (λ i. overWith (sizeOf list i) i)
 
@@ -49,18 +49,18 @@ module _ (job : Job) (read : ℕ → ℕ → SizeAtFlow) where
   abbrev pub lossesWith : List ℕ → ℕ → ℕ
   lossesWith list i = lossWith (sizeOf list i) i
 
--- and so by the catalogue's own: section i with size s,
+-- by `readingOf`: section i with size s is over its last row or the limit
 abbrev pub overAt : Job → List ℕ → ℕ → ℕ → Bool
 overAt job cat s i = overWith job (readingOf job cat) s i
 
--- 13: a section over its last row or the limit,
+-- 13: a section of a list is
 abbrev pub overAny : Job → List ℕ → List ℕ → Bool
 overAny job cat list = anyWith job (readingOf job cat) list
 
--- the loss of section i with size s,
+-- the loss of section i with size s
 abbrev pub lossAt : Job → List ℕ → ℕ → ℕ → ℕ
 lossAt job cat s i = lossWith job (readingOf job cat) s i
 
--- and the losses with a list of sizes
+-- the losses with a list of sizes
 abbrev pub lossesOf : Job → List ℕ → List ℕ → ℕ → ℕ
 lossesOf job cat list i = lossAt job cat (sizeOf list i) i
