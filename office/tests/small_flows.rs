@@ -315,9 +315,9 @@ fn the_missing_head_goes_by_the_line_from_zero() {
     );
 }
 
-/// What the help says where the words stand.
+/// What the help says where the words stand, and on the page the key of each answer that reads a size.
 #[test]
-fn the_help_explains_the_words() {
+fn the_help_and_the_page_explain_the_words() {
     let unfolded = |topic: &str| answered(&["help", topic]).split_whitespace().collect::<Vec<_>>().join(" ");
     let rate = unfolded("rate");
     assert!(rate.contains("`under the first row` stands where the rows of a size begin at a greater flow"), "{rate}");
@@ -328,4 +328,11 @@ fn the_help_explains_the_words() {
     }
     assert!(unfolded("losses").contains("under_first_row, velocity_mm_per_s"));
     assert!(unfolded("files").contains("under the first row by the line from zero"));
+    assert!(unfolded("draw").contains("under the first row of its size (`office help rate`)"));
+    let page = read("docs/COMMAND.md");
+    for start in ["|`rate`, `choose`|", "|`losses`|"] {
+        let row = page.lines().find(|line| line.starts_with(start)).expect(start);
+        assert!(row.contains("`under_first_row`"), "{row}");
+    }
+    assert!(page.contains(&format!("\n    {LEGEND}")), "the page shows what the words mean");
 }
