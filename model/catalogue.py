@@ -1,10 +1,11 @@
-"""A model of the catalogue of sizes, written from document 01, without the code.
+"""A model of the catalogue of sizes, written from document 01 and document 02's request L6,
+without the code.
 
     acceptance_number(data)  10, 11, or 0
     decode(data)             the sizes of an accepted catalogue
     read_at(size, flow)      a Reading, or None over the last row
 
-The quoted sentences are those of "The catalogue" and "Refused orders".
+The quoted sentences are those of "The catalogue", "Refused orders" and L6.
 """
 
 import struct
@@ -115,20 +116,22 @@ def acceptance_number(data):
 
 # A size read at a flow
 
+# Where "the straight line from zero" begins.
+ZERO = Row(flow=0, velocity=0, slope=0)
+
+
 def line(flow, left, right):
-    """Between two rows: "the straight line, each up"."""
+    """Between two rows, or zero and the first: "the straight line, each up"."""
     part = Fraction(flow - left.flow, right.flow - left.flow)
     return Reading(*(up(low + part * (high - low)) for low, high in zip(left[1:], right[1:])))
 
 
 def read_at(size, flow) -> Optional[Reading]:
-    """A flow "under the first row takes the first row. Over the last row the
-    size can't serve." """
-    passed = [row for row in size.rows if row.flow <= flow]
+    """"A flow under the first row now takes the straight line from zero: velocity is q x first
+    velocity / first flow, up, and slope likewise." "Over the last row the size can't serve." """
+    passed = [row for row in (ZERO,) + size.rows if row.flow <= flow]
     ahead = [row for row in size.rows if row.flow >= flow]
     if not ahead:
         return None
-    if not passed:
-        return Reading(*ahead[0][1:])
     left, right = passed[-1], ahead[0]
     return Reading(*left[1:]) if left == right else line(flow, left, right)

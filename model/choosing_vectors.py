@@ -16,11 +16,14 @@ import heads
 import job
 import rating_vectors
 from edit import OWN, head, house, kind_of, people, put, section, serving
+from first_rows import READINGS, SHORT_BASIN
 from flow_vectors import (BATHS_OVER_BASINS, CHILD_ABOVE, TAP_OVER_256, chain_of_kinds,
                           comb_of_kinds, end, flow_broken, halving_of_kinds, star_of_kinds)
-from houses import OWN_COLD, OWN_HOT, OWN_TOTAL, SERVICES, greedy, star
-from rating_vectors import (ENDS_AT_299, ENDS_AT_300, GREEDY_SIZES, LEVEL, SIZE_1, SIZE_2, SIZES,
-                            TAPPED, catalogue, low, pair, tree)
+from houses import (BASIN, OWN_BESIDE_BASIN, OWN_COLD, OWN_HOT, OWN_OVER_BASIN, OWN_TOTAL, SERVICES,
+                    greedy, star)
+from rating_vectors import (AROUND_140, BASIN_BEHIND, ENDS_AT_299, ENDS_AT_300, FARTHEST,
+                            GREEDY_SIZES, LEVEL, MOST_FLOW, NARROW_AND_WIDE, SIZE_1, SIZE_2, SIZES,
+                            TAPPED, THREE_BASINS, catalogue, low, one_under, pair, tree)
 from vector import Call, Parts, Vector, buffer_after, in_total, listed, room_of
 
 FILL = 0x5a
@@ -430,8 +433,8 @@ def ending_at(flow):
 
 def one_tap():
     """Section 1 has 300 ml/s, section 2 144; by document 01 alone section 1 would have 240, and
-    nothing here would be refused. With TAPPED the sections lose 52 and 26, by document 01 alone
-    37 and 26; with the flat size they lose 13 each."""
+    nothing here would be refused. With TAPPED the sections lose 52 and 20, by document 01's flows
+    37 and 20; with the flat size they lose 13 each."""
     two = {"record": BATHS_OVER_BASINS}
     flat_beside = {"sizes": catalogue(TAPPED, (50, 900, (1, 1, 10), (400, 1, 10)))}
     return [
@@ -447,14 +450,127 @@ def one_tap():
                record=head(BATHS_OVER_BASINS, limit=700)),
         refused("one tap: velocity one over the limit", 16, sizes=catalogue(TAPPED),
                 record=head(BATHS_OVER_BASINS, limit=699)),
-        # 50 + 800 + 52 + 26.
+        # 50 + 800 + 52 + 20.
         chosen("one tap: just enough head", 60_000, [1, 1], sizes=catalogue(TAPPED),
-               record=head(BATHS_OVER_BASINS, H=928)),
+               record=head(BATHS_OVER_BASINS, H=922)),
         refused("one tap: 1 too little", 16, sizes=catalogue(TAPPED),
-                record=head(BATHS_OVER_BASINS, H=927)),
-        # Both with TAPPED would require 913 by document 01 alone.
+                record=head(BATHS_OVER_BASINS, H=921)),
+        # Both with TAPPED would require 907 by document 01's flows; list 1 2 requires 915.
         chosen("one tap: section 1 is wider for the head", 120_000, [2, 1],
                record=head(BATHS_OVER_BASINS, H=914), **flat_beside),
+    ]
+
+
+# Under the first row, as rating_vectors.py and first_rows.py read the sizes
+
+def basin():
+    """Size 1 costs 900 x 800 and requires head 913 at velocity 112, size 2 costs 1,300 x 800 and
+    requires 871 at 70. The first rows themselves would require 1,266 at 800 and 975 at 500."""
+    return [
+        chosen("basin on a wide main", 720_000, [1], record=BASIN),
+        chosen("basin on a wide main, H 913", 720_000, [1], record=head(BASIN, H=913)),
+        chosen("basin on a wide main, H 912", 1_040_000, [2], record=head(BASIN, H=912)),
+        chosen("basin on a wide main, H 871", 1_040_000, [2], record=head(BASIN, H=871)),
+        refused("basin on a wide main, H 870", 16, record=head(BASIN, H=870)),
+        chosen("basin on a wide main, H 974, where the first rows leave no list", 720_000, [1],
+               record=head(BASIN, H=974)),
+        chosen("basin on a wide main, limit 112", 720_000, [1], record=head(BASIN, limit=112)),
+        chosen("basin on a wide main, limit 111", 1_040_000, [2], record=head(BASIN, limit=111)),
+        chosen("basin on a wide main, limit 70", 1_040_000, [2], record=head(BASIN, limit=70)),
+        refused("basin on a wide main, limit 69", 16, record=head(BASIN, limit=69)),
+        chosen("basin on a wide main, limit 499, where the first rows leave no list", 720_000, [1],
+               record=head(BASIN, limit=499)),
+        # Size 1 loses 58 and size 2 20.
+        chosen("basin on a wide main, k 2, H 908", 720_000, [1], record=head(BASIN, k=2, H=908)),
+        chosen("basin on a wide main, k 2, H 907", 1_040_000, [2], record=head(BASIN, k=2, H=907)),
+        chosen("basin on a wide main, k 2, H 870", 1_040_000, [2], record=head(BASIN, k=2, H=870)),
+        refused("basin on a wide main, k 2, H 869", 16, record=head(BASIN, k=2, H=869)),
+    ]
+
+
+def first_rows():
+    """The one size suits where limit and H are just its velocity and its required head, and with
+    one less of either nothing does. A limit of 0 is refused by 3."""
+    found = []
+    for each in READINGS:
+        sizes, H = catalogue((50, 1300) + each.rows), 850 + each.loss
+        just = head(SHORT_BASIN, limit=each.velocity, H=H)
+        found += [
+            chosen(f"{each.name}, limit {each.velocity}, H {H}", 130_000, [1], record=just,
+                   sizes=sizes),
+            refused(f"{each.name}, limit {each.velocity}, H {H - 1}", 16, sizes=sizes,
+                    record=head(just, H=H - 1)),
+        ]
+        if each.velocity > 1:
+            found.append(refused(f"{each.name}, limit {each.velocity - 1}, H {H}", 16, sizes=sizes,
+                                 record=head(just, limit=each.velocity - 1)))
+    return found
+
+
+def farthest():
+    """The own case requires head 1,026 there and the greatest flow 4,484 at velocity 2,795."""
+    most = head(MOST_FLOW, limit=2795)
+    return [
+        chosen("own case under the greatest first row, H 1026", 130_000, [1], sizes=FARTHEST,
+               record=head(OWN, H=1026)),
+        refused("own case under the greatest first row, H 1025", 16, sizes=FARTHEST,
+                record=head(OWN, H=1025)),
+        chosen("the greatest flow under the greatest first row, H 4484", 130_000, [1],
+               sizes=FARTHEST, record=head(most, H=4484)),
+        refused("the greatest flow under the greatest first row, H 4483", 16, sizes=FARTHEST,
+                record=head(most, H=4483)),
+        refused("the greatest flow under the greatest first row, limit 2794", 16, sizes=FARTHEST,
+                record=head(most, H=4484, limit=2794)),
+        refused("own case one under the first row, slope 65535", 16, sizes=one_under(2052, 1500),
+                record=section(head(OWN, H=6000), 1, length=5000)),
+    ]
+
+
+def beside_basin(elevation):
+    """Document 01's own section, with H as it requires, beside a basin at this height."""
+    return head(section(OWN_BESIDE_BASIN, 2, elevation=elevation), H=921)
+
+
+def over_basin(H):
+    return {"record": head(OWN_OVER_BASIN, H=H)}
+
+
+def behind_another(H):
+    """The basin behind another section of 200 decimetres."""
+    return {"record": section(head(BASIN_BEHIND, H=H), 1, length=200), "sizes": NARROW_AND_WIDE}
+
+
+def under_and_over():
+    """The own section takes size 2, for 130,000, and loses 71, beside the basin and over it. Behind
+    another section the narrow size loses 312 and 156 for 60,000 and 30,000, the wide one, under its
+    first row, 15.6, up to 16, and 8 for 180,000 and 90,000."""
+    three = {"sizes": AROUND_140}
+    return [
+        chosen("own case beside a basin", 850_000, [2, 1], record=OWN_BESIDE_BASIN),
+        chosen("own case beside a basin 8 higher, H 921", 850_000, [2, 1],
+               record=beside_basin(608)),
+        chosen("own case beside a basin 9 higher, H 921", 1_170_000, [2, 2],
+               record=beside_basin(609)),
+        chosen("own case beside a basin 50 higher, H 921", 1_170_000, [2, 2],
+               record=beside_basin(650)),
+        refused("own case beside a basin 51 higher, H 921", 16, record=beside_basin(651)),
+        chosen("own case over a basin, H 984", 850_000, [2, 1], **over_basin(984)),
+        chosen("own case over a basin, H 983", 1_170_000, [2, 2], **over_basin(983)),
+        chosen("own case over a basin, H 942", 1_170_000, [2, 2], **over_basin(942)),
+        refused("own case over a basin, H 941", 16, **over_basin(941)),
+        chosen("basin behind another section, H 1318", 90_000, [1, 1], **behind_another(1318)),
+        chosen("basin behind another section, H 1317", 150_000, [1, 2], **behind_another(1317)),
+        chosen("basin behind another section, H 1170", 150_000, [1, 2], **behind_another(1170)),
+        chosen("basin behind another section, H 1169", 210_000, [2, 1], **behind_another(1169)),
+        chosen("basin behind another section, H 1022", 210_000, [2, 1], **behind_another(1022)),
+        chosen("basin behind another section, H 1021", 270_000, [2, 2], **behind_another(1021)),
+        chosen("basin behind another section, H 874", 270_000, [2, 2], **behind_another(874)),
+        refused("basin behind another section, H 873", 16, **behind_another(873)),
+        # 850 + 2,027: the size that has its first row one over the flow loses least.
+        chosen("three basins, H 2877", 390_000, [1, 1, 1], record=head(THREE_BASINS, H=2877),
+               **three),
+        refused("three basins, H 2876", 16, record=head(THREE_BASINS, H=2876), **three),
+        costing("three basins, H 2891", 390_000, record=head(THREE_BASINS, H=2891), **three),
     ]
 
 
@@ -462,6 +578,11 @@ def one_tap():
 
 # Of the own case, as rating_vectors.py derives: hot size 1 requires head 938 at velocity 965 and
 # size 2 878, cold 922 at 890 and 873. By the total norms size 1 is over the limit.
+
+def small_line(service, **values):
+    """The basin by one service, with head fields set."""
+    return head(serving(BASIN, service), **values)
+
 
 def services():
     taps = {"record": serving(BATHS_OVER_BASINS, 2)}
@@ -486,6 +607,17 @@ def services():
         chosen("one tap, hot: size 1 ends at 199", 40_000, [2, 1], sizes=ending_at(199), **taps),
         chosen("one tap, hot: size 1 ends at 200", 20_000, [1, 1], sizes=ending_at(200), **taps),
         chosen("one tap, hot: size 1 ends at 99", 60_000, [2, 2], sizes=ending_at(99), **taps),
+        # 100 ml/s: size 1 requires head 892 at velocity 80, size 2 871 at 50.
+        chosen("basin on a wide main, cold, H 892", 720_000, [1], record=small_line(1, H=892)),
+        chosen("basin on a wide main, cold, H 891", 1_040_000, [2], record=small_line(1, H=891)),
+        chosen("basin on a wide main, hot, H 871", 1_040_000, [2], record=small_line(2, H=871)),
+        refused("basin on a wide main, hot, H 870", 16, record=small_line(2, H=870)),
+        chosen("basin on a wide main, hot, limit 80", 720_000, [1], record=small_line(2, limit=80)),
+        chosen("basin on a wide main, hot, limit 79", 1_040_000, [2],
+               record=small_line(2, limit=79)),
+        chosen("basin on a wide main, cold, limit 50", 1_040_000, [2],
+               record=small_line(1, limit=50)),
+        refused("basin on a wide main, cold, limit 49", 16, record=small_line(1, limit=49)),
     ]
 
 
@@ -510,7 +642,8 @@ def totals():
     is cheapest."""
     return in_total(own_case() + rooms() + no_list() + just_enough() + low_ends() + high_ends()
                     + three_sections() + two_in_a_row() + three_ends() + small_trees() + one_tap()
-                    + equal_costs(), place=2)
+                    + basin() + first_rows() + farthest() + under_and_over() + equal_costs(),
+                    place=2)
 
 
 def line_houses():
@@ -825,7 +958,7 @@ def random_parts(rng, sections, sizes, service=None):
 
 
 # Those that no list suits.
-NO_LIST = {8, 12, 30}
+NO_LIST = {5, 12, 24}
 
 
 def random_houses():
@@ -842,7 +975,7 @@ def random_lines():
 
 
 # Those of the lines that no list suits.
-NO_LINE = {9}
+NO_LINE = {6, 12}
 
 
 def random_line(rng, i, count, service):
@@ -867,7 +1000,9 @@ GROUPS = [
     ("choosing, low ends", low_ends), ("choosing, high ends", high_ends),
     ("choosing, three sections", three_sections), ("choosing, two in a row", two_in_a_row),
     ("choosing, three ends", three_ends), ("choosing, small trees", small_trees),
-    ("choosing, one tap", one_tap), ("choosing, services", services),
+    ("choosing, one tap", one_tap), ("choosing, a basin on a wide main", basin),
+    ("choosing, first rows", first_rows), ("choosing, the greatest first rows", farthest),
+    ("choosing, under and over the first row", under_and_over), ("choosing, services", services),
     ("choosing, version 2, room and workspace", line_rooms),
     ("choosing, total in version 2", totals), ("choosing, houses of lines", line_houses),
     ("choosing, sizes and prices", sizes_and_prices), ("choosing, equal costs", equal_costs),

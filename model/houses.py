@@ -16,6 +16,17 @@ def under(parent, part):
     return (parent,) + part[1:]
 
 
+# A basin on a wide main, of 1 resident: its share is 7,936.5, up to 7,937, under 15,000, so that it
+# has 140 ml/s, one tap. By either line's norms the share is 5,556 and one tap 100 ml/s.
+BASIN_END = (0, 11, 1, 800, 600, 200)
+BASIN = house([BASIN_END], {11: 1})
+
+# Document 01's own section beside the basin, and over it. Over it, m is 1,840,741 + 7,937, between
+# the keys 1.80 with 1.350 and 1.85 with 1.372: alpha is 1,371,418.3, up to 1,371,419, and the flow
+# (1,840,741 x 30 + 7,937 x 14) x 1,371,419 / (20,000 x 1,848,678) = 2,052.4, up to 2,053 ml/s.
+OWN_BESIDE_BASIN = house([END, BASIN_END], {7: 71, 11: 1})
+OWN_OVER_BASIN = house([END, under(1, BASIN_END)], {7: 71, 11: 1})
+
 TWO_ENDS = house([END, END], {7: 71})
 INNER_AND_END = house([INNER, under(1, END)], {7: 71})
 

@@ -8,12 +8,14 @@ import catalogue as catalogues
 import job
 import losses
 from edit import OWN, head, house, put, section, serving
+from first_rows import READINGS, SHORT_BASIN
 from flow_vectors import BASINS_OVER_BATHS, BATHS_OVER_BASINS, bath_and, end
-from houses import (INNER_AND_END, OWN_COLD, OWN_HOT, OWN_TOTAL, SERVICES, TWO_ENDS, chain, greedy,
-                    halving, star)
-from rating_vectors import (ENDS_AT_299, ENDS_AT_300, GREEDY_SIZES, LEVEL, ORDER, SIZE_1, SIZES,
-                            TAPPED, TWELVE, catalogue, low, many_rows, order_parts, pair,
-                            random_parts, rating_of, tree)
+from houses import (BASIN, INNER_AND_END, OWN_BESIDE_BASIN, OWN_COLD, OWN_HOT, OWN_OVER_BASIN,
+                    OWN_TOTAL, SERVICES, TWO_ENDS, chain, greedy, halving, star)
+from rating_vectors import (AROUND_140, BASIN_BEHIND, ENDS_AT_299, ENDS_AT_300, FARTHEST,
+                            GREEDY_SIZES, LEVEL, MOST_FLOW, NARROW_AND_WIDE, ORDER, SIZE_1, SIZES,
+                            TAPPED, THREE_BASINS, TOO_FAR, TWELVE, catalogue, low, many_rows,
+                            one_under, order_parts, pair, random_parts, rating_of, tree)
 from vector import Call, buffer_line, in_total, lent, listed, room_of, stored_by, words
 
 
@@ -163,6 +165,12 @@ def flows_at_rows():
                 sizes=catalogue((50, 1300, (1000, 500, 12), (2051, 1026, 54)))),
         refused("a wider size that ends earlier", 13,
                 sizes=catalogue(SIZE_1, (50, 1300, (1, 1, 1), (2, 1, 1)))),
+        figures_at("flow far under the first row", (2052, 2, 2), (999_999, 700, 20),
+                   (1_000_000, 1400, 90)),
+        refused("first row over the limit, and the line from zero", 13, numbers=[1],
+                sizes=catalogue((50, 1300, (2053, 1501, 20), (3000, 1600, 90)))),
+        figures_at("first row over the limit, the line from zero at it", (2052, 1500, 20),
+                   (2736, 2000, 20), (3000, 2100, 90)),
         lost("velocity equal to the limit", OWN_SECTION, record=head(OWN, limit=1026)),
         refused("velocity one over the limit", 13, record=head(OWN, limit=1025)),
         refused("two sections, only the first over the limit", 13, record=pair(60, 20),
@@ -176,15 +184,93 @@ def one_tap():
     """The sizes and the flows are those of rating's vectors."""
     above = {"record": BATHS_OVER_BASINS, "sizes": catalogue(ENDS_AT_299, ENDS_AT_300, TAPPED)}
     return [
-        lost("one tap: flow, velocity and loss", (300, 700, 52), (144, 500, 26), numbers=[3, 3],
+        lost("one tap: flow, velocity and loss", (300, 700, 52), (144, 360, 20), numbers=[3, 3],
              **above),
-        lost("one tap equal to the last row", (300, 700, 52), (144, 500, 26), numbers=[2, 1],
+        lost("one tap equal to the last row", (300, 700, 52), (144, 360, 20), numbers=[2, 1],
              **above),
         refused("one tap one over the last row", 13, numbers=[1, 1], **above),
         lost("one tap of a kind below", (300, 700, 52), (300, 700, 52), numbers=[2, 2],
              **dict(above, record=BASINS_OVER_BATHS)),
         lost("one tap and an average of 300", (300, 700, 52), (300, 700, 52), (301, 702, 54),
              (326, 752, 60), numbers=[2, 2, 3, 3], **dict(above, record=bath_and(95))),
+    ]
+
+
+# Under the first row, as rating_vectors.py and first_rows.py read the sizes
+
+def basin():
+    return [
+        lost("basin on a wide main, size 1", (140, 112, 63), record=BASIN, numbers=[1]),
+        lost("basin on a wide main, size 2", (140, 70, 21), record=BASIN, numbers=[2]),
+        losing("basin on a wide main, size 1, in bytes", 0, record=BASIN, numbers=[1], holds=set(),
+               lines=["losses 0 " "0000008c" "0070" "0000003f"]),
+        lost("basin on a wide main, k 2, size 1", (140, 112, 58), record=head(BASIN, k=2),
+             numbers=[1]),
+        lost("basin on a wide main, k 2, size 2", (140, 70, 20), record=head(BASIN, k=2),
+             numbers=[2]),
+        lost("basin on a wide main, size 1, limit 799, where the first row is 13", (140, 112, 63),
+             record=head(BASIN, limit=799), numbers=[1]),
+        lost("basin on a wide main, size 1, limit 112", (140, 112, 63), numbers=[1],
+             record=head(BASIN, limit=112)),
+        refused("basin on a wide main, size 1, limit 111", 13, record=head(BASIN, limit=111),
+                numbers=[1]),
+        lost("basin on a wide main, size 2, limit 499, where the first row is 13", (140, 70, 21),
+             record=head(BASIN, limit=499), numbers=[2]),
+        lost("basin on a wide main, size 2, limit 70", (140, 70, 21), numbers=[2],
+             record=head(BASIN, limit=70)),
+        refused("basin on a wide main, size 2, limit 69", 13, record=head(BASIN, limit=69),
+                numbers=[2]),
+    ]
+
+
+def first_rows():
+    """Each with its velocity for a limit, and refused with a limit one less, as of rating."""
+    found = []
+    for each in READINGS:
+        parts = {"sizes": catalogue((50, 1300) + each.rows), "numbers": [1]}
+        found.append(lost(f"{each.name}, limit {each.velocity}", (140, each.velocity, each.loss),
+                          record=head(SHORT_BASIN, limit=each.velocity), **parts))
+        if each.velocity > 1:
+            found.append(refused(f"{each.name}, limit {each.velocity - 1}", 13,
+                                 record=head(SHORT_BASIN, limit=each.velocity - 1), **parts))
+    return found
+
+
+def farthest():
+    return [
+        lost("own case under the greatest first row", (2052, 135, 176), sizes=FARTHEST,
+             numbers=[1]),
+        lost("the greatest flow under the greatest first row", (42_646, 2795, 3634), numbers=[1],
+             record=head(MOST_FLOW, limit=2795), sizes=FARTHEST),
+        refused("the greatest flow under the greatest first row, limit 2794", 13, numbers=[1],
+                record=head(MOST_FLOW, limit=2794), sizes=FARTHEST),
+        refused("first flow 1000000", 11, sizes=TOO_FAR, numbers=[1]),
+        lost("own case one under the first row, slope 65535", (2052, 1500, 4_257_760), numbers=[1],
+             record=section(OWN, 1, length=5000), sizes=one_under(2052, 1500)),
+        lost("the greatest flow one under the first row, slope 65535", (42_646, 3000, 4_259_710),
+             record=section(head(MOST_FLOW, limit=3000), 1, length=5000), numbers=[1],
+             sizes=one_under(42_646, 3000)),
+    ]
+
+
+def under_and_over():
+    beside, over = {"record": OWN_BESIDE_BASIN}, {"record": OWN_OVER_BASIN}
+    behind = {"record": BASIN_BEHIND, "sizes": NARROW_AND_WIDE}
+    return [
+        lost("own case beside a basin", OWN_SECTION, (140, 112, 63), numbers=[2, 1], **beside),
+        lost("own case beside a basin, both size 2", OWN_SECTION, (140, 70, 21), numbers=[2, 2],
+             **beside),
+        refused("own case beside a basin, both size 1", 13, numbers=[1, 1], **beside),
+        lost("own case over a basin", (2053, 1027, 71), (140, 112, 63), numbers=[2, 1], **over),
+        lost("own case over a basin, both size 2", (2053, 1027, 71), (140, 70, 21),
+             numbers=[2, 2], **over),
+        lost("under the first row of a size, then over that of another", (140, 112, 8),
+             (140, 560, 156), numbers=[2, 1], **behind),
+        lost("over the first row of a size, then under that of another", (140, 560, 156),
+             (140, 112, 8), numbers=[1, 2], **behind),
+        lost("three basins: one under the first row, at it and one over it", (140, 142, 2027),
+             (140, 143, 2041), (140, 144, 2043), record=THREE_BASINS, sizes=AROUND_140,
+             numbers=[1, 2, 3]),
     ]
 
 
@@ -212,7 +298,7 @@ def ranges():
         lost("loss 65535: 50,411 x 1.3 is 65,534.3", (2052, 1500, 65_535), numbers=[1],
              sizes=steep(50_411)),
         lost("the greatest flow", (42_646, 1500, 85_196), numbers=[1], sizes=steep(65_535),
-             record=house([end(8, 4000)], {8: 4000})),
+             record=MOST_FLOW),
         lost("the least flow", (140, 1500, 85_196), numbers=[1], sizes=steep(65_535),
              record=house([end(12, 65_535)], {12: 1})),
     ]
@@ -229,7 +315,7 @@ def own_losses():
              record=three, sizes=LEVEL, numbers=[3, 2, 1]),
         lost("a section without a kind and its end", OWN_SECTION, OWN_SECTION,
              record=INNER_AND_END, numbers=[2, 2]),
-        lost("ends of 20 and 60 fixtures", (979, 500, 16), (1739, 870, 54), record=pair(20, 60),
+        lost("ends of 20 and 60 fixtures", (979, 490, 16), (1739, 870, 54), record=pair(20, 60),
              numbers=[2, 2]),
         losing("tree of 63, all kinds", 0, holds=set(), record=halving_house(), sizes=LEVEL,
                numbers=[1 + i % 3 for i in range(63)]),
@@ -259,9 +345,9 @@ def services():
                lines=["losses 0 " "000004b6" "025b" "0000001c"]),
         refused("own case, hot, size 1, limit 964", 13, record=head(OWN_HOT, limit=964),
                 numbers=[1]),
-        lost("one tap, hot", (200, 500, 26), (100, 500, 26), sizes=catalogue(TAPPED),
+        lost("one tap, hot", (200, 500, 26), (100, 250, 13), sizes=catalogue(TAPPED),
              numbers=[1, 1], **taps),
-        lost("one tap, cold", (200, 500, 26), (100, 500, 26), sizes=catalogue(TAPPED),
+        lost("one tap, cold", (200, 500, 26), (100, 250, 13), sizes=catalogue(TAPPED),
              numbers=[1, 1], record=serving(BATHS_OVER_BASINS, 1)),
         lost("own case, hot, room 10", (1206, 603, 28), record=OWN_HOT, room=10),
         refused("own case, hot, room 9", 14, record=OWN_HOT, room=9),
@@ -269,12 +355,25 @@ def services():
                record=serving(chain(63), 2), numbers=[1] * 63),
         refused("chain of 63, hot, room 629", 14, room=629, sizes=LEVEL,
                 record=serving(chain(63), 2), numbers=[1] * 63),
+        lost("basin on a wide main, cold, size 1", (100, 80, 42), record=serving(BASIN, 1),
+             numbers=[1]),
+        lost("basin on a wide main, cold, size 2", (100, 50, 21), record=serving(BASIN, 1),
+             numbers=[2]),
+        lost("basin on a wide main, hot, size 1, limit 80", (100, 80, 42), numbers=[1],
+             record=head(serving(BASIN, 2), limit=80)),
+        refused("basin on a wide main, hot, size 1, limit 79", 13, numbers=[1],
+                record=head(serving(BASIN, 2), limit=79)),
+        lost("basin on a wide main, hot, size 2, limit 50", (100, 50, 21), numbers=[2],
+             record=head(serving(BASIN, 2), limit=50)),
+        refused("basin on a wide main, hot, size 2, limit 49", 13, numbers=[2],
+                record=head(serving(BASIN, 2), limit=49)),
     ]
 
 
 def totals():
     """The same in version 2, of the vectors above."""
-    return in_total(own_case() + rooms() + flows_at_rows() + one_tap() + ranges() + own_losses())
+    return in_total(own_case() + rooms() + flows_at_rows() + one_tap() + basin() + first_rows()
+                    + farthest() + under_and_over() + ranges() + own_losses())
 
 
 def line_order():
@@ -333,7 +432,10 @@ def random_lines():
 GROUPS = [
     ("losses, own case", own_case), ("losses, room", rooms), ("losses, lists", lists),
     ("losses, catalogues", catalogues_refused), ("losses, flows at rows", flows_at_rows),
-    ("losses, one tap", one_tap), ("losses, ranges", ranges), ("losses, own losses", own_losses),
+    ("losses, one tap", one_tap), ("losses, a basin on a wide main", basin),
+    ("losses, first rows", first_rows), ("losses, the greatest first rows", farthest),
+    ("losses, under and over the first row", under_and_over), ("losses, ranges", ranges),
+    ("losses, own losses", own_losses),
     ("losses, services", services), ("losses, total in version 2", totals),
     ("losses, order", order), ("losses, version 2, order", line_order),
     ("losses, random houses", random_houses), ("losses, random houses of lines", random_lines),

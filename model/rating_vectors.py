@@ -6,9 +6,11 @@ import struct
 
 import rating
 from edit import OWN, head, house, kind_of, put, section, serving
+from first_rows import READINGS, SHORT_BASIN
 from flow_vectors import (BASINS_OVER_BATHS, BATHS_OVER_BASINS, bath_and, end, flow_broken, inner,
                           random_house)
-from houses import OWN_COLD, OWN_HOT, OWN_TOTAL, SERVICES, TWO_ENDS, greedy
+from houses import (BASIN, OWN_BESIDE_BASIN, OWN_COLD, OWN_HOT, OWN_OVER_BASIN, OWN_TOTAL, SERVICES,
+                    TWO_ENDS, greedy)
 from vector import Call, Vector, buffer_line, in_total, lent, listed, room_of, stored_by, words
 
 
@@ -189,8 +191,10 @@ def flows_at_rows():
     last = (3000, 1400, 90)
     return [
         read_from("flow at the first row", (876, 376, 1), (700, 26), (2052, 700, 20), last),
+        # Velocity 699.7 and slope 19.99.
         read_from("flow 1 under the first row", (876, 376, 1), (700, 26), (2053, 700, 20), last),
-        read_from("flow far under the first row", (876, 376, 1), (700, 26),
+        # Velocity 1.4 and slope 0.04, up to 1: 1.3.
+        read_from("flow far under the first row", (852, 352, 1), (2, 2),
                   (999_999, 700, 20), (1_000_000, 1400, 90)),
         read_from("flow at the last row", (883, 383, 1), (800, 33), (2051, 700, 20),
                   (2052, 800, 25)),
@@ -210,8 +214,11 @@ def flows_at_rows():
                 sizes=catalogue((50, 1300, (1, 1, 1), (2, 1, 1)))),
         refused("a wider size that ends earlier", 13,
                 sizes=catalogue(SIZE_1, (50, 1300, (1, 1, 1), (2, 1, 1)))),
-        refused("first row over the limit, flow under it", 13, numbers=[1],
+        # Velocity 1,500.3; with the next table 1,500, and slope 15: 19.5.
+        refused("first row over the limit, and the line from zero", 13, numbers=[1],
                 sizes=catalogue((50, 1300, (2053, 1501, 20), (3000, 1600, 90)))),
+        read_from("first row over the limit, the line from zero at it", (870, 370, 1), (1500, 20),
+                  (2736, 2000, 20), (3000, 2100, 90)),
     ]
 
 
@@ -231,8 +238,9 @@ def limits():
 
 # One tap
 
-# Over 100 decimetres, with k 3, a slope of 40 loses 52, of 28 37 and of 20 26 cm. At 300 ml/s this
-# size has velocity 700 and slope 40, at 240 it would have 580 and 28; 144 is under its first row.
+# Over 100 decimetres, with k 3, a slope of 40 loses 52, of 28 37, of 20 26, of 15 20 and of 10 13
+# cm. At 300 ml/s this size has velocity 700 and slope 40, at 240 it would have 580 and 28. 144 is
+# under its first row: velocity 360 and slope 14.4, up to 15. So is 100: velocity 250 and slope 10.
 TAPPED = (40, 300, (200, 500, 20), (400, 900, 60))
 ENDS_AT_299 = (20, 100, (200, 500, 20), (299, 698, 40))
 ENDS_AT_300 = (30, 200, (200, 500, 20), (300, 700, 40))
@@ -244,14 +252,14 @@ def one_tap():
     basins, and with 96 section 1 has 301."""
     above = {"record": BATHS_OVER_BASINS, "sizes": catalogue(ENDS_AT_299, ENDS_AT_300, TAPPED)}
     below = dict(above, record=BASINS_OVER_BATHS)
-    figures = ((700, 52), (500, 26))
+    figures = ((700, 52), (360, 20))
     return [
-        rated("one tap: velocity and loss", (928, 428, 2), *figures, numbers=[3, 3], **above),
-        rated("one tap: velocity equal to the limit", (928, 428, 2), *figures, numbers=[3, 3],
+        rated("one tap: velocity and loss", (922, 422, 2), *figures, numbers=[3, 3], **above),
+        rated("one tap: velocity equal to the limit", (922, 422, 2), *figures, numbers=[3, 3],
               **dict(above, record=head(BATHS_OVER_BASINS, limit=700))),
         refused("one tap: velocity one over the limit", 13, numbers=[3, 3],
                 **dict(above, record=head(BATHS_OVER_BASINS, limit=699))),
-        rated("one tap equal to the last row", (928, 428, 2), *figures, numbers=[2, 1], **above),
+        rated("one tap equal to the last row", (922, 422, 2), *figures, numbers=[2, 1], **above),
         refused("one tap one over the last row", 13, numbers=[1, 1], **above),
         rated("one tap of a kind below, equal to the last row", (954, 454, 2), (700, 52),
               (700, 52), numbers=[2, 2], **below),
@@ -263,10 +271,139 @@ def one_tap():
     ]
 
 
+# A basin on a wide main
+
+# At 140 ml/s size 1 has velocity 140 x 800 / 1,000 = 112 and slope 140 x 40 / 1,000 = 5.6, up to 6,
+# which loses 6 x 800 x 13 / 1,000 = 62.4, up to 63 cm; size 2 has velocity 70 and slope 1.68, up to
+# 2: 20.8, up to 21 cm. To that come 850 cm. The first rows themselves have velocities 800 and 500
+# and lose 416 and 125 cm. The lines through both rows, carried on below, would have the same
+# velocities, and slopes under zero.
+
+def basin():
+    return [
+        rated("basin on a wide main, size 1", (913, 413, 1), (112, 63), record=BASIN, numbers=[1]),
+        rated("basin on a wide main, size 2", (871, 371, 1), (70, 21), record=BASIN, numbers=[2]),
+        rating_of("basin on a wide main, size 1, in bytes", 0, record=BASIN, numbers=[1],
+                  holds=set(), lines=["rate 0 " "00000391" "0000019d" "01" "0070" "0000003f"]),
+        # 57.6 and 19.2.
+        rated("basin on a wide main, k 2, size 1", (908, 408, 1), (112, 58), numbers=[1],
+              record=head(BASIN, k=2)),
+        rated("basin on a wide main, k 2, size 2", (870, 370, 1), (70, 20), numbers=[2],
+              record=head(BASIN, k=2)),
+        rated("basin on a wide main, size 1, limit 799, where the first row is 13", (913, 413, 1),
+              (112, 63), record=head(BASIN, limit=799), numbers=[1]),
+        rated("basin on a wide main, size 1, limit 112", (913, 413, 1), (112, 63), numbers=[1],
+              record=head(BASIN, limit=112)),
+        refused("basin on a wide main, size 1, limit 111", 13, record=head(BASIN, limit=111),
+                numbers=[1]),
+        rated("basin on a wide main, size 2, limit 499, where the first row is 13", (871, 371, 1),
+              (70, 21), record=head(BASIN, limit=499), numbers=[2]),
+        rated("basin on a wide main, size 2, limit 70", (871, 371, 1), (70, 21), numbers=[2],
+              record=head(BASIN, limit=70)),
+        refused("basin on a wide main, size 2, limit 69", 13, record=head(BASIN, limit=69),
+                numbers=[2]),
+    ]
+
+
+def first_rows():
+    """Each with its velocity for a limit, and refused with a limit one less, where that is not 0,
+    which 3 refuses."""
+    found = []
+    for each in READINGS:
+        parts = {"sizes": catalogue((50, 1300) + each.rows), "numbers": [1]}
+        found.append(rated(f"{each.name}, limit {each.velocity}",
+                           (850 + each.loss, 350 + each.loss, 1), (each.velocity, each.loss),
+                           record=head(SHORT_BASIN, limit=each.velocity), **parts))
+        if each.velocity > 1:
+            found.append(refused(f"{each.name}, limit {each.velocity - 1}", 13,
+                                 record=head(SHORT_BASIN, limit=each.velocity - 1), **parts))
+    return found
+
+
+# The greatest flow, 42,646 ml/s.
+MOST_FLOW = house([end(8, 4000)], {8: 4000})
+
+# The greatest first flow, with the greatest velocity and slope: no row can follow one at 1,000,000.
+FARTHEST = catalogue((50, 1300, (999_999, 65_535, 65_535), (1_000_000, 65_535, 65_535)))
+TOO_FAR = catalogue((50, 1300, (1_000_000, 65_535, 65_535), (1_000_000, 65_535, 65_535)))
+
+
+def one_under(flow, velocity):
+    """A size whose first row is one over this flow, with the greatest slope."""
+    return catalogue((50, 1300, (flow + 1, velocity, 65_535), (flow + 2, velocity, 65_535)))
+
+
+def farthest():
+    """The own case has velocity and slope 134.5, up to 135, which loses 175.5 cm, the greatest flow
+    2,794.8, up to 2,795: 3,633.5. One under the first row they have velocities 1,499.3 and 2,999.9,
+    and slopes 65,503.1 and 65,533.5, up to 65,504 and 65,534, of which 1 loses 65 cm over 5,000
+    decimetres."""
+    return [
+        rated("own case under the greatest first row", (1026, 526, 1), (135, 176), numbers=[1],
+              sizes=FARTHEST),
+        rated("the greatest flow under the greatest first row", (4484, 3984, 1), (2795, 3634),
+              record=head(MOST_FLOW, limit=2795), sizes=FARTHEST, numbers=[1]),
+        refused("the greatest flow under the greatest first row, limit 2794", 13,
+                record=head(MOST_FLOW, limit=2794), sizes=FARTHEST, numbers=[1]),
+        refused("first flow 1000000", 11, sizes=TOO_FAR, numbers=[1]),
+        rated("own case one under the first row, slope 65535", (4_258_610, 4_258_110, 1),
+              (1500, 4_257_760), record=section(OWN, 1, length=5000), sizes=one_under(2052, 1500),
+              numbers=[1]),
+        rated("the greatest flow one under the first row, slope 65535", (4_260_560, 4_260_060, 1),
+              (3000, 4_259_710), record=section(head(MOST_FLOW, limit=3000), 1, length=5000),
+              sizes=one_under(42_646, 3000), numbers=[1]),
+    ]
+
+
+# A size whose first row is under 140 ml/s, and document 01's size 1. At 140 the first has velocity
+# 560 and slope 120, which loses 156 cm over 100 decimetres, the second velocity 112 and slope 6,
+# which loses 7.8 cm.
+NARROW_AND_WIDE = catalogue((20, 300, (100, 400, 50), (300, 1200, 400)), SIZE_1)
+
+# Sizes whose first row is one over 140 ml/s, at it, and one under it.
+AROUND_140 = catalogue(*[(bore, 1300) + each.rows
+                         for bore, each in zip((20, 30, 40), READINGS[:3])])
+
+# Basins at the pump, of 1 resident in all, and one behind a section without a kind.
+THREE_BASINS = house([end(11, 1)] * 3, {11: 1})
+BASIN_BEHIND = house([inner(), end(11, 1, 1)], {11: 1})
+
+
+def under_and_over():
+    """Sections under the first row of their size, and others that are not. At 2,053 ml/s, the flow
+    of the own section over the basin, size 2 has velocity 1,026.5 and slope 53.07, up to 54: 70.2
+    cm."""
+    beside, over = {"record": OWN_BESIDE_BASIN}, {"record": OWN_OVER_BASIN}
+    behind = {"record": BASIN_BEHIND, "sizes": NARROW_AND_WIDE}
+    return [
+        rated("own case beside a basin", OWN_HEADS, OWN_SECTION, (112, 63), numbers=[2, 1],
+              **beside),
+        rated("own case beside a basin, both size 2", OWN_HEADS, OWN_SECTION, (70, 21),
+              numbers=[2, 2], **beside),
+        rated("own case beside a basin 8 higher: they tie", OWN_HEADS, OWN_SECTION, (112, 63),
+              record=section(OWN_BESIDE_BASIN, 2, elevation=608), numbers=[2, 1]),
+        rated("own case beside a basin 9 higher: it dictates", (922, 422, 2), OWN_SECTION,
+              (112, 63), record=section(OWN_BESIDE_BASIN, 2, elevation=609), numbers=[2, 1]),
+        refused("own case beside a basin, both size 1", 13, numbers=[1, 1], **beside),
+        rated("own case over a basin", (984, 484, 2), (1027, 71), (112, 63), numbers=[2, 1],
+              **over),
+        rated("own case over a basin, both size 2", (942, 442, 2), (1027, 71), (70, 21),
+              numbers=[2, 2], **over),
+        rated("under the first row of a size, then over that of another", (1014, 514, 2),
+              (112, 8), (560, 156), numbers=[2, 1], **behind),
+        rated("over the first row of a size, then under that of another", (1014, 514, 2),
+              (560, 156), (112, 8), numbers=[1, 2], **behind),
+        rated("three basins: one under the first row, at it and one over it", (2893, 2393, 3),
+              (142, 2027), (143, 2041), (144, 2043), record=THREE_BASINS, sizes=AROUND_140,
+              numbers=[1, 2, 3]),
+    ]
+
+
 # Heads
 
 def pair(first, second):
-    """Two ends of kind 7 at the pump; 20 fixtures flow 979, 60 flow 1739."""
+    """Two ends of kind 7 at the pump; 20 fixtures flow 979, 60 flow 1739. Size 2 at 979, under its
+    first row, has velocity 489.5 and slope 11.7, up to 12."""
     return head(house([end(7, first), end(7, second)], {7: 71}), limit=1300)
 
 
@@ -344,7 +481,7 @@ def dictating():
               tree((0, 600), (0, 600), (2, 600), (1, 600)), [1, 3, 2, 2]),
         rated("three in a row, each loss up", (853, 353, 3), (900, 1), (900, 1), (900, 1),
               record=short, sizes=LEVEL, numbers=[1, 1, 1]),
-        rated("ends of 20 and 60 fixtures", (904, 404, 2), (500, 16), (870, 54),
+        rated("ends of 20 and 60 fixtures", (904, 404, 2), (490, 16), (870, 54),
               record=pair(20, 60), numbers=[2, 2]),
     ]
 
@@ -423,7 +560,7 @@ def services():
         refused("own case, total in version 2, the last row at 2051", 13, numbers=[1],
                 record=OWN_TOTAL, sizes=ending_at(2051)),
         # 200 and 100 ml/s, which by the total norms are 300 and 144.
-        rated("one tap, hot", (902, 402, 2), (500, 26), (500, 26), sizes=catalogue(TAPPED),
+        rated("one tap, hot", (889, 389, 2), (500, 26), (250, 13), sizes=catalogue(TAPPED),
               numbers=[1, 1], **taps),
         refused("one tap, hot, the last row at 199", 13, numbers=[1, 1], **taps,
                 sizes=catalogue((20, 100, (100, 500, 20), (199, 698, 40)))),
@@ -431,13 +568,28 @@ def services():
               sizes=catalogue((20, 100, (100, 500, 20), (200, 700, 40))), numbers=[1, 1], **taps),
         rated("own case, hot, room 15", (878, 378, 1), (603, 28), record=OWN_HOT, room=15),
         refused("own case, hot, room 14", 14, record=OWN_HOT, room=14),
+        # 100 ml/s: size 1 has velocity 80 and slope 4, which loses 41.6 cm, size 2 velocity 50 and
+        # slope 1.2, up to 2: 20.8.
+        rated("basin on a wide main, cold, size 1", (892, 392, 1), (80, 42), numbers=[1],
+              record=serving(BASIN, 1)),
+        rated("basin on a wide main, cold, size 2", (871, 371, 1), (50, 21), numbers=[2],
+              record=serving(BASIN, 1)),
+        rated("basin on a wide main, hot, size 1, limit 80", (892, 392, 1), (80, 42), numbers=[1],
+              record=head(serving(BASIN, 2), limit=80)),
+        refused("basin on a wide main, hot, size 1, limit 79", 13, numbers=[1],
+                record=head(serving(BASIN, 2), limit=79)),
+        rated("basin on a wide main, hot, size 2, limit 50", (871, 371, 1), (50, 21), numbers=[2],
+              record=head(serving(BASIN, 2), limit=50)),
+        refused("basin on a wide main, hot, size 2, limit 49", 13, numbers=[2],
+                record=head(serving(BASIN, 2), limit=49)),
     ]
 
 
 def totals():
     """The same in version 2, of the vectors above."""
     return in_total(own_case() + rooms() + lists() + flows_at_rows() + limits() + one_tap()
-                    + pump_heads() + dictating() + three_sections())
+                    + basin() + first_rows() + farthest() + under_and_over() + pump_heads()
+                    + dictating() + three_sections())
 
 
 # Order
@@ -542,7 +694,10 @@ GROUPS = [
     ("rating, own case", own_case), ("rating, room", rooms), ("rating, lists", lists),
     ("rating, shapes of catalogues", catalogue_shapes),
     ("rating, rules of catalogues", catalogue_rules), ("rating, flows at rows", flows_at_rows),
-    ("rating, limits", limits), ("rating, one tap", one_tap), ("rating, pump heads", pump_heads),
+    ("rating, limits", limits), ("rating, one tap", one_tap),
+    ("rating, a basin on a wide main", basin), ("rating, first rows", first_rows),
+    ("rating, the greatest first rows", farthest),
+    ("rating, under and over the first row", under_and_over), ("rating, pump heads", pump_heads),
     ("rating, dictating sections", dictating), ("rating, three sections", three_sections),
     ("rating, long houses", long_houses), ("rating, services", services),
     ("rating, total in version 2", totals), ("rating, order", order),

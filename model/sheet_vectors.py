@@ -4,10 +4,12 @@ import random
 
 import sheet
 from edit import OWN, head, house, put, section, serving
+from first_rows import READINGS, SHORT_BASIN
 from flow_vectors import BATHS_OVER_BASINS, end, inner
-from houses import OWN_COLD, OWN_HOT, OWN_TOTAL, SERVICES, greedy
-from rating_vectors import (GREEDY_SIZES, LEVEL, SIZES, TAPPED, catalogue, low, order_parts,
-                            random_parts)
+from houses import (BASIN, OWN_BESIDE_BASIN, OWN_COLD, OWN_HOT, OWN_OVER_BASIN, OWN_TOTAL, SERVICES,
+                    greedy)
+from rating_vectors import (AROUND_140, FARTHEST, GREEDY_SIZES, LEVEL, MOST_FLOW, SIZES, TAPPED,
+                            THREE_BASINS, catalogue, low, one_under, order_parts, random_parts)
 from vector import Call, Parts, Vector
 
 # The bytes of the own case: the job, the catalogue, and size 2.
@@ -172,9 +174,64 @@ def one_tap():
     sizes = catalogue(TAPPED) + b"\1\1"
     return [
         whole("sheet, one tap", BATHS_OVER_BASINS + sizes, "house 283 152 7",
-              "section 1 300 700 52", "section 2 144 500 26", "head 928 428 2"),
+              "section 1 300 700 52", "section 2 144 360 20", "head 922 422 2"),
         refused("sheet, one tap over the limit", head(BATHS_OVER_BASINS, limit=699) + sizes, 13,
                 {13}),
+    ]
+
+
+# The basin's hour sum is 50,000 with alpha 0.273: 5 x 80 x 0.273 is 109.2 l/h. The day is 16 l. On
+# either line the hour sum is 33,333.3, up to 33,334, with alpha 0.243668: 5 x 60 x 0.243668 is 73.1
+# l/h. The day is 9 l cold and 7 l hot.
+BASIN_HOUSE = "house 110 16 1"
+
+
+def basin():
+    """As rated, with the sizes read under their first rows."""
+    one, two = SIZES + b"\1", SIZES + b"\2"
+    return [
+        whole("sheet, basin on a wide main, size 1", BASIN + one, BASIN_HOUSE,
+              "section 1 140 112 63", "head 913 413 1"),
+        whole("sheet, basin on a wide main, size 2", BASIN + two, BASIN_HOUSE,
+              "section 1 140 70 21", "head 871 371 1"),
+        whole("sheet, basin on a wide main, size 1, limit 799, where the first row is 13",
+              head(BASIN, limit=799) + one, BASIN_HOUSE, "section 1 140 112 63", "head 913 413 1"),
+        whole("sheet, basin on a wide main, size 1, limit 112", head(BASIN, limit=112) + one,
+              BASIN_HOUSE, "section 1 140 112 63", "head 913 413 1"),
+        refused("sheet, basin on a wide main, size 1, limit 111", head(BASIN, limit=111) + one, 13,
+                {13}),
+        whole("sheet, basin on a wide main, size 2, limit 70", head(BASIN, limit=70) + two,
+              BASIN_HOUSE, "section 1 140 70 21", "head 871 371 1"),
+        refused("sheet, basin on a wide main, size 2, limit 69", head(BASIN, limit=69) + two, 13,
+                {13}),
+    ]
+
+
+def first_rows():
+    return [whole(f"sheet, {each.name}", SHORT_BASIN + catalogue((50, 1300) + each.rows) + b"\1",
+                  BASIN_HOUSE, f"section 1 140 {each.velocity} {each.loss}",
+                  f"head {850 + each.loss} {350 + each.loss} 1")
+            for each in READINGS]
+
+
+def under_and_over():
+    """Under the greatest first rows too."""
+    longest = section(head(MOST_FLOW, limit=3000), 1, length=5000)
+    return [
+        rated("sheet, own case beside a basin", OWN_BESIDE_BASIN + SIZES + b"\2\1", OWN_LINES[1],
+              "section 2 140 112 63", OWN_LINES[2]),
+        rated("sheet, own case over a basin", OWN_OVER_BASIN + SIZES + b"\2\1",
+              "section 1 2053 1027 71", "section 2 140 112 63", "head 984 484 2"),
+        refused("sheet, own case beside a basin, both size 1", OWN_BESIDE_BASIN + SIZES + b"\1\1",
+                13, {13}),
+        whole("sheet, three basins: one under the first row, at it and one over it",
+              THREE_BASINS + AROUND_140 + b"\1\2\3", BASIN_HOUSE, "section 1 140 142 2027",
+              "section 2 140 143 2041", "section 3 140 144 2043", "head 2893 2393 3"),
+        whole("sheet, own case under the greatest first row", OWN + FARTHEST + b"\1", OWN_LINES[0],
+              "section 1 2052 135 176", "head 1026 526 1"),
+        rated("sheet, the greatest flow one under the first row, slope 65535",
+              longest + one_under(42_646, 3000) + b"\1", "section 1 42646 3000 4259710",
+              "head 4260560 4260060 1"),
     ]
 
 
@@ -213,7 +270,7 @@ def services():
               "section 1 1206 965 88", "head 938 438 1"),
         refused("sheet, own case, total in version 2, size 1", OWN_TOTAL + SIZES + b"\1", 13, {13}),
         whole("sheet, one tap, hot", serving(BATHS_OVER_BASINS, 2) + catalogue(TAPPED) + b"\1\1",
-              "house 200 84 4", "section 1 200 500 26", "section 2 100 500 26", "head 902 402 2"),
+              "house 200 84 4", "section 1 200 500 26", "section 2 100 250 13", "head 889 389 2"),
         refused("sheet, own case, hot, 40 bytes stating 40", head(OWN_HOT[:40], stated=40), 4),
         refused("sheet, own case, hot, 41 bytes stating 41", head(OWN_HOT[:41], stated=41), 4),
         refused("sheet, hot job stating 50", head(HOT_INPUT, stated=50), 4),
@@ -229,6 +286,10 @@ def services():
         refused("sheet, version 3", head(INPUT, version=3), 2, {2}),
         refused("sheet, own case, hot, 56 fixtures", section(HOT_INPUT, 1, fixtures=56), 9, {9}),
         whole("sheet, own case, hot, 57 fixtures", section(HOT_INPUT, 1, fixtures=57), *HOT_LINES),
+        whole("sheet, basin on a wide main, cold, size 1", serving(BASIN, 1) + SIZES + b"\1",
+              "house 74 9 1", "section 1 100 80 42", "head 892 392 1"),
+        whole("sheet, basin on a wide main, hot, size 2", serving(BASIN, 2) + SIZES + b"\2",
+              "house 74 7 1", "section 1 100 50 21", "head 871 371 1"),
     ]
 
 
@@ -241,7 +302,8 @@ def in_version_2(vector):
 
 
 def totals():
-    return [in_version_2(each) for each in own_case() + negative_heads() + one_tap() + many()]
+    return [in_version_2(each) for each in own_case() + negative_heads() + one_tap() + basin()
+            + first_rows() + under_and_over() + many()]
 
 
 def line_order():
@@ -278,7 +340,9 @@ GROUPS = [
     ("sheet, short inputs", short_inputs), ("sheet, stated lengths of jobs", stated_jobs),
     ("sheet, stated lengths of catalogues", stated_catalogues), ("sheet, size lists", sizes),
     ("sheet, long inputs", long_inputs), ("sheet, order", order), ("sheet, heads", negative_heads),
-    ("sheet, one tap", one_tap), ("sheet, several sections", many),
+    ("sheet, one tap", one_tap), ("sheet, a basin on a wide main", basin),
+    ("sheet, first rows", first_rows), ("sheet, under and over the first row", under_and_over),
+    ("sheet, several sections", many),
     ("sheet, services", services), ("sheet, total in version 2", totals),
     ("sheet, version 2, order", line_order), ("sheet, random houses", random_sheets),
     ("sheet, random houses of lines", random_lines),

@@ -3,7 +3,7 @@
 use mathlib.Core.Path.{_≡_}
 use Prim.Native.Nat.{ℕ, zero, suc, _+_, _-_, _*_, _/_, _≤_, _<_}
 use native.Mathlib.Omega.{arith}
-use native.Mathlib.Nat.{suc-mul, mul-le-mul-left, div-lt-iff-lt-mul, le-div-iff-mul-le, div-mul-le-self, div-eq-of-lt, div-zero, zero-div}
+use native.Mathlib.Nat.{zero-add, sub-zero, mul-comm, suc-mul, mul-le-mul-left, div-lt-iff-lt-mul, le-div-iff-mul-le, div-mul-le-self, div-eq-of-lt, div-zero, zero-div}
 use Rattle.basis.specs.Round.{up, line}
 
 pub up-le : {b : ℕ} (a c : ℕ) → 0 < b → a ≤ c * b → up a b ≤ c
@@ -23,6 +23,13 @@ up-pos a b h k =
     let w : 1 ≤ (a + (b - 1)) / b = le-div-iff-mul-le {k = b} {x = 1} {y = a + (b - 1)} k .1 (omega arith) in
     omega arith
 
+-- nothing is rounded where a quotient is whole
+pub up-whole : (a b : ℕ) → 0 < b → up (a * b) b ≡ a
+unfolding up
+up-whole a b h =
+    let low : a ≤ (a * b + (b - 1)) / b = le-div-iff-mul-le {k = b} {x = a} {y = a * b + (b - 1)} h .1 (omega arith) in
+    omega (arith, up-le (a * b) a h (omega arith))
+
 div-mono : (x y b : ℕ) → x ≤ y → x / b ≤ y / b
 div-mono x y zero h = rw (div-zero x) (omega arith)
 div-mono x y (suc b) h =
@@ -31,6 +38,11 @@ div-mono x y (suc b) h =
 pub up-mono : (a c b : ℕ) → a ≤ c → up a b ≤ up c b
 unfolding up
 up-mono a c b h = div-mono (a + (b - 1)) (c + (b - 1)) b (omega arith)
+
+-- the line from zero
+pub line-zero : (x₁ y₁ x : ℕ) → line 0 0 x₁ y₁ x ≡ up (x * y₁) x₁
+unfolding line
+line-zero x₁ y₁ x = rw (sub-zero y₁, sub-zero x, sub-zero x₁, mul-comm x y₁, zero-add (up (y₁ * x) x₁))
 
 module _ (x₀ y₀ x₁ y₁ x : ℕ) where
   pub line-low : y₀ ≤ line x₀ y₀ x₁ y₁ x

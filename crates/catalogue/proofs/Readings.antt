@@ -1,4 +1,4 @@
--- Rows that keep their rules read at a flow: whether they serve it, the first row, the line between two rows, and the largest reading.
+-- Rows that keep their rules read at a flow: whether they serve it, the line from zero, the line between two rows, and the largest and the least reading.
 -- Assumes nothing.
 use mathlib.Core.Path.{_≡_}
 use mathlib.Core.Bool.{true, false, cond}
@@ -8,16 +8,17 @@ use Prim.Native.Nat.{ℕ, _+_, _-_, _*_, _≤_, _<_}
 use native.Mathlib.Omega.{arith}
 use borrow.Author.Tests.{leb-true, le-leb, lt-leb}
 use Rattle.basis.specs.Round.{line}
+use Rattle.basis.proofs.Round.{line-zero}
 use Rattle.basis.proofs.Split.{either}
 use Rattle.wire.specs.Wire.{byteAt}
 use Rattle.wire.proofs.Fields.{be-lt}
 use Rattle.catalogue.specs.declared.reading.SizeAtFlow.{SizeAtFlow}
 use Rattle.catalogue.specs.Layout.{flowAt, velocityAt, slopeAt}
 use Rattle.catalogue.specs.Reading.{between, servesAt, readRows}
-use Rattle.catalogue.specs.Contracts.{Rows, Above}
-use Rattle.catalogue.proofs.RowBounds.{Rises}
+use Rattle.catalogue.specs.Contracts.{Rows, Above, UpToFirst, fromZero}
+use Rattle.catalogue.proofs.RowBounds.{RowIn, Rises, row-in, rows-own}
 use Rattle.catalogue.proofs.Rising.{rises, flows-rise}
-use Rattle.catalogue.proofs.Lines.{Rising, rising-le, between-first, between-line, between-high}
+use Rattle.catalogue.proofs.Lines.{Rising, rising-le, between-first, between-line, between-high, between-some}
 
 module _ (rows : List ℕ) (n q : ℕ) where
   pub serves-last : servesAt rows n q ≡ true → q ≤ flowAt rows (n - 1)
@@ -32,9 +33,15 @@ module _ (rows : List ℕ) (n q : ℕ) where
   unfolding readRows servesAt
   reading-over h = rw (lt-leb q (flowAt rows (n - 1)) h)
 
--- the first row
-abbrev pub onFirst : List ℕ → SizeAtFlow
-onFirst rows = record { serves = true; velocity = velocityAt rows 0; slope = slopeAt rows 0 }
+-- the first row, with the straight line from zero at q
+pub lines-zero : (rows : List ℕ) (q : ℕ) →
+    record {
+      serves = true;
+      velocity = line 0 0 (flowAt rows 0) (velocityAt rows 0) q;
+      slope = line 0 0 (flowAt rows 0) (slopeAt rows 0) q;
+    }
+    ≡ fromZero rows q
+lines-zero rows q = rw (line-zero (flowAt rows 0) (velocityAt rows 0) q, line-zero (flowAt rows 0) (slopeAt rows 0) q)
 
 -- rows i and j, with the straight line between them at q
 abbrev pub onLine : List ℕ → ℕ → ℕ → ℕ → SizeAtFlow
@@ -55,7 +62,13 @@ module _ {rows : List ℕ} {n : ℕ} (r : Rows rows n) where
   rising : Rising (flowAt rows) (n - 1)
   rising i j h k = flows-rise rows n (r .rules) i j h (omega arith)
 
-  pub reading-low : (q : ℕ) → q ≤ flowAt rows 0 → readRows rows n q ≡ onFirst rows
+  pub own : (k : ℕ) → k < n → RowIn rows k
+  own k h = row-in rows k (rows-own rows n k (r .rules) h)
+
+  pub first-flow : 0 < flowAt rows 0
+  first-flow = own 0 (omega (arith, r .low)) .flow .low
+
+  pub reading-low : (q : ℕ) → q ≤ flowAt rows 0 → readRows rows n q ≡ fromZero rows q
   unfolding readRows
   reading-low q h =
       let last : flowAt rows 0 ≤ flowAt rows (n - 1) = rising-le rising 0 (n - 1) (omega arith) (omega arith) in
@@ -77,8 +90,11 @@ module _ {rows : List ℕ} {n : ℕ} (r : Rows rows n) where
 
   -- at the row that the search finds
   module _ {q k : ℕ} (a : Above rows n q k) where
-    pub above-first : k ≡ 0 → readRows rows n q ≡ onFirst rows
+    pub above-first : k ≡ 0 → readRows rows n q ≡ fromZero rows q
     above-first e = reading-low q (rw e at (a .reached))
+
+    pub above-under : k ≡ 0 → UpToFirst rows q
+    above-under e = record { long = omega (arith, r .long, r .low); some = first-flow; under = rw e at (a .reached) }
 
     module _ (h : 0 < k) where
       pub above-around : Around rows q k
@@ -95,7 +111,7 @@ module _ {rows : List ℕ} {n : ℕ} (r : Rows rows n) where
       cond (servesAt rows n q) (between (flowAt rows) value (n - 1) q) 0 ≤ m
   top value q m keep h =
       ⊎-elim
-      (λ e. rw e (omega (arith, between-high (flowAt rows) value (n - 1) q rising keep (serves-last rows n q e))))
+      (λ e. rw e (omega (arith, between-high (flowAt rows) value first-flow (n - 1) q rising keep (serves-last rows n q e))))
       (λ e. rw e (omega arith))
       (either (servesAt rows n q))
 
@@ -109,3 +125,12 @@ module _ {rows : List ℕ} {n : ℕ} (r : Rows rows n) where
     where
       next : (k : ℕ) → k < n - 1 → Rises rows k (k + 1)
       next k h = rises rows n (r .rules) k (k + 1) (omega arith) (omega arith)
+
+  -- where a flow above 0 is served, neither is 0
+  module _ (q : ℕ) (h : 0 < q) (e : servesAt rows n q ≡ true) where
+    least : (value : ℕ → ℕ) → ((k : ℕ) → k < n → 0 < value k) → 0 < cond (servesAt rows n q) (between (flowAt rows) value (n - 1) q) 0
+    least value each = rw e (between-some (flowAt rows) value first-flow (n - 1) q h (λ k l. each k (omega (arith, r .low))))
+
+    pub reading-some : (0 < readRows rows n q .velocity) × (0 < readRows rows n q .slope)
+    unfolding readRows
+    reading-some = (least (velocityAt rows) (λ k l. own k l .velocity), least (slopeAt rows) (λ k l. own k l .slope))

@@ -5,7 +5,9 @@ use mathlib.Core.Bool.{true}
 use Prim.Native.Nat.{ℕ, _+_, _-_, _*_, _≤_, _<_}
 use mathlib.Core.List.{List}
 use lib.ListN.{length}
-use Rattle.catalogue.specs.Layout.{rowsOf, sizeLength, flowAt}
+use Rattle.basis.specs.Round.{up}
+use Rattle.catalogue.specs.declared.reading.SizeAtFlow.{SizeAtFlow}
+use Rattle.catalogue.specs.Layout.{rowsOf, sizeLength, flowAt, velocityAt, slopeAt}
 use Rattle.catalogue.specs.Rules.{rowsOk, shapeOk, sizesOk}
 
 -- size s, from 1 to 12, lies within the catalogue, with at most 64 rows
@@ -32,3 +34,18 @@ pub record Above (rows : List ℕ) (n q k : ℕ) : Type 0 where
   pub within : k < n
   pub reached : q ≤ flowAt rows k
   pub under : 0 < k → flowAt rows (k - 1) < q
+
+-- a part with a first row, and a flow up to that row's
+pub record UpToFirst (rows : List ℕ) (q : ℕ) : Type 0 where
+  pub long : 8 ≤ length rows
+  pub some : 0 < flowAt rows 0
+  pub under : q ≤ flowAt rows 0
+
+-- the straight line from zero to the first row, at q
+abbrev pub fromZero : List ℕ → ℕ → SizeAtFlow
+fromZero rows q =
+    record {
+      serves = true;
+      velocity = up (q * velocityAt rows 0) (flowAt rows 0);
+      slope = up (q * slopeAt rows 0) (flowAt rows 0);
+    }

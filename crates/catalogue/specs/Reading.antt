@@ -1,17 +1,17 @@
--- Document 01, "The catalogue": a size read at a flow.
+-- Document 01, "The catalogue": a size read at a flow. Document 02, L6: a flow under the first row.
 -- Assumes nothing.
-use Prim.Native.Nat.{ℕ, zero, suc, _-_}
+use Prim.Native.Nat.{ℕ, zero, suc, _-_, _*_}
 use mathlib.Core.Bool.{Bool, cond}
 use mathlib.Core.List.{List}
 use lib.Dec.{leb}
-use Rattle.basis.specs.Round.{line}
+use Rattle.basis.specs.Round.{up, line}
 use Rattle.catalogue.specs.declared.reading.SizeAtFlow.{SizeAtFlow}
 use Rattle.catalogue.specs.Layout.{flowAt, velocityAt, slopeAt}
 
 -- the value at q of rows 0 to n, given by their flows and values: the straight line between the two rows around q, up;
--- the first row for a flow under it. For q up to row n's flow
+-- for a flow under the first row the straight line from zero, q × first value / first flow, up. For q up to row n's flow
 unfoldable pub between : (ℕ → ℕ) → (ℕ → ℕ) → ℕ → ℕ → ℕ
-between flow value zero q = value 0
+between flow value zero q = up (q * value 0) (flow 0)
 between flow value (suc n) q =
     cond (leb q (flow n)) (between flow value n q) (line (flow n) (value n) (flow (suc n)) (value (suc n)) q)
 

@@ -6,10 +6,9 @@ use crate::layout::rows_of;
 use crate::layout::size_from;
 ghost use mathlib.Core.Path.{_≡_};
 ghost use Prim.Native.Nat.{_+_, _-_, _*_, _≤_, _<_};
-ghost use lib.ListN.{length};
 ghost use Rattle.catalogue.specs.Layout.{rowsOf, sizesOf, partOf, flowAt};
 ghost use Rattle.catalogue.specs.Reading.{readRows};
-ghost use Rattle.catalogue.specs.Contracts.{Rows, AcceptedCat, Above};
+ghost use Rattle.catalogue.specs.Contracts.{Rows, AcceptedCat, Above, UpToFirst, fromZero};
 
 // Velocity in mm/s and slope in mm per metre, 0 where the size can't serve.
 pub struct SizeAtFlow {
@@ -36,6 +35,19 @@ fn row_above(rows: &[u8], n: usize, q: u32) -> usize
     lo
 }
 
+// The straight line from zero to the first row of a part, at a flow up to that row's.
+fn from_zero(rows: &[u8], q: u32) -> SizeAtFlow
+    requires { ⌜ UpToFirst (now rows) q ⌝ }
+    ensures { λ r. ⌜ r ≡ fromZero (now (rows .entry)) q ⌝ }
+{
+    let flow = row_flow(rows, 0);
+    SizeAtFlow {
+        serves: true,
+        velocity: round::line_at(0, 0, flow, row_velocity(rows, 0) as u32, q),
+        slope: round::line_at(0, 0, flow, row_slope(rows, 0) as u32, q),
+    }
+}
+
 // n rows of a part read at q.
 fn read_rows(rows: &[u8], n: usize, q: u32) -> SizeAtFlow
     requires { ⌜ Rows (now rows) n ⌝ }
@@ -50,11 +62,7 @@ fn read_rows(rows: &[u8], n: usize, q: u32) -> SizeAtFlow
     }
     let k = row_above(rows, n, q);
     if k == 0 {
-        return SizeAtFlow {
-            serves: true,
-            velocity: row_velocity(rows, 0) as u32,
-            slope: row_slope(rows, 0) as u32,
-        };
+        return from_zero(rows, q);
     }
     let x0 = row_flow(rows, k - 1);
     let x1 = row_flow(rows, k);

@@ -24,7 +24,7 @@ use Rattle.demand.proofs.Validity.{valid-rooted, valid-count}
 use Rattle.catalogue.specs.Layout.{sizesOf}
 use Rattle.heads.specs.Heads.{reachOf}
 use Rattle.heads.proofs.Loss.{parent-lower}
-use Rattle.sizing.specs.Losses.{listOk, overAt, overAny, lossesOf}
+use Rattle.sizing.specs.Losses.{listOk, overAt, anyWith, overAny, lossesOf}
 use Rattle.sizing.proofs.Named.{list-all, list-long, list-names}
 use Rattle.nets.specs.Net.{Net, lossIn, pathIn, Suits, costIn}
 use Rattle.choosing.specs.Suitable.{SuitableAt, priceAt, costOf}
@@ -42,7 +42,7 @@ module _ (job : Job) (cat : List ℕ) (N : Net) (d : TreeOf job cat N) (valid : 
   -- a list that names sizes, of which no section is over
   module _ (list : List ℕ) (named : listOk job cat list ≡ true) (serves : overAny job cat list ≡ false) where
     under : (i : ℕ) → 0 < i → i ≤ countOf job → overAt job cat (sizeOf list i) i ≡ false
-    unfolding overAny
+    unfolding anyWith
     under i h k = any-at (countOf job) (λ j. overAt job cat (sizeOf list j) j) serves i h k
 
     loss-is : (i : ℕ) → 0 < i → i ≤ countOf job → N .loss i (sizeOf list i) ≡ lossesOf job cat list i
@@ -102,7 +102,7 @@ module _ (job : Job) (cat : List ℕ) (N : Net) (d : TreeOf job cat N) (valid : 
         all-each (countOf job) (λ i. within 1 (sizesOf cat) (sizeOf list i)) (λ i h k. in-within 1 (sizesOf cat) (sizeOf list i) (names i h k))
 
     serving : overAny job cat list ≡ false
-    unfolding overAny
+    unfolding anyWith
     serving =
         any-each (countOf job) (λ i. overAt job cat (sizeOf list i) i)
         (λ i h k. let w = names i h k in

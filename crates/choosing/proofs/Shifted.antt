@@ -82,6 +82,19 @@ add-mono m (pos a) (negsuc b) e = absurd (apart e refl)
 add-mono m (negsuc a) (pos b) e = sub-le m (suc a) (m + b) (omega arith)
 add-mono m (negsuc a) (negsuc b) e = sub-mono m a b (leb-true b a e)
 
+-- and so does more path loss
+pub add-behind : (z : ℤ) (a b : ℕ) → a ≤ b → leZ (z +ℤ pos a) (z +ℤ pos b) ≡ true
+add-behind (pos n) a b h = le-leb (n + a) (n + b) (omega arith)
+add-behind (negsuc n) a b h =
+    ⊎-elim
+    (λ l. rw (sub-under a (suc n) l)
+    (⊎-elim
+    (λ k. rw (sub-under b (suc n) k) (le-leb (suc n - suc b) (suc n - suc a) (omega arith)))
+    (λ k. rw (sub-over b (suc n) k))
+    (lt-or-ge b (suc n))))
+    (λ g. rw (sub-over a (suc n) g, sub-over b (suc n) (omega arith)) (le-leb (a - suc n) (b - suc n) (omega arith)))
+    (lt-or-ge a (suc n))
+
 -- 1,000 more than an elevation in its range is not negative
 pub not-negative : (elevation : ℤ) (n : ℕ) → elevationOk elevation ≡ true → 1000 ≤ n → T (nonNeg (elevation +ℤ pos n))
 unfolding elevationOk

@@ -18,7 +18,7 @@ use Rattle.demand.proofs.Validity.{valid-count, valid-rooted}
 use Rattle.catalogue.specs.Layout.{sizesOf}
 use Rattle.catalogue.specs.Contracts.{AcceptedCat}
 use Rattle.catalogue.proofs.AcceptedCat.{cat-counts}
-use Rattle.sizing.specs.Losses.{overAt, lossAt}
+use Rattle.sizing.specs.Losses.{overAt, lossWith, lossAt}
 use Rattle.sizing.proofs.LossBounds.{loss-top}
 use Rattle.nets.specs.Tables.{top, netOf, Sound}
 use Rattle.choosing.specs.Suitable.{priceAt}
@@ -34,7 +34,7 @@ module _ {job : Job} {cat parents needs losses costs : List ℕ} (a : Accepted j
 
     -- a loss is below the mark
     loss-small : lossAt job cat s i < top
-    unfolding lossAt
+    unfolding lossWith
     loss-small = omega (arith, loss-top _ _ _ (slope-top pair bytes) (pair-section pair .decimetres .high) (pair-head pair .tenths .high))
 
     loss-held : overAt job cat s i ≡ false → getD losses (i * 13 + s) 0 ≡ lossAt job cat s i

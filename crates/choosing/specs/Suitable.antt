@@ -12,16 +12,21 @@ use Rattle.fields.specs.declared.Job.{Job}
 use Rattle.fields.specs.Fields.{countOf, sectionOf}
 use Rattle.catalogue.specs.Layout.{priceOf}
 use Rattle.heads.specs.Heads.{requiredOf}
-use Rattle.sizing.specs.Losses.{listOk, overAny, lossesOf}
+use Rattle.catalogue.specs.declared.reading.SizeAtFlow.{SizeAtFlow}
+use Rattle.sizing.specs.Losses.{listOk, readingOf, anyWith, lossesWith}
 
--- when a list suits at a delivered head
-pub record SuitableAt (job : Job) (cat : List ℕ) (delivered : ℕ) (list : List ℕ) : Type 0 where
+-- when a list suits at a delivered head, where `read s i` is size s read at the flow of section i
+pub record SuitableWith (job : Job) (cat : List ℕ) (read : ℕ → ℕ → SizeAtFlow) (delivered : ℕ) (list : List ℕ) : Type 0 where
   -- each section has one of the catalogue's sizes
   pub sizes : listOk job cat list ≡ true
   -- every section's size serves its flow, and no velocity passes the limit
-  pub serves : overAny job cat list ≡ false
+  pub serves : anyWith job read list ≡ false
   -- the required head is at most the delivered head
-  pub reaches : leZ (requiredOf job (lossesOf job cat list)) (pos delivered) ≡ true
+  pub reaches : leZ (requiredOf job (lossesWith job read list)) (pos delivered) ≡ true
+
+-- by the catalogue's own reading
+abbrev pub SuitableAt : Job → List ℕ → ℕ → List ℕ → Type 0
+SuitableAt job cat delivered list = SuitableWith job cat (readingOf job cat) delivered list
 
 -- at the job's own H
 abbrev pub Suitable : Job → List ℕ → List ℕ → Type 0

@@ -6,13 +6,16 @@ use native.Mathlib.Nat.{mul-le-mul}
 use Rattle.basis.specs.Round.{up}
 use Rattle.basis.proofs.Round.{up-le}
 use Rattle.fields.specs.declared.Job.{Job}
-use Rattle.tree.specs.Tree.{houseOf}
+use Rattle.fields.specs.Fields.{countOf}
+use Rattle.tree.specs.Tree.{servedOf, houseOf}
+use Rattle.norms.proofs.Bounds.{NormIn}
 use Rattle.coefficient.specs.Alpha.{alphaOf}
 use Rattle.coefficient.proofs.Coefficient.{alpha-ceiling}
-use Rattle.demand.specs.Demand.{mOf, fixtureSumOf, averageFlowOf, flowOf, houseFlow, hourSumOf, hourlySumOf, hourOf, Valid}
-use Rattle.demand.proofs.Equations.{average-is, flow-is, hour-is}
+use Rattle.demand.specs.Demand.{mOf, fixtureSumOf, averageFlowOf, flowOf, normAt, sectionFlow, houseFlow, hourSumOf, hourlySumOf, hourOf, Valid}
+use Rattle.demand.proofs.Equations.{norm-at, average-is, flow-is, hour-is}
 use Rattle.demand.proofs.Totals.{fixture-sum-le, hourly-sum-le, house-m-pos, hour-sum-pos}
-use Rattle.demand.proofs.Taps.{one-tap-top}
+use Rattle.demand.proofs.Serving.{Serves, serves}
+use Rattle.demand.proofs.Taps.{one-tap-top, one-tap-bound}
 
 -- a sum of at most b times α
 pub alpha-product : (t b m : ℕ) → t ≤ b → t * alphaOf m ≤ b * 91900000
@@ -30,6 +33,13 @@ module _ (job : Job) (n : ℕ → ℕ) where
 
   pub flow-top : 0 < mOf job n → flowOf job n ≤ 137850
   flow-top h = omega (arith, flow-is job n, average-top h, one-tap-top job n)
+
+-- no section is without flow: one fixture of a kind that it serves draws at least 100 ml/s
+pub flow-some : {job : Job} → Valid job → (i : ℕ) → 0 < i → i ≤ countOf job → 0 < sectionFlow job i
+flow-some {job} valid i a b =
+    let s : Serves (servedOf job i) = serves valid i a b in
+    let norm : NormIn (normAt job (s .kind)) = norm-at job (s .kind) (s .low) (s .high) in
+    omega (arith, flow-is job (servedOf job i), one-tap-bound job (servedOf job i) (s .kind) (s .low) (s .high) (s .some), norm .fixture .low)
 
 pub house-flow-top : {job : Job} → Valid job → houseFlow job ≤ 137850
 house-flow-top {job} valid = flow-top job (houseOf job) (house-m-pos valid)

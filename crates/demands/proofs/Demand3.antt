@@ -32,7 +32,7 @@ use Rattle.demands.specs.Demand3.{Suited, returnedList, Returned, Sixtee
 
 -- the demand's own words and document 01's
 module _ {job : Job} {cat list : List ℕ} where
-  suited : Suitable job cat list → Suited job cat list
+  pub suited : Suitable job cat list → Suited job cat list
   suited s =
       record { sizes = s .sizes; serves = s .serves; ends = required-ends job (lossesOf job cat list) (job .header .delivered) (s .reaches) }
 

@@ -12,3 +12,7 @@ mod Versions
 mod Counterpart
 pub mod HotAndCold
 pub mod Worked
+mod Lower
+mod OneSection
+mod Basin
+pub mod SmallFlows

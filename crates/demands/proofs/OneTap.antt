@@ -12,7 +12,7 @@ use Rattle.tree.specs.Tree.{servedOf, houseOf}
 use Rattle.demand.specs.Demand.{averageFlowOf, oneTapOf, flowOf, sectionFlow, meanOf}
 use Rattle.demand.proofs.Equations.{flow-is}
 use Rattle.demand.proofs.Taps.{Largest, one-tap-bound, one-tap-reached}
-use Rattle.sizing.specs.Losses.{readingOf, overAt, lossAt}
+use Rattle.sizing.specs.Losses.{readingOf, overWith, lossWith}
 use Rattle.meters.specs.Meters.{meterAt, meterLoss, qualifies}
 use Rattle.demands.specs.OneTap.{OfOneTap, Larger, flowIn, Judged, OneTap}
 use Rattle.demands.proofs.Demand2.{demand-2}
@@ -45,7 +45,7 @@ module _ (job : Job) (n : ℕ → ℕ) where
       }
 
 judged : (job : Job) (out cat : List ℕ) (s i : ℕ) → flowIn out i ≡ sectionFlow job i → Judged job out cat s i
-unfolding readingOf overAt lossAt
+unfolding readingOf overWith lossWith
 judged job out cat s i e = record { velocity = rw e; over = rw e; loss = rw e }
 
 pub one-tap : OneTap

@@ -32,7 +32,7 @@ use Rattle.acceptance.specs.Acceptance.{jobNo, inputChecks, inputNo}
 use Rattle.acceptance.proofs.Accepting.{input-numbered, input-both, input-accepted, input-listed}
 use Rattle.catalogue.specs.Contracts.{AcceptedCat}
 use Rattle.catalogue.specs.Layout.{sizesOf}
-use Rattle.sizing.specs.Losses.{listOk, overAny, readingOf, lossAt, lossesOf}
+use Rattle.sizing.specs.Losses.{listOk, overAny, readingOf, lossWith, lossAt, lossesOf}
 use Rattle.sizing.proofs.LossBounds.{loss-top}
 use Rattle.sizing.proofs.Named.{list-names}
 use Rattle.sizing.proofs.Trying.{read-top}
@@ -64,7 +64,7 @@ module _ (b cat sizes : List ℕ) (room long : ℕ) (e : sizedNo b cat sizes roo
 -- a loss that a table gives
 pub table-top : {job : Job} {cat : List ℕ} → Accepted job → AcceptedCat cat → Bytes cat → (s i : ℕ) → 0 < s → s ≤ sizesOf cat → 0 < i →
     i ≤ countOf job → lossAt job cat s i ≤ 4259775
-unfolding lossAt readingOf
+unfolding lossWith readingOf
 table-top {job} {cat} accepted listed bytes s i low high h k =
     let section : SectionIn i (sectionOf job i) = sections-in job (valid-sections (accepted .valid)) i h k in
     loss-top _ (sectionOf job i .decimetres) (job .header .tenths)

@@ -35,7 +35,7 @@ use Rattle.acceptance.specs.Acceptance.{jobChecks}
 use Rattle.flow.specs.Calls.{flowBytes, dutyBytes}
 use Rattle.catalogue.specs.declared.reading.SizeAtFlow.{SizeAtFlow}
 use Rattle.heads.specs.Heads.{reachOf, requiredOf, pumpAt, dictatingOf}
-use Rattle.sizing.specs.Losses.{listOk, readingOf, overAt, overAny, lossAt, lossesOf}
+use Rattle.sizing.specs.Losses.{listOk, readingOf, overWith, overAt, anyWith, overAny, lossWith, lossAt, lossesOf}
 use Rattle.rated_bytes.specs.RatedBytes.{headsBytes, resultBytes, figuresBytes}
 use Rattle.rating.specs.Calls.{rateBytes, lossesBytes}
 use Rattle.choosing.specs.Suitable.{priceAt, costOf}
@@ -77,11 +77,11 @@ module _ (version : ℕ) (job : Job) where
     reading-same s i = rw (flow-same i)
 
     loss-same : (s i : ℕ) → lossAt (withVersion job version) cat s i ≡ lossAt job cat s i
-    unfolding lossAt withVersion
+    unfolding lossWith withVersion
     loss-same s i = rw (reading-same s i)
 
     over-same : (s i : ℕ) → overAt (withVersion job version) cat s i ≡ overAt job cat s i
-    unfolding overAt withVersion
+    unfolding overWith withVersion
     over-same s i = rw (reading-same s i)
 
     module _ (list : List ℕ) where
@@ -107,7 +107,7 @@ module _ (version : ℕ) (job : Job) where
       listed-same = refl
 
       pub any-same : overAny (withVersion job version) cat list ≡ overAny job cat list
-      unfolding overAny withVersion
+      unfolding anyWith withVersion
       any-same = any-ext (countOf job) _ _ (λ i p q. over-same (sizeOf list i) i)
 
       result-same : (velocity loss : ℕ → ℕ) → resultBytes (withVersion job version) velocity loss ≡ resultBytes job velocity loss

@@ -6,3 +6,4 @@ pub mod OneTap
 pub mod InTurn
 pub mod HotAndCold
 pub mod OwnCase
+pub mod SmallFlows

@@ -17,7 +17,7 @@ use Rattle.basis.proofs.Slots.{slots-none, slots-more}
 use Rattle.fields.specs.declared.Job.{Job}
 use Rattle.fields.specs.Fields.{countOf}
 use Rattle.demand.specs.Demand.{sectionFlow}
-use Rattle.sizing.specs.Losses.{overAt, overAny, readingOf, lossesOf}
+use Rattle.sizing.specs.Losses.{overAt, anyWith, overAny, readingOf, lossesOf}
 use Rattle.rating.specs.Contracts.{Fitting, RatedAt}
 
 module _ (job : Job) (cat list : List ℕ) where
@@ -43,12 +43,12 @@ module _ (job : Job) (cat list : List ℕ) where
         }
 
     pub upto-over : i ≤ countOf job → overAt job cat (sizeOf list i) i ≡ true → overAny job cat list ≡ true
-    unfolding overAny
+    unfolding anyWith
     upto-over h e = any-true (countOf job) i _ low h e
 
   pub upto-end : {i : ℕ} {f v w : List ℕ} → f ≡ slots 64 1 (countOf job + 1) 0 (sectionFlow job) → Upto i v w → i ≡ countOf job + 1 →
       (overAny job cat list ≡ false) × RatedAt job cat list f v w
-  unfolding overAny
+  unfolding anyWith
   upto-end {i} flows u e =
       let n : i - 1 ≡ countOf job = omega arith in
       (rw n at (u .none), record { flows = flows; velocities = rw e at (u .velocities); losses = rw e at (u .losses); small = rw e at (u .small) })

@@ -18,7 +18,7 @@ use Rattle.catalogue.specs.Contracts.{AcceptedCat}
 use Rattle.catalogue.proofs.AcceptedCat.{cat-rows}
 use Rattle.catalogue.proofs.Readings.{reading-top}
 use Rattle.sizing.specs.declared.Tried.{Tried}
-use Rattle.sizing.specs.Losses.{readingOf, overBy, overAt, lossOf, lossAt}
+use Rattle.sizing.specs.Losses.{readingOf, overBy, overWith, overAt, lossOf, lossWith, lossAt}
 use Rattle.sizing.specs.Contracts.{triedOf, triedAt}
 
 -- velocities and slopes read from an accepted catalogue are of two bytes
@@ -48,12 +48,12 @@ module _ (r : SizeAtFlow) (limit decimetres tenths : ℕ) where
 
 module _ (job : Job) (cat : List ℕ) (s i : ℕ) where
   pub tried-over : overAt job cat s i ≡ true → triedAt job cat s i ≡ overTried
-  unfolding triedOf overAt
+  unfolding triedOf overWith
   tried-over e = rw e
 
   pub tried-not : overAt job cat s i ≡ false →
       triedAt job cat s i ≡ record { over = false; velocity = readingOf job cat s i .velocity; loss = lossAt job cat s i }
-  unfolding triedOf overAt lossAt
+  unfolding triedOf overWith lossWith
   tried-not e = rw e
 
   pub tried-tells : triedAt job cat s i .over ≡ overAt job cat s i

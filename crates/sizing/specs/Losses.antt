@@ -27,22 +27,40 @@ readingOf job cat s i = readRows (partOf cat s) (rowsOf cat) (sectionFlow job i)
 unfoldable pub overBy : ℕ → SizeAtFlow → Bool
 overBy limit r = not (r .serves) || ltb limit (r .velocity)
 
--- section i with size s
-unfoldable pub overAt : Job → List ℕ → ℕ → ℕ → Bool
-overAt job cat s i = overBy (job .header .limit) (readingOf job cat s i)
-
--- 13: a section over its last row or the limit
-unfoldable pub overAny : Job → List ℕ → List ℕ → Bool
-overAny job cat list = anyTo (countOf job) (λ i. overAt job cat (sizeOf list i) i)
-
 -- loss in cm: slope × length × (10 + k) / 1,000, up
 unfoldable pub lossOf : ℕ → ℕ → ℕ → ℕ
 lossOf slope decimetres tenths = up (slope * decimetres * (10 + tenths)) 1000
 
--- the loss of section i with size s
-unfoldable pub lossAt : Job → List ℕ → ℕ → ℕ → ℕ
-lossAt job cat s i = lossOf (readingOf job cat s i .slope) (sectionOf job i .decimetres) (job .header .tenths)
+-- over any reading of the sizes: `read s i` is size s read at the flow of section i
+module _ (job : Job) (read : ℕ → ℕ → SizeAtFlow) where
+  -- section i with size s is over its last row or the limit
+  unfoldable pub overWith : ℕ → ℕ → Bool
+  overWith s i = overBy (job .header .limit) (read s i)
 
--- the losses with a list of sizes
+  -- a section of a list is
+  unfoldable pub anyWith : List ℕ → Bool
+  anyWith list = anyTo (countOf job) (λ i. overWith (sizeOf list i) i)
+
+  -- the loss of section i with size s
+  unfoldable pub lossWith : ℕ → ℕ → ℕ
+  lossWith s i = lossOf (read s i .slope) (sectionOf job i .decimetres) (job .header .tenths)
+
+  -- the losses with a list of sizes
+  abbrev pub lossesWith : List ℕ → ℕ → ℕ
+  lossesWith list i = lossWith (sizeOf list i) i
+
+-- and so by the catalogue's own: section i with size s,
+abbrev pub overAt : Job → List ℕ → ℕ → ℕ → Bool
+overAt job cat s i = overWith job (readingOf job cat) s i
+
+-- 13: a section over its last row or the limit,
+abbrev pub overAny : Job → List ℕ → List ℕ → Bool
+overAny job cat list = anyWith job (readingOf job cat) list
+
+-- the loss of section i with size s,
+abbrev pub lossAt : Job → List ℕ → ℕ → ℕ → ℕ
+lossAt job cat s i = lossWith job (readingOf job cat) s i
+
+-- and the losses with a list of sizes
 abbrev pub lossesOf : Job → List ℕ → List ℕ → ℕ → ℕ
 lossesOf job cat list i = lossAt job cat (sizeOf list i) i
