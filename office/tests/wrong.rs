@@ -298,7 +298,7 @@ fn differences(cases: &[(Case, Judged)], program: Program) -> usize {
 
 #[test]
 fn the_generated_cases_tell_wrong_programs() {
-    let cases: Vec<(Case, Judged)> = (0..12_000)
+    let cases: Vec<(Case, Judged)> = (0..24_000)
         .map(|index| generate::case(1, index))
         .map(|case| (judge(&case), case))
         .map(|(j, c)| (c, j))
