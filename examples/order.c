@@ -1,5 +1,5 @@
 /* Every call of the library from C, on document 01's own case: flows, duty, the meter, rating in one call and in two, choosing
- * and copying, on its hot line the heat flow, and a refusal of each.
+ * and copying, on its hot line the heat flow, and a refusal of each; and a flow under the first rows of the table.
  *
  *   cc -std=c99 -I office/include examples/order.c target/staticlib/liborder.a -o order && ./order
  *
@@ -23,6 +23,13 @@ static const uint8_t hot[51] = {
     0, 0, 0, 0, 0, 0, 0, 0, 0, 0, 0, 0, 0, 71, 0, 0, 0, 0, 0, 0, 0, 0, 0, 0,
     2,
     0, 7, 0, 80, 0, 100, 2, 0x58, 0, 200,
+};
+
+/* One basin of an office in its place, at the end of 800 dm: it draws 140 ml/s, under the first row of both sizes. */
+static const uint8_t basin[50] = {
+    0, 0, 0, 50, 1, 3, 1, 24, 0, 50, 1, 0xf4, 4, 0xb0, 5, 0xdc,
+    0, 0, 0, 0, 0, 0, 0, 0, 0, 0, 0, 0, 0, 0, 0, 0, 0, 0, 0, 0, 0, 1, 0, 0,
+    0, 11, 0, 1, 3, 0x20, 2, 0x58, 0, 200,
 };
 
 /* Two sizes of two rows: bore, price, and flow, velocity and slope of each row. */
@@ -96,12 +103,26 @@ static void hot_line(void)
     is("the same bytes", memcmp(out, hot, sizeof hot) == 0, 1);
 }
 
+/* The basin with size 1: 140 * 800 / 1,000 are 112 mm/s, 140 * 40 / 1,000 are 5.6, up to a slope of 6, and 6 * 800 * 13 / 1,000 are
+ * 62.4, up to 63 cm, behind which 50 + 600 + 200 cm are needed. Size 1 costs 900 * 800. */
+static void small_flow(const uint8_t *narrow, size_t needed)
+{
+    is("rate of the basin", order_rate(basin, sizeof basin, cat, sizeof cat, narrow, 1, out, ORDER_RATE_BYTES), 0);
+    is("required head", number_at(out), 913);
+    is("velocity", (uint32_t)out[9] << 8 | out[10], 112);
+    is("loss", number_at(out + 11), 63);
+    is("choose for the basin",
+       order_choose(basin, sizeof basin, cat, sizeof cat, work, needed, out, ORDER_CHOOSE_BYTES), 0);
+    is("cost", number_at(out), 720000);
+    is("size", out[4], 1);
+}
+
 int main(void)
 {
     static const uint8_t wide[1] = {2}, narrow[1] = {1};
     size_t needed = 4u * (1 + 1) * (1200 + 1001);
 
-    is("version", ORDER_VERSION, 3);
+    is("version", ORDER_VERSION, 4);
 
     is("flow", order_flow(job, sizeof job, out, ORDER_FLOW_BYTES), 0);
     is("hour", number_at(out), 4542);
@@ -155,5 +176,6 @@ int main(void)
     is("copy into 49 bytes", order_copy(job, sizeof job, out, 49), 14);
 
     hot_line();
+    small_flow(narrow, needed);
     return wrong;
 }

@@ -61,8 +61,9 @@ extern "C" {
 
 /* Rises when a call that is here takes or gives something else, or goes; a call or a refusal that is added leaves it as it is.
  * A number that a program does not know is a refusal of a newer library. 2: design flows are never less than one tap.
- * 3: every call takes job records of version 2, which were refused with 2; order_copy and order_meter write them. */
-#define ORDER_VERSION 3
+ * 3: every call takes job records of version 2, which were refused with 2; order_copy and order_meter write them.
+ * 4: a flow under the first row of a size takes the straight line from zero, in order_rate, order_losses and order_choose. */
+#define ORDER_VERSION 4
 
 /* The greatest sizes that any accepted job needs (S = 63, H = 6,000). */
 #define ORDER_FLOW_BYTES 264u      /* 12 + 4 * 63 */
@@ -107,7 +108,8 @@ uint32_t order_meter(const uint8_t *job, size_t job_length, const uint8_t *meter
 /* Rating of a job with given sizes.
  * job: a job record. cat: a catalogue. sizes: S size numbers of 1 byte, from 1. out: at least 9 + 6 * S bytes.
  * Result: required head in cm (4 bytes, signed two's complement), pump head in cm (4), dictating section (1), then for
- * each section its velocity in mm/s (2) and its loss in cm (4).
+ * each section its velocity in mm/s (2) and its loss in cm (4). Velocity and slope are read at the section's flow by the
+ * straight line between the rows of its size, each up; under the first row the line comes from zero.
  * Refusals: 1 to 14 (14 is tested before 13). */
 uint32_t order_rate(const uint8_t *job, size_t job_length, const uint8_t *cat, size_t cat_length,
                     const uint8_t *sizes, size_t sizes_length, uint8_t *out, size_t out_length);

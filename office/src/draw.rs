@@ -8,7 +8,7 @@ mod svg;
 
 use crate::calls::{Flow, Rating};
 use crate::kinds;
-use crate::pipes::Pipe;
+use crate::pipes::{Pipe, UNDER_FIRST_ROW};
 use crate::record::Record;
 use crate::service::{self, TOTAL};
 use crate::taps;
@@ -102,6 +102,7 @@ fn legend(pipes: &[Pipe], taps: &[u8]) -> Vec<String> {
     let mut lines = Vec::new();
     lines.extend(marked.then(|| taps::LEGEND.to_string()));
     lines.extend((!named.is_empty()).then(|| format!("kinds by number: {}", named.join(", "))));
+    lines.extend(pipes.iter().any(Pipe::is_under_first_row).then(|| UNDER_FIRST_ROW.to_string()));
     lines
 }
 
@@ -223,9 +224,10 @@ struct Texts {
 }
 
 impl Texts {
-    /// Without a rating there are no heads. By the flow stands the tap that sets it.
+    /// Without a rating there are no heads. By the flow stand the tap that sets it and the first row that it is under.
     fn of(pipe: &Pipe, rating: Option<&Rating>) -> Texts {
-        let mut notes: Vec<Note> = mark(&pipe.taps).map(|tap| (INK, "normal", tap)).into_iter().collect();
+        let marks = mark(&pipe.taps).into_iter().chain(pipe.first_row_mark());
+        let mut notes: Vec<Note> = marks.map(|words| (INK, "normal", words)).collect();
         notes.extend(rating.map_or(Vec::new(), |rating| rated(pipe, pipe.number == rating.dictating)));
         Texts { title: title(pipe, rating.is_some()), notes }
     }

@@ -2,7 +2,7 @@
 
 use crate::calls::{Flow, Rating, SectionLoss};
 use crate::catalogue::{Catalogue, Size};
-use crate::places::{gentlest, reading};
+use crate::places::{first_row, gentlest, reading};
 use crate::record::{Record, Section};
 use crate::taps::Taps;
 use crate::walk::{Turn, walk};
@@ -17,6 +17,8 @@ pub struct Pipe {
     pub bore: u16,
     /// Per metre.
     pub price: u16,
+    /// The flow of its size's first row, in ml/s.
+    pub first_row: u32,
     /// ml/s
     pub flow: u32,
     /// The kinds of which one tap sets the flow; none where the average flow stands.
@@ -45,11 +47,26 @@ impl Pipe {
         i64::from(meter) + i64::from(self.section.elevation) + i64::from(self.section.free) + self.path_loss
     }
 
+    /// Whether its flow is under the first row of its size, where velocity and slope go by the line from zero.
+    pub fn is_under_first_row(&self) -> bool {
+        self.flow < self.first_row
+    }
+
+    /// The same in words, where it is so.
+    pub fn first_row_mark(&self) -> Option<String> {
+        self.is_under_first_row().then(|| format!("under the first row, {} ml/s", self.first_row))
+    }
+
     /// Gives it a size of the table.
     fn put_size(&mut self, number: u8, of_table: &Size) {
         (self.size, self.bore, self.price) = (number, of_table.bore, of_table.price);
+        self.first_row = first_row(of_table);
     }
 }
+
+/// What `under the first row` means, for below a table or a drawing in which it stands.
+pub const UNDER_FIRST_ROW: &str = "under the first row: the rows of the size begin at a greater flow; velocity and slope are the first \
+    row's in the ratio of the flows, each rounded up";
 
 /// What is known of a house's flows: the library's, and which of them one tap sets.
 type Flows<'a> = (&'a Flow, &'a Taps);

@@ -6,6 +6,7 @@ mod losses;
 mod meters;
 mod notes;
 mod searches;
+mod small_flows;
 mod taps;
 
 use crate::case::Call;
@@ -74,6 +75,17 @@ situations! {
     InnerRowHit: "a flow at a row between",
     LastRowHit: "a flow at the last row",
     UnderFirstRow: "a flow under the first row",
+    OneUnderFirstRow: "a flow one under the first row",
+    SmallInLosses: "losses given with a flow under the first row of its size",
+    SmallInRating: "a list rated with a flow under the first row of its size",
+    SmallInChoice: "a list chosen with a flow under the first row of its size",
+    SmallVelocityUp: "a velocity under the first row that is rounded up",
+    SmallSlopeUp: "a loss under the first row that would be less by a slope that is rounded down",
+    SmallSlopeExact: "a loss under the first row that would be less by a slope that is not rounded",
+    SmallSlopeOwn: "a loss under the first row that would be another by the velocity's ratio",
+    SmallLimit: "a velocity under the first row that the limit lets through, and not the first row's",
+    SmallCheaper: "a list chosen that costs less than any where small flows take the whole first row",
+    SmallSuits: "a list chosen where none would suit if small flows took the whole first row",
     BetweenRows: "a flow between two rows",
     OneOverLastRow: "13 or 16 with a flow one over a last row",
     AtLimit: "a velocity at the limit",

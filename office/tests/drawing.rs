@@ -15,15 +15,18 @@ use xml::{Element, elements};
 
 const CAT: &str = "size,bore mm,price,flow ml/s,velocity mm/s,slope mm/m\n1,40,900,1,1,1\n1,40,900,3000,1000,40\n\
     2,100,5000,1,1,1\n2,100,5000,1000000,3000,90\n";
+/// The same with the rows of the wide pipe above every flow, as far up as they may begin.
+const HIGH: &str = "size,bore mm,price,flow ml/s,velocity mm/s,slope mm/m\n1,40,900,1,1,1\n1,40,900,3000,1000,40\n\
+    2,100,5000,999999,3000,90\n2,100,5000,1000000,3000,90\n";
 
 /// The drawing of a house with wide pipes, and how many sections it has.
 fn drawn(job: &[u8]) -> (String, usize) {
-    drawn_with(job, &asked(job).2.house)
+    drawn_with(job, CAT, &asked(job).2.house)
 }
 
-/// The same with one tap of these kinds for the house.
-fn drawn_with(job: &[u8], house: &[u8]) -> (String, usize) {
-    let cat = table::pack(CAT).expect("a table");
+/// The same with this table, and with one tap of these kinds for the house.
+fn drawn_with(job: &[u8], cat: &str, house: &[u8]) -> (String, usize) {
+    let cat = table::pack(cat).expect("a table");
     let record = Record::read(job).expect("a record");
     let sizes = vec![2; record.sections.len()];
     let (flow, duty, taps) = asked(job);
@@ -245,8 +248,9 @@ fn no_text_meets_another_or_a_pipe() {
     let jobs = houses();
     let sketched = jobs.iter().flat_map(|job| [NARROW, NONE].map(|cat| sketch_of(job, cat)));
     // The kinds of a house's tap, the longest names that are written out and the most numbers.
-    let named = [&[2, 9][..], &[2, 3, 5, 9, 10]].map(|taps| drawn_with(&short(&packed(&flat())), taps).0);
-    for svg in jobs.iter().map(|job| drawn(job).0).chain(sketched).chain(named) {
+    let named = [&[2, 9][..], &[2, 3, 5, 9, 10]].map(|taps| drawn_with(&short(&packed(&flat())), CAT, taps).0);
+    let high = jobs.iter().map(|job| drawn_with(job, HIGH, &asked(job).2.house).0);
+    for svg in jobs.iter().map(|job| drawn(job).0).chain(high).chain(sketched).chain(named) {
         let all = elements(&svg);
         let texts: Vec<&Element> = all.iter().filter(|element| element.name == "text").collect();
         let (width, height) = (all[0].number("width"), all[0].number("height"));
@@ -361,7 +365,7 @@ fn a_tap_that_sets_the_flow_of_the_house_stands_above_the_drawing() {
     assert!(svg.contains(LEGEND), "{svg}");
     assert!([1, 2].iter().all(|section| !texts_of(&svg, *section).1.contains("tap")));
     assert!(sketch_of(&job, NONE).contains(">pump set: 300 ml/s (one tap of dwelling); without a size"));
-    let (numbered, _) = drawn_with(&job, &[1, 4, 6, 7, 8]);
+    let (numbered, _) = drawn_with(&job, CAT, &[1, 4, 6, 7, 8]);
     assert!(numbered.contains(">pump set: 300 ml/s (one tap of kinds 1, 4, 6, 7 or 8) at "), "{numbered}");
     assert!(numbered.contains(">kinds by number: 1 dwelling, 4 hotel-shared, 6 hotel-25, "), "{numbered}");
     assert!(
@@ -384,4 +388,33 @@ fn a_marked_end_that_dictates_has_its_line() {
     let low = drawn(&packed(&basins_on_the_way())).0;
     assert!(texts_of(&low, 1).0.contains(&"one tap of hotel-100".to_string()), "{low}");
     assert_eq!(height(&low), 130 + 2 * 90 + 18);
+}
+
+const ROW_LEGEND: &str = ">under the first row: the rows of the size begin at a greater flow; velocity and slope are the first row's in \
+    the ratio of the flows, each rounded up<";
+
+/// The mark stands below flow and velocity, behind that of one tap, and ends before its pipe does. 300 ml/s of 999,999 at 3,000 mm/s are
+/// 0.9 mm/s, up to 1.
+#[test]
+fn a_flow_under_the_first_row_is_marked() {
+    let job = packed(&branch(&["hotel-100"]));
+    let (svg, sections) = drawn_with(&job, HIGH, &[]);
+    let mark = "under the first row, 999999 ml/s";
+    let (texts, _) = texts_of(&svg, 1);
+    assert_eq!(texts[2..5], ["300 ml/s  1 mm/s", "one tap of hotel-100", mark]);
+    assert!((2..=sections).all(|section| texts_of(&svg, section).0[3] == mark), "{svg}");
+    assert_eq!((svg.matches(ROW_LEGEND).count(), svg.matches(LEGEND).count()), (1, 1), "{svg}");
+    let all = elements(&svg);
+    assert!(all.iter().filter(|text| text.text == mark).all(|text| width(text) <= 240 - 14), "{svg}");
+    let plain = drawn(&job).0 + &drawn(&houses()[0]).0;
+    assert!(!plain.contains("first row"), "{plain}");
+}
+
+/// Also where some section has no size. The wing of the hotel has 339, 237 and 275 ml/s, and the others more than 400.
+#[test]
+fn a_house_that_no_size_serves_has_the_mark_too() {
+    let svg = sketch_of(&houses()[0], &NARROW.replacen("1,20,900,1,1,1", "1,20,900,350,1,1", 1));
+    assert_eq!(svg.matches(">under the first row, 350 ml/s<").count(), 3, "{svg}");
+    assert!(texts_of(&svg, 10).0[2..] == ["339 ml/s  1 mm/s", "under the first row, 350 ml/s"], "{svg}");
+    assert!(svg.contains("NO SIZE SERVES section 1, 2, 3, 4, 5, 6, 7, 8, 9<") && svg.contains(ROW_LEGEND), "{svg}");
 }

@@ -340,12 +340,12 @@ fn help_on_what_there_is_not_says_what_there_is() {
 fn versions_a_line_each() {
     let version = env!("CARGO_PKG_VERSION");
     let wanted =
-        format!("command {version}\nlibrary {version}\nspecification document 01 with L1 to L5 of document 02\n");
+        format!("command {version}\nlibrary {version}\nspecification document 01 with L1 to L6 of document 02\n");
     assert_eq!(answered(&["--version"]), wanted);
     let parsed = json::parse(&answered(&["--version", "--json"]));
     assert_eq!(parsed.get("command_version"), &Value::Text(version.into()));
     assert_eq!(parsed.get("library_version"), &Value::Text(version.into()));
-    assert_eq!(parsed.get("specification"), &Value::Text("document 01 with L1 to L5 of document 02".into()));
+    assert_eq!(parsed.get("specification"), &Value::Text("document 01 with L1 to L6 of document 02".into()));
     misused(office(&["flow", "examples/house.txt", "--version"]), "`--version` stands alone");
     misused(office(&["--version", "please"]), "`--version` takes no words, but `please` is given");
 }

@@ -336,8 +336,8 @@ fn losses_refuses_as_rate_does() {
 /// `one tap of` stands behind a flow as in `rate`, with what it means.
 #[test]
 fn the_table_of_losses_marks_one_tap() {
-    let lost = office(&["losses", "examples/mixed.txt", TABLE, "6,6,6,6,6,6,6"]).text();
-    let rated = office(&["rate", "examples/mixed.txt", TABLE, "6,6,6,6,6,6,6"]).text();
+    let lost = office(&["losses", "examples/mixed.txt", TABLE, "4,4,4,3,1,1,1"]).text();
+    let rated = office(&["rate", "examples/mixed.txt", TABLE, "4,4,4,3,1,1,1"]).text();
     for text in [&lost, &rated] {
         assert!(text.contains("flow: one tap of hotel-100\n") && text.contains("\none tap of a kind: "), "{text}");
     }

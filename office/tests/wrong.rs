@@ -1,9 +1,10 @@
-//! Wrong programs of document 02's request L4, which the generated cases must tell from the papers' one. Each differs from the model in
-//! one thing. If no case showed it, the comparison with the library would let such a library pass.
+//! Wrong programs of document 02's requests L4 and L6, which the generated cases must tell from the papers' one. Each differs from the
+//! model in one thing. If no case showed it, the comparison with the library would let such a library pass.
 
 use office::case::{Call, Case};
 use office::generate;
 use office::model::bytes::{put, up};
+use office::model::catalogue::{Reading, Row};
 use office::model::demand::Demand;
 use office::model::faults::{Faults, LAST};
 use office::model::heat::{Asked, MOST_LOSS, MOST_T};
@@ -94,18 +95,51 @@ fn day(case: &Case, judged: &Judged, norm: fn(i128, usize) -> Norm) -> Option<An
     (case.call == Call::Flow && judged.number == 0).then(|| (0, given()))
 }
 
+/// A flow that is under a first row, and what is read there.
+type SmallReading = fn(i128, &Row) -> Reading;
+
+/// The losses call that reads flows under the first row so.
+fn losses(case: &Case, judged: &Judged, small: SmallReading) -> Option<Answer> {
+    (case.call == Call::Losses && [0, 13].contains(&judged.number)).then_some(())?;
+    let house = &judged.house;
+    let mut bytes = Vec::new();
+    for ((flow, t), section) in judged.flows.iter().zip(&case.sizes).zip(&house.sections) {
+        let size = &judged.cat.sizes[usize::from(*t) - 1];
+        let first = &size.rows[0];
+        let read = if *flow < first.flow { Some(small(*flow, first)) } else { size.read(*flow) };
+        let Some(reading) = read.filter(|reading| reading.velocity <= house.limit) else {
+            return Some((13, Vec::new()));
+        };
+        put(&mut bytes, *flow, 4);
+        put(&mut bytes, reading.velocity, 2);
+        put(&mut bytes, up(reading.slope * section.length * (10 + house.k), 1_000), 4);
+    }
+    Some((0, bytes))
+}
+
+/// The part of a first row's value that a flow has, up.
+fn part(flow: i128, first: &Row, value: i128) -> i128 {
+    up(flow * value, first.flow)
+}
+
 fn is_two(case: &Case) -> bool {
     case.job.get(4) == Some(&2)
 }
 
 /// Right ones, by the same means: what a wrong one differs in is what it is named after.
-const RIGHT: [(&str, Program); 6] = [
+const RIGHT: [(&str, Program); 7] = [
     ("heat", |case, judged| heat(case, judged, |mean, hour, of| [mean, hour].map(|l| watts(l, 55 - of.t) + of.loss))),
     ("heat's order", |case, judged| heat_in_order(case, judged, &[1, 2, 3, 4, 5, 6, 7, 8, 9, 20, 21, 14])),
     ("refusals", |case, judged| refusing(case, judged, 4, case.job.len() != judged.house.record_bytes())),
     ("the job as it is", |case, _| with_job(case, |_| ())),
     ("duty", |case, judged| duty(case, judged, norms::of)),
     ("day", |case, judged| day(case, judged, norms::of)),
+    ("small flows", |case, judged| {
+        losses(case, judged, |flow, first| Reading {
+            velocity: part(flow, first, first.velocity),
+            slope: part(flow, first, first.slope),
+        })
+    }),
 ];
 
 const WRONG_HEATS: [(&str, Program); 14] = [
@@ -219,6 +253,42 @@ const WRONG_LAYOUTS: [(&str, Program); 11] = [
     }),
 ];
 
+const WRONG_READINGS: [(&str, Program); 7] = [
+    ("the whole first row", |case, judged| {
+        losses(case, judged, |_, first| Reading { velocity: first.velocity, slope: first.slope })
+    }),
+    ("the first row's velocity", |case, judged| {
+        losses(case, judged, |flow, first| Reading { velocity: first.velocity, slope: part(flow, first, first.slope) })
+    }),
+    ("the first row's slope", |case, judged| {
+        losses(case, judged, |flow, first| Reading { velocity: part(flow, first, first.velocity), slope: first.slope })
+    }),
+    ("velocity and slope rounded down", |case, judged| {
+        losses(case, judged, |flow, first| Reading {
+            velocity: flow * first.velocity / first.flow,
+            slope: flow * first.slope / first.flow,
+        })
+    }),
+    ("the slope rounded down", |case, judged| {
+        losses(case, judged, |flow, first| Reading {
+            velocity: part(flow, first, first.velocity),
+            slope: flow * first.slope / first.flow,
+        })
+    }),
+    ("the slope by the velocity's ratio", |case, judged| {
+        losses(case, judged, |flow, first| {
+            let velocity = part(flow, first, first.velocity);
+            Reading { velocity, slope: up(velocity * first.slope, first.velocity) }
+        })
+    }),
+    ("the slope by the square of the flows", |case, judged| {
+        losses(case, judged, |flow, first| Reading {
+            velocity: part(flow, first, first.velocity),
+            slope: up(flow * flow * first.slope, first.flow * first.flow),
+        })
+    }),
+];
+
 /// On how many of these cases a program answers otherwise than the model.
 fn differences(cases: &[(Case, Judged)], program: Program) -> usize {
     let differs =
@@ -228,7 +298,7 @@ fn differences(cases: &[(Case, Judged)], program: Program) -> usize {
 
 #[test]
 fn the_generated_cases_tell_wrong_programs() {
-    let cases: Vec<(Case, Judged)> = (0..12_000)
+    let cases: Vec<(Case, Judged)> = (0..24_000)
         .map(|index| generate::case(1, index))
         .map(|case| (judge(&case), case))
         .map(|(j, c)| (c, j))
@@ -238,7 +308,7 @@ fn the_generated_cases_tell_wrong_programs() {
         assert!(cases.iter().any(|(case, judged)| program(case, judged).is_some()), "{name} is never asked");
     }
     let mut unseen = Vec::new();
-    for (name, program) in WRONG_HEATS.iter().chain(&WRONG_NORMS).chain(&WRONG_LAYOUTS) {
+    for (name, program) in WRONG_HEATS.iter().chain(&WRONG_NORMS).chain(&WRONG_LAYOUTS).chain(&WRONG_READINGS) {
         let seen = differences(&cases, *program);
         println!("{seen:6} {name}");
         if seen < 10 {

@@ -131,14 +131,17 @@ required head and which section dictates it. Where the delivered head is too lit
 sections hang from section N, a line says which of those further on asks for the most. N is the number of a section of the
 house, in digits alone.
 
+`under the first row` stands where the rows of a size begin at a greater flow than the section's, with the flow of the first row:
+velocity and slope are then those of that row in the ratio of the flows, each rounded up.
+
 `office losses` and `office heads` give the same in two steps. `office help flow` explains the design flow, and `one tap of`
 behind it.
 
 --json: service, duty_ml_per_s, duty_one_tap_kinds, hour_l_per_h, day_l, mean_hour_l_per_h, local_losses_tenths, cost_tenths (in
 tenths of the price unit), sizes, suits, required_head_cm, pump_head_cm, guaranteed_head_cm, delivered_head_cm,
-dictating_section, sections (section, parent, size, bore_mm, length_dm, flow_ml_per_s, one_tap_kinds, velocity_mm_per_s,
-loss_cm, head_left_cm, free_head_cm); with --walk also walk (section, turns (section, loss_cm, sum_cm), path_loss_cm,
-meter_loss_cm, elevation_cm, free_head_cm, asked_head_cm).",
+dictating_section, sections (section, parent, size, bore_mm, length_dm, flow_ml_per_s, one_tap_kinds, under_first_row (true or
+false), velocity_mm_per_s, loss_cm, head_left_cm, free_head_cm); with --walk also walk (section, turns (section, loss_cm, sum_cm),
+path_loss_cm, meter_loss_cm, elevation_cm, free_head_cm, asked_head_cm).",
     },
     Command {
         name: "losses",
@@ -160,10 +163,10 @@ a greater one for now.
 office losses house.txt table.csv 2,2,1,1 --json | office heads house.txt -
 `show` makes a readable list of it, in which losses that were measured can be put.
 
-`office help flow` explains the design flow, and `one tap of` behind it.
+`office help flow` explains the design flow, and `one tap of` behind it, `office help rate` explains `under the first row`.
 
 --json: service, local_losses_tenths, sizes, sections (section, parent, size, bore_mm, length_dm, flow_ml_per_s, one_tap_kinds,
-velocity_mm_per_s, loss_cm).",
+under_first_row, velocity_mm_per_s, loss_cm).",
     },
     Command {
         name: "heads",
@@ -219,7 +222,8 @@ meter_loss_cm, elevation_cm, free_head_cm, asked_head_cm).",
         text: "\
 JOB is a readable house or a job record, CAT a readable table or a catalogue. The answer is a cheapest list of sizes that
 suits, rated; which of equally cheap lists comes is left free. Its line `sizes` can be given to `rate`, `losses` and `draw`.
-`office help rate` explains the heads and the dictating section, `office help flow` the design flow and `one tap of` behind it.
+`office help rate` explains the heads and the dictating section, and `under the first row`; `office help flow` explains the design
+flow, and `one tap of` behind it.
 
 --json: as `rate`.",
     },
@@ -256,8 +260,9 @@ JOB, CAT and SIZES as for `rate`; without SIZES a cheapest list is drawn. Where 
 line. The pump is at the left. Each pipe has its number, bore, size and length above it, flow, velocity and loss below it, and the
 head left at its end against the free head. The dictating path is red and wide. Below a flow that one tap sets (`office help flow`)
 stand the tap's kinds, in brackets behind the flow of the pump set where it is the house's; where their names don't fit, their
-numbers (`office kinds`) stand there, with the names at the foot and under a pointer that rests on the section. Where no list suits
-(refusal 16, status 1) the house is drawn all the same, and the refusal stands on standard error.",
+numbers (`office kinds`) stand there, with the names at the foot and under a pointer that rests on the section. Below a flow that is
+under the first row of its size (`office help rate`) stands the flow of that row. Where no list suits (refusal 16, status 1) the house
+is drawn all the same, and the refusal stands on standard error.",
     },
     Command {
         name: "kinds",

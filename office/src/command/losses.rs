@@ -55,9 +55,10 @@ impl Lost {
 
     fn chart(&self) -> String {
         let marked = self.demand.taps.sections.iter().any(|kinds| !kinds.is_empty());
-        let (table, legend) = (sections::table(&self.pipes, Known::Sizes), legend(marked));
+        let table = sections::table(&self.pipes, Known::Sizes);
+        let (tap, row) = (legend(marked), sections::legend(&self.pipes));
         let service = self.demand.service.map(|service| format!("service  {}\n", service::name(service)));
-        format!("{}{}\n{table}{LEGEND}{legend}", sizes_line(&self.sizes), service.unwrap_or_default())
+        format!("{}{}\n{table}{LEGEND}{tap}{row}", sizes_line(&self.sizes), service.unwrap_or_default())
     }
 }
 

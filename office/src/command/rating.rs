@@ -76,8 +76,9 @@ impl Rated {
         rows.push(("cost", format!("{}.{}", self.cost / 10, self.cost % 10), "price units".to_string()));
         rows.extend(required::figures(&self.record, &heads));
         let (set, sizes) = (required::set(&self.demand, &heads), sizes_line(&self.sizes));
-        let (table, legend) = (sections::table(&self.pipes, Known::SizesAndHeads), legend(self.demand.taps.any()));
-        format!("{set}{}{sizes}\n{table}{legend}", figures(&rows))
+        let table = sections::table(&self.pipes, Known::SizesAndHeads);
+        let (tap, row) = (legend(self.demand.taps.any()), sections::legend(&self.pipes));
+        format!("{set}{}{sizes}\n{table}{tap}{row}", figures(&rows))
     }
 }
 

@@ -5,7 +5,7 @@ use super::charts::{Column, chart, number, words};
 use super::json::Json;
 use super::network::{from, kinds_of};
 use office::kinds;
-use office::pipes::Pipe;
+use office::pipes::{Pipe, UNDER_FIRST_ROW};
 use office::taps;
 
 /// What is known of the sections beside their flows and losses.
@@ -39,7 +39,7 @@ type Shown = (About, Column, fn(&Pipe) -> String);
 /// A key of a section's object and its value.
 type Keyed = (About, &'static str, fn(&Pipe) -> Json);
 
-/// Last stands the tap that sets a flow, where the columns of numbers are not parted by it.
+/// Last stands what is to be said of a flow, where the columns of numbers are not parted by it.
 const COLUMNS: &[Shown] = &[
     (About::Section, number("section", ""), |pipe| pipe.number.to_string()),
     (About::Section, words("from"), |pipe| from(pipe.section.parent)),
@@ -55,7 +55,7 @@ const COLUMNS: &[Shown] = &[
     (About::Head, number("left", "cm"), |pipe| pipe.left.to_string()),
     (About::Head, number("free", "cm"), |pipe| pipe.section.free.to_string()),
     (About::Head, words(""), mark),
-    (About::Section, words(""), tap),
+    (About::Section, words(""), remarks),
 ];
 
 /// The dictating path, and an end with less than its free head.
@@ -64,8 +64,10 @@ fn mark(pipe: &Pipe) -> String {
     format!("{}{}", if pipe.dictating { "*" } else { "" }, if short { " SHORT" } else { "" })
 }
 
-fn tap(pipe: &Pipe) -> String {
-    if pipe.taps.is_empty() { String::new() } else { format!("flow: {}", taps::words(&pipe.taps)) }
+/// The tap that sets the flow, and where the rows of the size begin above it.
+fn remarks(pipe: &Pipe) -> String {
+    let tap = (!pipe.taps.is_empty()).then(|| format!("flow: {}", taps::words(&pipe.taps)));
+    tap.into_iter().chain(pipe.first_row_mark()).collect::<Vec<_>>().join("; ")
 }
 
 /// One line a section. A star marks the dictating path.
@@ -78,6 +80,11 @@ pub fn table(pipes: &[Pipe], known: Known) -> String {
     format!("{table}{}", if known.has(About::Head) { legend } else { "" })
 }
 
+/// What `under the first row` means, where a line has it.
+pub fn legend(pipes: &[Pipe]) -> String {
+    if pipes.iter().any(Pipe::is_under_first_row) { format!("{UNDER_FIRST_ROW}\n") } else { String::new() }
+}
+
 const KEYS: &[Keyed] = &[
     (About::Section, "section", |pipe| pipe.number.into()),
     (About::Section, "parent", |pipe| pipe.section.parent.into()),
@@ -86,6 +93,7 @@ const KEYS: &[Keyed] = &[
     (About::Section, "length_dm", |pipe| pipe.section.length.into()),
     (About::Section, "flow_ml_per_s", |pipe| pipe.flow.into()),
     (About::Section, "one_tap_kinds", |pipe| kinds_of(&pipe.taps)),
+    (About::Size, "under_first_row", |pipe| Json::Truth(pipe.is_under_first_row())),
     (About::Size, "velocity_mm_per_s", |pipe| pipe.velocity.into()),
     (About::Section, "loss_cm", |pipe| pipe.loss.into()),
     (About::Head, "head_left_cm", |pipe| pipe.left.into()),

@@ -67,7 +67,8 @@ A table has a header, and below it one line for each row of a size:
 const COLUMNS: &str = "\
 Columns stand in any order, parted by commas, semicolons or tabs; a column `notes` is skipped. Sizes are numbered from the
 narrowest bore on, from 1 without a gap, and all have equally many rows. In a size the flows rise from row to row, and
-velocities and slopes don't fall. All numbers are whole.
+velocities and slopes don't fall. All numbers are whole. Between two rows velocity and slope go by the straight line, under the
+first row by the line from zero; a flow over the last row is not served.
 ";
 
 const METERS: &str = "\

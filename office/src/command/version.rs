@@ -9,7 +9,7 @@ use super::report::{self, Fields};
 /// The library is the archive of the crate `order`, which is linked into the command and delivered with it, so both have the
 /// package's version.
 const PACKAGE: &str = env!("CARGO_PKG_VERSION");
-const SPECIFICATION: &str = "document 01 with L1 to L5 of document 02";
+const SPECIFICATION: &str = "document 01 with L1 to L6 of document 02";
 
 /// What has a version: its name in words, its key in JSON, its version.
 const VERSIONS: &[(&str, &str, &str)] = &[

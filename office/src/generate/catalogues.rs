@@ -32,9 +32,11 @@ pub fn catalogue(rng: &Rng, measure: &Measure) -> Vec<DraftSize> {
         }
         let last = if real && !rng.once_in(8) { most + rng.between(0, most) } else { rng.between(rows, 2 * most) };
         let share = if real { count - place } else { rng.between(1, count) };
-        let velocity = (measure.limit * share * 3 / (2 * count)).clamp(1, 65_535);
-        let slope = (measure.slope * share * share / count).clamp(1, 65_535);
-        let flows = flows(rng, rows, last, measure);
+        // Of a wide pipe the rows begin far above the house's flows, so many times as far up in all columns.
+        let times = if rng.once_in(8) { rng.between(2, 50) } else { 1 };
+        let velocity = (times * measure.limit * share * 3 / (2 * count)).clamp(1, 65_535);
+        let slope = (times * measure.slope * share * share / count).clamp(1, 65_535);
+        let flows = flows(rng, rows, times * last, measure);
         let velocities = rising(rng, rows, velocity);
         let slopes = rising(rng, rows, slope);
         let rows = flows.into_iter().zip(velocities).zip(slopes);

@@ -24,7 +24,8 @@ pub fn with_meter_loss(bytes: &[u8], loss: u16) -> Option<Vec<u8>> {
 fn number(content: &str) -> Option<(Range<usize>, u32)> {
     let start = content.find(|c: char| c.is_ascii_digit())?;
     let length = content[start..].find(|c: char| !c.is_ascii_digit() && c != '.')?;
-    let behind = content[start + length..].trim_start().to_lowercase();
+    // A semicolon at the end of a word counts as a blank.
+    let behind = content[start + length..].trim_start_matches(|c: char| c == ';' || c.is_whitespace()).to_lowercase();
     let unit: String = behind.chars().take_while(|c| c.is_alphabetic()).collect();
     Some((start..start + length, measure::METER.power(&unit)?))
 }
@@ -50,6 +51,8 @@ mod tests {
             ("meter loss 0.50 m", "meter loss 2.11 m"),
             ("METER LOSS: 12 М# Ж", "METER LOSS: 2.11 М# Ж"),
             ("meter loss:0.5m;", "meter loss:2.11m;"),
+            ("meter loss 50; cm", "meter loss 211; cm"),
+            ("meter loss; 0.5;\tm;", "meter loss; 2.11;\tm;"),
         ] {
             let [before, after] = [from, to].map(|line| HOUSE.replace("meter loss 50 cm # as built", line));
             for end in ["\n", "\r\n", "\r"] {

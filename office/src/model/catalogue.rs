@@ -73,21 +73,22 @@ impl Size {
             })
     }
 
-    /// By the straight line between the rows on either side; `None` where the flow is over the last row.
+    /// By the straight line between the rows on either side, under the first row by the one from zero to it; `None` where the
+    /// flow is over the last row.
     pub fn read(&self, flow: i128) -> Option<Reading> {
         let high = self.rows.iter().find(|row| flow <= row.flow)?;
-        let low = self.rows.iter().rev().find(|row| row.flow <= flow);
-        let line = |of: fn(&Row) -> i128| match low {
-            Some(low) if low.flow < high.flow => {
-                let (from, to) = (flow - low.flow, high.flow - flow);
-                up(of(low) * to + of(high) * from, high.flow - low.flow)
-            }
-            // At a row the row itself, under the first row the first.
-            _ => of(high),
+        let low = self.rows.iter().rev().find(|row| row.flow <= flow).unwrap_or(&ZERO);
+        let line = |of: fn(&Row) -> i128| match high.flow - low.flow {
+            // At a row the row itself.
+            0 => of(high),
+            apart => up(of(low) * (high.flow - flow) + of(high) * (flow - low.flow), apart),
         };
         Some(Reading { velocity: line(|row| row.velocity), slope: line(|row| row.slope) })
     }
 }
+
+/// Where the line to a first row starts.
+const ZERO: Row = Row { flow: 0, velocity: 0, slope: 0 };
 
 fn size(cat: &[u8], from: usize, rows: usize) -> Size {
     let row = |place: usize| {

@@ -11,16 +11,14 @@ pub struct Reading {
     pub slope: u64,
 }
 
-/// Velocity and slope by the straight line, each up; under the first row the first row; over the last none.
+/// Velocity and slope by the straight line, each up; the line to the first row comes from zero; over the last row none.
 pub fn read(size: &Size, flow: u32) -> Option<Reading> {
-    let first = size.rows.first()?;
-    if flow <= first.flow {
-        return Some(Reading { velocity: first.velocity.into(), slope: first.slope.into() });
-    }
-    let pair = size.rows.windows(2).find(|pair| pair[0].flow < flow && flow <= pair[1].flow)?;
+    let zero = Row::default();
+    let mut lines = std::iter::once(&zero).chain(&size.rows).zip(&size.rows);
+    let (low, high) = lines.find(|(low, high)| low.flow < flow && flow <= high.flow)?;
     Some(Reading {
-        velocity: between(flow, &pair[0], &pair[1], |row| row.velocity),
-        slope: between(flow, &pair[0], &pair[1], |row| row.slope),
+        velocity: between(flow, low, high, |row| row.velocity),
+        slope: between(flow, low, high, |row| row.slope),
     })
 }
 
@@ -28,6 +26,11 @@ fn between(flow: u32, low: &Row, high: &Row, value: impl Fn(&Row) -> u16) -> u64
     let (from, to) = (u64::from(value(low)), u64::from(value(high)));
     let rise = to.saturating_sub(from) * u64::from(flow - low.flow);
     from + rise.div_ceil(u64::from(high.flow - low.flow))
+}
+
+/// The flow of a size's first row.
+pub fn first(size: &Size) -> u32 {
+    size.rows.first().map_or(0, |row| row.flow)
 }
 
 /// The last flow that a size serves.

@@ -21,7 +21,7 @@ fn place(house: &House) -> usize {
 }
 
 /// More sections than this are not chosen for a second time, so that the count takes no longer than the comparison.
-const FEW: usize = 12;
+pub(super) const FEW: usize = 12;
 
 impl Counters {
     /// Counts a job of version 1 to which version 2 with service 0 gives the same number and the same figures.

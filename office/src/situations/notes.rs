@@ -40,6 +40,7 @@ impl Counters {
         }
         if case.call.takes_catalogue() && (1..=12).all(|number| !judged.faults.has(number)) {
             self.note_readings(case, judged);
+            self.note_small_flows(case, judged);
         }
         if judged.number == 16 {
             self.note_none(judged);
