@@ -14,7 +14,7 @@ use crate::rivals::dense::{Dense, Form};
 use crate::rivals::fronts::Fronts;
 use crate::rivals::ranges::Ranges;
 use crate::rivals::tree::{Found, Tree};
-use houses::{Pipes, catalogue, hot_line, house, losses, meters};
+use houses::{Pipes, catalogue, hot_line, house, losses, meters, raise_rows};
 use std::fmt::Write;
 use std::hint::black_box;
 use timing::{Side, Spread, micros, race};
@@ -63,6 +63,8 @@ enum On {
     HotLine,
     /// All sections in one line, so that no house of as many has longer ways to the pump.
     Chain,
+    /// The house with every row of the table above every flow.
+    SmallFlows,
 }
 
 impl On {
@@ -71,6 +73,7 @@ impl On {
             On::House => "",
             On::HotLine => " of a hot line",
             On::Chain => " of a chain",
+            On::SmallFlows => " of small flows",
         }
     }
 
@@ -83,12 +86,13 @@ impl On {
 }
 
 /// The calls that are timed against the model alone, in the order of their lines, and on what.
-const OTHER_CALLS: [(Call, On); 9] = [
+const OTHER_CALLS: [(Call, On); 10] = [
     (Call::Flow, On::House),
     (Call::Flow, On::HotLine),
     (Call::Meter, On::House),
     (Call::Rate, On::House),
     (Call::Rate, On::Chain),
+    (Call::Rate, On::SmallFlows),
     (Call::Losses, On::House),
     (Call::Heads, On::House),
     (Call::Heads, On::Chain),
@@ -158,8 +162,10 @@ fn side(cost: i128, mut search: impl FnMut() -> Found) -> impl FnMut() {
 fn other_case(call: Call, on: On, sections: usize) -> Case {
     let mut case = Load { sections, head: 3_000, sizes: 12, pipes: on.pipes() }.case();
     case.call = call;
-    if on == On::HotLine {
-        case.job = hot_line(&case.job);
+    match on {
+        On::HotLine => case.job = hot_line(&case.job),
+        On::SmallFlows => raise_rows(&mut case.cat),
+        On::House | On::Chain => {}
     }
     match call {
         Call::Flow => case.cat.clear(),
@@ -236,6 +242,16 @@ mod tests {
                 assert_eq!((judge(&case).number, lent(&case, &mut out)), (0, 0), "{} {sections}", call.name());
                 assert!(out.iter().any(|byte| *byte != 0), "{} {sections}", call.name());
             }
+        }
+    }
+
+    #[test]
+    fn small_flows_are_under_every_first_row() {
+        for sections in [8, 32, 63] {
+            let judged = judge(&other_case(Call::Rate, On::SmallFlows, sections));
+            let order = judged.order();
+            let first = order.cat.sizes.iter().map(|size| size.rows[0].flow).min();
+            assert!(order.flows.iter().all(|flow| Some(*flow) < first), "{sections} sections");
         }
     }
 
