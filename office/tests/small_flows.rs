@@ -247,28 +247,65 @@ fn the_words_stand_beside_the_others() {
     }
 }
 
-/// `heads`, `show` and `pack` take an answer with the key and one from before there was one, and make the same of both.
+/// What is said of an answer that does not have the key in every section.
+const WHOLE_ROWS: &str = "warning: standard input, list of losses: the answer does not say of each section whether its flow is under the \
+    first row of its size; such an answer goes by a reading in which a flow under the first row takes the whole first row, so that \
+    losses may be too great: make it anew with `office losses`\n";
+const TAKING: [&[&str]; 4] =
+    [&["heads", BASIN, "-"], &["heads", BASIN, "-", "--walk", "1"], &["show", "-"], &["pack", "-"]];
+
+/// `heads`, `show` and `pack` take an answer with the key without a word. One from before there was the key has the whole first row,
+/// 800 mm/s and 40 × 800 × 13 / 1,000 cm, and is taken with a warning, and with `--strict` not at all.
 #[test]
 fn an_answer_is_taken_with_and_without_the_key() {
     for words in
         [&["losses", BASIN, OWN_TABLE, "1"][..], &["rate", BASIN, OWN_TABLE, "1"], &["choose", BASIN, OWN_TABLE]]
     {
         let answer = answered(&[words, &["--json"]].concat());
-        let older = put(&answer, "\"under_first_row\":true,", "");
-        for taking in
-            [&["heads", BASIN, "-"][..], &["heads", BASIN, "-", "--walk", "1"], &["show", "-"], &["pack", "-"]]
-        {
-            let [own, without] = [&answer, &older].map(|text| office_with(taking, text.as_bytes()));
-            assert_eq!((own.status, own.error.as_str()), (0, ""), "{taking:?}");
-            assert_eq!((without.status, &without.output), (0, &own.output), "{taking:?}");
+        let figures = "\"under_first_row\":true,\"velocity_mm_per_s\":112,\"loss_cm\":63";
+        let older = put(&answer, figures, "\"velocity_mm_per_s\":800,\"loss_cm\":416");
+        for taking in TAKING {
+            let strict = [taking, &["--strict"]].concat();
+            let ran = office_with(&strict, answer.as_bytes());
+            assert_eq!((ran.status, ran.error.as_str()), (0, ""), "{taking:?}");
+            let ran = office_with(taking, older.as_bytes());
+            assert_eq!((ran.status, ran.error.as_str()), (0, WHOLE_ROWS), "{taking:?}");
+            let ran = office_with(&strict, older.as_bytes());
+            assert!(ran.status == 2 && ran.output.is_empty() && ran.error.starts_with(WHOLE_ROWS), "{taking:?}");
         }
-        let headed = office_with(&["heads", BASIN, "-"], answer.as_bytes()).text();
-        assert!(
-            headed.contains("\nrequired head: meter loss 50 + elevation 600 + free head 200 + losses 63 = 913 cm\n")
-        );
-        assert!(!headed.contains("first row"), "no size is read for given losses: {headed}");
-        assert_eq!(office_with(&["pack", "-"], answer.as_bytes()).output, [0, 0, 0, 63]);
+        for (text, lost, required) in [(&answer, 63, 913), (&older, 416, 1_266)] {
+            let headed = office_with(&["heads", BASIN, "-"], text.as_bytes()).text();
+            let sum = format!("meter loss 50 + elevation 600 + free head 200 + losses {lost} = {required} cm\n");
+            assert!(headed.contains(&sum), "{headed}");
+            assert!(!headed.contains("first row"), "no size is read for given losses: {headed}");
+            assert_eq!(office_with(&["pack", "-"], text.as_bytes()).output, u32::to_be_bytes(lost));
+        }
     }
+}
+
+/// One warning for all sections, also where some have the key. It goes on with the answer of `heads`, which itself has no such key, nor
+/// has a list. What is neither true nor false is refused.
+#[test]
+fn an_answer_that_lacks_the_key_in_some_sections_lacks_it() {
+    let answer = answered(&["losses", HOUSE, TABLE, WIDE, "--json"]);
+    let key = "\"under_first_row\":true,";
+    let [some, none] = [put(&answer, key, ""), answer.replace(key, "").replace("\"under_first_row\":false,", "")];
+    for older in [&some, &none] {
+        let ran = office_with(&["heads", HOUSE, "-", "--json"], older.as_bytes());
+        assert_eq!((ran.status, ran.error.as_str()), (0, WHOLE_ROWS));
+        assert_eq!(json::parse(&ran.text()).list("warnings").len(), 1);
+        let again = office_with(&["heads", HOUSE, "-"], &ran.output);
+        let repeated = WHOLE_ROWS.replacen("warning: ", "warning: standard input comes with this warning: ", 1);
+        assert_eq!((again.status, again.error), (0, repeated));
+    }
+    let own = office_with(&["heads", HOUSE, "-", "--json"], answer.as_bytes());
+    let list = office_with(&["show", "-"], answer.as_bytes());
+    for taken in [&own.output, &list.output] {
+        let ran = office_with(&["heads", HOUSE, "-"], taken);
+        assert!(ran.status == 0 && !ran.error.contains("first row"), "{}", ran.error);
+    }
+    let odd = office_with(&["heads", HOUSE, "-"], put(&answer, key, "\"under_first_row\":1,").as_bytes());
+    assert!(odd.status == 2 && odd.error.contains("`under_first_row` is neither true nor false"), "{}", odd.error);
 }
 
 /// 13 goes by the line from zero: 112 mm/s in size 1, where the first row has 800.
