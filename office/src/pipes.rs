@@ -2,7 +2,7 @@
 
 use crate::calls::{Flow, Rating, SectionLoss};
 use crate::catalogue::{Catalogue, Size};
-use crate::places::{first_row, gentlest, reading};
+use crate::places::{first_row_mark, gentlest, reading};
 use crate::record::{Record, Section};
 use crate::taps::Taps;
 use crate::walk::{Turn, walk};
@@ -54,13 +54,13 @@ impl Pipe {
 
     /// The same in words, where it is so.
     pub fn first_row_mark(&self) -> Option<String> {
-        self.is_under_first_row().then(|| format!("under the first row, {} ml/s", self.first_row))
+        first_row_mark(self.flow, self.first_row)
     }
 
     /// Gives it a size of the table.
     fn put_size(&mut self, number: u8, of_table: &Size) {
         (self.size, self.bore, self.price) = (number, of_table.bore, of_table.price);
-        self.first_row = first_row(of_table);
+        self.first_row = of_table.first_flow();
     }
 }
 

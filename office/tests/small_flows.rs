@@ -11,7 +11,7 @@ use json::Value;
 use lists::put;
 use office::catalogue::Catalogue;
 use office::model::catalogue::Catalogue as Model;
-use office::places::{first_row, reading};
+use office::places::reading;
 use office::{Choice, Rated, Refusal, calls, house, table};
 use run::{office, office_with, read};
 
@@ -131,7 +131,7 @@ fn the_cheapest_list_goes_by_the_line_from_zero() {
 fn readings_around_the_first_row() {
     let cat = own_table();
     let (own, model) = (Catalogue::read(&cat).expect("a catalogue"), Model::of(&cat));
-    assert_eq!(first_row(&own.sizes[0]), 1_000);
+    assert_eq!((own.sizes[0].first_flow(), own.sizes[0].last_flow()), (1_000, 3_000));
     for (flow, wanted) in [
         (1, Some((1, 1))),
         (2, Some((2, 1))),
@@ -314,7 +314,8 @@ fn a_size_that_is_too_fast_by_the_line_from_zero() {
     let limited = |limit: u16| basin("velocity limit  1500 mm/s", &format!("velocity limit {limit} mm/s"));
     for command in ["rate", "losses"] {
         let refused = office_with(&[command, "-", OWN_TABLE, "1"], limited(111).as_bytes());
-        let place = "line 13, section 1: velocity 112 mm/s at 140 ml/s in size 1 passes the limit of 111 mm/s\n";
+        let place = "line 13, section 1: velocity 112 mm/s at 140 ml/s in size 1 (under the first row, 1000 ml/s) passes the limit of \
+            111 mm/s\n";
         assert!(refused.status == 1 && refused.text().starts_with("refused 13: "), "{}", refused.text());
         assert!(refused.text().ends_with(place), "{}", refused.text());
         for limit in [112, 799] {
@@ -324,8 +325,8 @@ fn a_size_that_is_too_fast_by_the_line_from_zero() {
     // Of both sizes the second has the least velocity, 70 mm/s: 140,000 cubic mm a second at 69 mm/s take 2,029 square mm, a bore of
     // 50.8 mm.
     let refused = office_with(&["choose", "-", OWN_TABLE], limited(69).as_bytes()).text();
-    let place = "section 1: no size serves it: at 140 ml/s the least velocity is 70 mm/s, in size 2 (50 mm), and the limit is 69 mm/s; a \
-        bore of about 51 mm would do\n";
+    let place = "section 1: no size serves it: at 140 ml/s the least velocity is 70 mm/s, in size 2 (50 mm; under the first row, 1000 \
+        ml/s), and the limit is 69 mm/s; a bore of about 51 mm would do\n";
     assert!(refused.starts_with("refused 16: ") && refused.ends_with(place), "{refused}");
     let chosen = office_with(&["choose", "-", OWN_TABLE], limited(70).as_bytes());
     assert!(chosen.status == 0 && chosen.text().contains("\nsizes  2\n"), "{}", chosen.text());
@@ -362,6 +363,10 @@ fn the_help_and_the_page_explain_the_words() {
     for topic in ["losses", "choose"] {
         let text = unfolded(topic);
         assert!(text.contains("`under the first row`") && text.contains("`office help rate`"), "{text}");
+    }
+    for topic in ["13", "16"] {
+        let text = unfolded(topic);
+        assert!(text.contains("the message has `under the first row` (`office help rate`)"), "{text}");
     }
     assert!(unfolded("losses").contains("under_first_row, velocity_mm_per_s"));
     assert!(unfolded("files").contains("under the first row by the line from zero"));

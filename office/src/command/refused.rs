@@ -14,7 +14,8 @@ use office::places::{Asked, Heating, Place, places};
 use office::readable;
 use office::record::Record;
 use office::warnings::{
-    by_whole_first_rows, commented_out, of_no_line, off_heat, off_hours, off_losses, off_service, off_velocity, warnings,
+    by_whole_first_rows, commented_out, of_no_line, off_heat, off_hours, off_losses, off_service, off_velocity,
+    warnings,
 };
 use office::which::Which;
 use office::{Flow, Refusal, calls};
