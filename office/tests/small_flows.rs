@@ -84,7 +84,7 @@ sizes  1
 
 section  from  kind     size  bore  length  flow  velocity  loss  left  free
                                 mm       m  ml/s      mm/s    cm    cm    cm
-      1  pump  offices     1    40    80.0   140       112    63   487   200  *  under the first row, 1000 ml/s
+      1  pump  offices     1    40    80.0   140       112    63   487   200  *  flow: under the first row, 1000 ml/s
 left: head left at the end when the delivered head is delivered; * lies on the dictating path
 ";
     assert_eq!(answered(&["choose", BASIN, OWN_TABLE, "--strict"]), format!("{wanted}{LEGEND}"));
@@ -94,7 +94,7 @@ sizes  1
 
 section  from  kind     size  bore  length  flow  velocity  loss
                                 mm       m  ml/s      mm/s    cm
-      1  pump  offices     1    40    80.0   140       112    63  under the first row, 1000 ml/s
+      1  pump  offices     1    40    80.0   140       112    63  flow: under the first row, 1000 ml/s
 loss: what the section's own pipe loses at its flow, with its local losses; `office heads` gives the heads with such losses
 ";
     assert_eq!(answered(&["losses", BASIN, OWN_TABLE, "1", "--strict"]), format!("{wanted}{LEGEND}"));
@@ -195,7 +195,7 @@ fn only_the_lines_under_it_are_marked() {
             [(10, "   339        95     3"), (11, "   237        67     1"), (12, "   275        77     2")]
         {
             let line = line(text, section);
-            assert!(line.contains(figures) && line.ends_with("  under the first row, 800 ml/s"), "{line}");
+            assert!(line.contains(figures) && line.ends_with("  flow: under the first row, 800 ml/s"), "{line}");
         }
         assert_eq!(text.matches("under the first row, ").count(), 3, "{text}");
         assert!(text.ends_with(LEGEND) && text.matches("under the first row: ").count() == 1, "{text}");
@@ -215,7 +215,7 @@ fn no_mark_at_the_first_row() {
         for command in ["rate", "losses"] {
             let words = [command, BASIN, "-", "1"];
             let text = office_with(&words, cat.as_bytes()).text();
-            let mark = format!("  under the first row, {first} ml/s");
+            let mark = format!("  flow: under the first row, {first} ml/s");
             assert_eq!((line(&text, 1).ends_with(&mark), text.ends_with(LEGEND)), (marked, marked), "{text}");
             assert!(marked || !text.contains("first row"), "{text}");
             let printed = office_with(&[&words[..], &["--json"]].concat(), cat.as_bytes()).text();
@@ -233,17 +233,17 @@ fn no_mark_at_the_first_row() {
 fn the_words_stand_beside_the_others() {
     let low = basin("delivered head  1200 cm", "delivered head 900 cm");
     let text = office_with(&["rate", "-", OWN_TABLE, "1"], low.as_bytes()).text();
-    assert!(line(&text, 1).ends_with("   187   200  * SHORT  under the first row, 1000 ml/s"), "{text}");
+    assert!(line(&text, 1).ends_with("   187   200  * SHORT  flow: under the first row, 1000 ml/s"), "{text}");
     for command in ["rate", "losses"] {
         let text = answered(&[command, MIXED, TABLE, WIDE_MIXED]);
-        let both = "  flow: one tap of hotel-100; under the first row, 800 ml/s";
+        let both = "  flow: under the first row, 800 ml/s; one tap of hotel-100";
         assert!(
-            line(&text, 5).ends_with(both) && line(&text, 6).ends_with("  under the first row, 800 ml/s"),
+            line(&text, 5).ends_with(both) && line(&text, 6).ends_with("  flow: under the first row, 800 ml/s"),
             "{text}"
         );
         assert!(text.contains("the flow is what it draws\nunder the first row: ") && text.ends_with(LEGEND), "{text}");
         // The words begin in one column.
-        assert_eq!(line(&text, 5).find("flow: one tap"), line(&text, 6).find("under the first row"), "{text}");
+        assert_eq!(line(&text, 5).find("flow: under"), line(&text, 6).find("flow: under"), "{text}");
     }
 }
 

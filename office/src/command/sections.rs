@@ -64,10 +64,11 @@ fn mark(pipe: &Pipe) -> String {
     format!("{}{}", if pipe.dictating { "*" } else { "" }, if short { " SHORT" } else { "" })
 }
 
-/// The tap that sets the flow, and where the rows of the size begin above it.
+/// That the rows of the size begin above the flow, and the tap that sets it, which may have many kinds.
 fn remarks(pipe: &Pipe) -> String {
-    let tap = (!pipe.taps.is_empty()).then(|| format!("flow: {}", taps::words(&pipe.taps)));
-    tap.into_iter().chain(pipe.first_row_mark()).collect::<Vec<_>>().join("; ")
+    let tap = (!pipe.taps.is_empty()).then(|| taps::words(&pipe.taps));
+    let all: Vec<String> = pipe.first_row_mark().into_iter().chain(tap).collect();
+    if all.is_empty() { String::new() } else { format!("flow: {}", all.join("; ")) }
 }
 
 /// One line a section. A star marks the dictating path.
