@@ -65,8 +65,8 @@ impl Pipe {
 }
 
 /// What `under the first row` means, for below a table or a drawing in which it stands.
-pub const UNDER_FIRST_ROW: &str = "under the first row: the rows of the size begin at a greater flow; velocity and slope are the first \
-    row's in the ratio of the flows, each rounded up";
+pub const UNDER_FIRST_ROW: &str = "under the first row: the rows of the size begin at a greater flow; velocity is flow x first velocity / \
+    first flow, rounded up, slope likewise";
 
 /// What is known of a house's flows: the library's, and which of them one tap sets.
 type Flows<'a> = (&'a Flow, &'a Taps);

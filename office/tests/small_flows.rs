@@ -24,8 +24,8 @@ const TABLE: &str = "examples/table.csv";
 /// The widest size of the example's table for each section of the house, and of the mixed house.
 const WIDE: &str = "6,6,6,6,6,6,6,6,6,6,6,6";
 const WIDE_MIXED: &str = "6,6,6,6,6,6,6";
-const LEGEND: &str = "under the first row: the rows of the size begin at a greater flow; velocity and slope are the first row's in the \
-    ratio of the flows, each rounded up\n";
+const LEGEND: &str = "under the first row: the rows of the size begin at a greater flow; velocity is flow x first velocity / first flow, \
+    rounded up, slope likewise\n";
 
 fn answered(words: &[&str]) -> String {
     let ran = office(words);
@@ -359,7 +359,10 @@ fn the_help_and_the_page_explain_the_words() {
     let unfolded = |topic: &str| answered(&["help", topic]).split_whitespace().collect::<Vec<_>>().join(" ");
     let rate = unfolded("rate");
     assert!(rate.contains("`under the first row` stands where the rows of a size begin at a greater flow"), "{rate}");
-    assert!(rate.contains("in the ratio of the flows, each rounded up."), "{rate}");
+    assert!(
+        rate.contains("velocity is then flow x first velocity / first flow, rounded up, and slope likewise."),
+        "{rate}"
+    );
     for topic in ["losses", "choose"] {
         let text = unfolded(topic);
         assert!(text.contains("`under the first row`") && text.contains("`office help rate`"), "{text}");

@@ -132,7 +132,7 @@ sections hang from section N, a line says which of those further on asks for the
 house, in digits alone.
 
 `under the first row` stands where the rows of a size begin at a greater flow than the section's, with the flow of the first row:
-velocity and slope are then those of that row in the ratio of the flows, each rounded up.
+velocity is then flow x first velocity / first flow, rounded up, and slope likewise.
 
 `office losses` and `office heads` give the same in two steps. `office help flow` explains the design flow, and `one tap of`
 behind it.
@@ -163,7 +163,7 @@ a greater one for now.
 office losses house.txt table.csv 2,2,1,1 --json | office heads house.txt -
 `show` makes a readable list of it, in which losses that were measured can be put.
 
-`office help flow` explains the design flow, and `one tap of` behind it, `office help rate` explains `under the first row`.
+`office help flow` explains the design flow, and `one tap of` behind it; `office help rate` explains `under the first row`.
 
 --json: service, local_losses_tenths, sizes, sections (section, parent, size, bore_mm, length_dm, flow_ml_per_s, one_tap_kinds,
 under_first_row, velocity_mm_per_s, loss_cm).",
