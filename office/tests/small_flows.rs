@@ -132,6 +132,7 @@ fn readings_around_the_first_row() {
     let cat = own_table();
     let (own, model) = (Catalogue::read(&cat).expect("a catalogue"), Model::of(&cat));
     assert_eq!((own.sizes[0].first_flow(), own.sizes[0].last_flow()), (1_000, 3_000));
+    assert_eq!(reading(&own.sizes[0], 0), None, "no section of an accepted job has it");
     for (flow, wanted) in [
         (1, Some((1, 1))),
         (2, Some((2, 1))),

@@ -3,7 +3,7 @@
 
 use super::charts::{Column, chart, number, words};
 use super::json::Json;
-use super::network::{from, kinds_of};
+use super::network::{from, kinds_of, legend};
 use office::kinds;
 use office::pipes::{Pipe, UNDER_FIRST_ROW};
 use office::taps;
@@ -81,9 +81,10 @@ pub fn table(pipes: &[Pipe], known: Known) -> String {
     format!("{table}{}", if known.has(About::Head) { legend } else { "" })
 }
 
-/// What `under the first row` means, where a line has it.
-pub fn legend(pipes: &[Pipe]) -> String {
-    if pipes.iter().any(Pipe::is_under_first_row) { format!("{UNDER_FIRST_ROW}\n") } else { String::new() }
+/// What the remarks mean: `one tap` where some flow has this mark, and `under the first row` where a line has it.
+pub fn legends(pipes: &[Pipe], tapped: bool) -> String {
+    let small = pipes.iter().any(Pipe::is_under_first_row);
+    legend(tapped) + &if small { format!("{UNDER_FIRST_ROW}\n") } else { String::new() }
 }
 
 const KEYS: &[Keyed] = &[
