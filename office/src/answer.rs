@@ -19,6 +19,8 @@ const TAKEN: [&str; 4] = ["losses", "rate", "choose", HEADS];
 /// The one of them that works no loss out, but shows those that it was given.
 const HEADS: &str = "heads";
 const EXPECTED: &str = "an answer of `office losses`, `rate`, `choose` or `heads` with `--json`";
+/// The key of a section that says if its flow is under the first row of its size.
+const MARK: &str = "under_first_row";
 /// What the command calls the meaning of its keys: it changes when a key changes its meaning or goes; a new key changes nothing.
 pub const SCHEMA: i64 = 1;
 
@@ -39,6 +41,8 @@ struct Stated {
     flow: i64,
     /// mm/s; an answer of `heads` has none.
     velocity: Option<i64>,
+    /// Whether it says if its flow is under the first row of its size.
+    marked: bool,
     /// cm
     loss: u32,
 }
@@ -171,8 +175,17 @@ fn stated(place: i64, node: &Node, fast: bool) -> Result<Stated, Fault> {
         length: node.number("length_dm", u16::MAX.into())?,
         flow: node.number("flow_ml_per_s", u32::MAX.into())?,
         velocity: if fast { Some(node.number("velocity_mm_per_s", u16::MAX.into())?) } else { None },
+        marked: fast && is_marked(node)?,
         loss: node.number("loss_cm", u32::MAX.into())? as u32,
     })
+}
+
+/// Whether an entry says if its flow is under the first row of its size.
+fn is_marked(node: &Node) -> Result<bool, Fault> {
+    match node.find(MARK) {
+        Some(_) => node.truth(MARK).map(|_| true),
+        None => Ok(false),
+    }
 }
 
 /// The places or warnings of a key.
@@ -202,5 +215,11 @@ impl Answer {
     /// Whether the losses were worked out from a table, so that they are each section's own and in cm.
     pub fn is_worked_out(&self) -> bool {
         self.command != HEADS
+    }
+
+    /// Whether the losses may go by whole first rows: an answer that reads a flow under the first row by the line from zero says of
+    /// each section whether it is one.
+    pub fn is_by_whole_first_rows(&self) -> bool {
+        self.is_worked_out() && self.sections.iter().any(|section| !section.marked)
     }
 }

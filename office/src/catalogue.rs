@@ -114,6 +114,18 @@ impl Catalogue {
     }
 }
 
+impl Size {
+    /// The flow of the first row, in ml/s.
+    pub fn first_flow(&self) -> u32 {
+        self.rows.first().map_or(0, |row| row.flow)
+    }
+
+    /// The last flow that it serves, in ml/s.
+    pub fn last_flow(&self) -> u32 {
+        self.rows.last().map_or(0, |row| row.flow)
+    }
+}
+
 fn size(bytes: &[u8]) -> Size {
     let row = |eight: &[u8]| Row { flow: u32_at(eight, 0), velocity: u16_at(eight, 4), slope: u16_at(eight, 6) };
     Size { bore: u16_at(bytes, 0), price: u16_at(bytes, 2), rows: bytes[SIZE..].chunks_exact(ROW).map(row).collect() }

@@ -2,7 +2,7 @@
 
 use crate::calls::{Flow, Rating, SectionLoss};
 use crate::catalogue::{Catalogue, Size};
-use crate::places::{first_row, gentlest, reading};
+use crate::places::{first_row_mark, gentlest, reading};
 use crate::record::{Record, Section};
 use crate::taps::Taps;
 use crate::walk::{Turn, walk};
@@ -54,19 +54,19 @@ impl Pipe {
 
     /// The same in words, where it is so.
     pub fn first_row_mark(&self) -> Option<String> {
-        self.is_under_first_row().then(|| format!("under the first row, {} ml/s", self.first_row))
+        first_row_mark(self.flow, self.first_row)
     }
 
     /// Gives it a size of the table.
     fn put_size(&mut self, number: u8, of_table: &Size) {
         (self.size, self.bore, self.price) = (number, of_table.bore, of_table.price);
-        self.first_row = first_row(of_table);
+        self.first_row = of_table.first_flow();
     }
 }
 
 /// What `under the first row` means, for below a table or a drawing in which it stands.
-pub const UNDER_FIRST_ROW: &str = "under the first row: the rows of the size begin at a greater flow; velocity and slope are the first \
-    row's in the ratio of the flows, each rounded up";
+pub const UNDER_FIRST_ROW: &str = "under the first row: the rows of the size begin at a greater flow; velocity is flow x first velocity / \
+    first flow, rounded up, slope likewise";
 
 /// What is known of a house's flows: the library's, and which of them one tap sets.
 type Flows<'a> = (&'a Flow, &'a Taps);

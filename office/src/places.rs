@@ -19,7 +19,7 @@ use crate::at::At;
 use crate::refusal::Refusal;
 pub use choice::gentlest;
 pub use heat::{MOST_COLD, MOST_LOSS};
-pub use pipe::{first as first_row, read as reading};
+pub use pipe::{first_row_mark, read as reading};
 use std::fmt;
 
 /// One place that a refusal lies at.

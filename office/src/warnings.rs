@@ -10,7 +10,7 @@ use crate::meter::{self, Meter};
 use crate::places::{Heating, Place};
 use crate::record::{Record, Section};
 use crate::service;
-pub use losses::{of_no_line, off_losses};
+pub use losses::{by_whole_first_rows, of_no_line, off_losses};
 
 /// Lengths are kept in whole dm, so a pipe may be this many cm longer than it says.
 const ROUNDED: i64 = 9;

@@ -390,8 +390,8 @@ fn a_marked_end_that_dictates_has_its_line() {
     assert_eq!(height(&low), 130 + 2 * 90 + 18);
 }
 
-const ROW_LEGEND: &str = ">under the first row: the rows of the size begin at a greater flow; velocity and slope are the first row's in \
-    the ratio of the flows, each rounded up<";
+const ROW_LEGEND: &str = ">under the first row: the rows of the size begin at a greater flow; velocity is flow x first velocity / first \
+    flow, rounded up, slope likewise<";
 
 /// The mark stands below flow and velocity, behind that of one tap, and ends before its pipe does. 300 ml/s of 999,999 at 3,000 mm/s are
 /// 0.9 mm/s, up to 1.

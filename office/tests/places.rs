@@ -343,31 +343,37 @@ fn the_missing_head() {
     check(found, 16, At::Section(1), why);
 }
 
-/// A table of one size of 20 mm with two rows: 100 ml/s at 1,000 mm/s, and this one.
-fn one_size(last: &str) -> Vec<u8> {
-    let text = format!("size,bore mm,price,flow ml/s,velocity mm/s,slope mm/m\n1,20,9,100,1000,40\n1,20,9,{last},40\n");
+/// A table of one size of 20 mm with two rows of these flows and velocities.
+fn one_size([first, last]: [&str; 2]) -> Vec<u8> {
+    let text = format!("size,bore mm,price,flow ml/s,velocity mm/s,slope mm/m\n1,20,9,{first},40\n1,20,9,{last},40\n");
     table::pack(&text).expect("a table")
 }
 
 /// Section 1 serves a bath, an eleventh of the share 25,000 × 300 / (9 × 30), 2,526, and basins, 7,937. With m 10,463 α is 0.2,
 /// and the formula gives 10 × (2,526 × 30 + 7,937 × 14) / 10,463, 178.6: 179 ml/s, which either table serves. One tap of the bath
-/// draws 300. Section 3 has 300 by the formula, as a bath alone. Between 100 and 500 ml/s the velocity at 300 is halfway.
+/// draws 300. Section 3 has 300 by the formula, as a bath alone. Between 100 and 500 ml/s the velocity at 300 is halfway,
+/// and so it is from zero to 600.
 #[test]
 fn a_flow_that_one_tap_sets() {
     let job = house::pack(&branch(&["hotel-100"])).expect("a house");
-    for (last, in_list, in_choice) in [
+    for (rows, in_list, in_choice) in [
         (
-            "290,1300",
+            ["100,1000", "290,1300"],
             "flow 300 ml/s (one tap of hotel-100) is over the last row of size 1, 290 ml/s",
             "no size serves its flow of 300 ml/s (one tap of hotel-100); the greatest flow in the table is 290 ml/s, and",
         ),
         (
-            "500,3000",
+            ["100,1000", "500,3000"],
             "velocity 2000 mm/s at 300 ml/s (one tap of hotel-100) in size 1 passes the limit of 1500 mm/s",
             "no size serves it: at 300 ml/s (one tap of hotel-100) the least velocity is 2000 mm/s, in size 1 (20 mm), and",
         ),
+        (
+            ["600,4000", "700,4000"],
+            "velocity 2000 mm/s at 300 ml/s (one tap of hotel-100) in size 1 (under the first row, 600 ml/s) passes the limit of 1500",
+            "at 300 ml/s (one tap of hotel-100) the least velocity is 2000 mm/s, in size 1 (20 mm; under the first row, 600 ml/s), and",
+        ),
     ] {
-        let cat = one_size(last);
+        let cat = one_size(rows);
         let refusal = calls::choose(&job, &cat).expect_err("one size");
         let chosen = (refusal.number(), places(&refusal, &Asked { job: &job, cat: &cat, ..Asked::default() }));
         for (found, number, why) in [(rated(&job, &cat, &[1; 4]), 13, in_list), (chosen, 16, in_choice)] {

@@ -11,7 +11,7 @@ use json::Value;
 use lists::put;
 use office::catalogue::Catalogue;
 use office::model::catalogue::Catalogue as Model;
-use office::places::{first_row, reading};
+use office::places::reading;
 use office::{Choice, Rated, Refusal, calls, house, table};
 use run::{office, office_with, read};
 
@@ -24,8 +24,8 @@ const TABLE: &str = "examples/table.csv";
 /// The widest size of the example's table for each section of the house, and of the mixed house.
 const WIDE: &str = "6,6,6,6,6,6,6,6,6,6,6,6";
 const WIDE_MIXED: &str = "6,6,6,6,6,6,6";
-const LEGEND: &str = "under the first row: the rows of the size begin at a greater flow; velocity and slope are the first row's in the \
-    ratio of the flows, each rounded up\n";
+const LEGEND: &str = "under the first row: the rows of the size begin at a greater flow; velocity is flow x first velocity / first flow, \
+    rounded up, slope likewise\n";
 
 fn answered(words: &[&str]) -> String {
     let ran = office(words);
@@ -84,7 +84,7 @@ sizes  1
 
 section  from  kind     size  bore  length  flow  velocity  loss  left  free
                                 mm       m  ml/s      mm/s    cm    cm    cm
-      1  pump  offices     1    40    80.0   140       112    63   487   200  *  under the first row, 1000 ml/s
+      1  pump  offices     1    40    80.0   140       112    63   487   200  *  flow: under the first row, 1000 ml/s
 left: head left at the end when the delivered head is delivered; * lies on the dictating path
 ";
     assert_eq!(answered(&["choose", BASIN, OWN_TABLE, "--strict"]), format!("{wanted}{LEGEND}"));
@@ -94,7 +94,7 @@ sizes  1
 
 section  from  kind     size  bore  length  flow  velocity  loss
                                 mm       m  ml/s      mm/s    cm
-      1  pump  offices     1    40    80.0   140       112    63  under the first row, 1000 ml/s
+      1  pump  offices     1    40    80.0   140       112    63  flow: under the first row, 1000 ml/s
 loss: what the section's own pipe loses at its flow, with its local losses; `office heads` gives the heads with such losses
 ";
     assert_eq!(answered(&["losses", BASIN, OWN_TABLE, "1", "--strict"]), format!("{wanted}{LEGEND}"));
@@ -131,7 +131,8 @@ fn the_cheapest_list_goes_by_the_line_from_zero() {
 fn readings_around_the_first_row() {
     let cat = own_table();
     let (own, model) = (Catalogue::read(&cat).expect("a catalogue"), Model::of(&cat));
-    assert_eq!(first_row(&own.sizes[0]), 1_000);
+    assert_eq!((own.sizes[0].first_flow(), own.sizes[0].last_flow()), (1_000, 3_000));
+    assert_eq!(reading(&own.sizes[0], 0), None, "no section of an accepted job has it");
     for (flow, wanted) in [
         (1, Some((1, 1))),
         (2, Some((2, 1))),
@@ -195,7 +196,7 @@ fn only_the_lines_under_it_are_marked() {
             [(10, "   339        95     3"), (11, "   237        67     1"), (12, "   275        77     2")]
         {
             let line = line(text, section);
-            assert!(line.contains(figures) && line.ends_with("  under the first row, 800 ml/s"), "{line}");
+            assert!(line.contains(figures) && line.ends_with("  flow: under the first row, 800 ml/s"), "{line}");
         }
         assert_eq!(text.matches("under the first row, ").count(), 3, "{text}");
         assert!(text.ends_with(LEGEND) && text.matches("under the first row: ").count() == 1, "{text}");
@@ -215,7 +216,7 @@ fn no_mark_at_the_first_row() {
         for command in ["rate", "losses"] {
             let words = [command, BASIN, "-", "1"];
             let text = office_with(&words, cat.as_bytes()).text();
-            let mark = format!("  under the first row, {first} ml/s");
+            let mark = format!("  flow: under the first row, {first} ml/s");
             assert_eq!((line(&text, 1).ends_with(&mark), text.ends_with(LEGEND)), (marked, marked), "{text}");
             assert!(marked || !text.contains("first row"), "{text}");
             let printed = office_with(&[&words[..], &["--json"]].concat(), cat.as_bytes()).text();
@@ -233,42 +234,79 @@ fn no_mark_at_the_first_row() {
 fn the_words_stand_beside_the_others() {
     let low = basin("delivered head  1200 cm", "delivered head 900 cm");
     let text = office_with(&["rate", "-", OWN_TABLE, "1"], low.as_bytes()).text();
-    assert!(line(&text, 1).ends_with("   187   200  * SHORT  under the first row, 1000 ml/s"), "{text}");
+    assert!(line(&text, 1).ends_with("   187   200  * SHORT  flow: under the first row, 1000 ml/s"), "{text}");
     for command in ["rate", "losses"] {
         let text = answered(&[command, MIXED, TABLE, WIDE_MIXED]);
-        let both = "  flow: one tap of hotel-100; under the first row, 800 ml/s";
+        let both = "  flow: under the first row, 800 ml/s; one tap of hotel-100";
         assert!(
-            line(&text, 5).ends_with(both) && line(&text, 6).ends_with("  under the first row, 800 ml/s"),
+            line(&text, 5).ends_with(both) && line(&text, 6).ends_with("  flow: under the first row, 800 ml/s"),
             "{text}"
         );
         assert!(text.contains("the flow is what it draws\nunder the first row: ") && text.ends_with(LEGEND), "{text}");
         // The words begin in one column.
-        assert_eq!(line(&text, 5).find("flow: one tap"), line(&text, 6).find("under the first row"), "{text}");
+        assert_eq!(line(&text, 5).find("flow: under"), line(&text, 6).find("flow: under"), "{text}");
     }
 }
 
-/// `heads`, `show` and `pack` take an answer with the key and one from before there was one, and make the same of both.
+/// What is said of an answer that does not have the key in every section.
+const WHOLE_ROWS: &str = "warning: standard input, list of losses: the answer does not say of each section whether its flow is under the \
+    first row of its size; such an answer goes by a reading in which a flow under the first row takes the whole first row, so that \
+    losses may be too great: make it anew with `office losses`\n";
+const TAKING: [&[&str]; 4] =
+    [&["heads", BASIN, "-"], &["heads", BASIN, "-", "--walk", "1"], &["show", "-"], &["pack", "-"]];
+
+/// `heads`, `show` and `pack` take an answer with the key without a word. One from before there was the key has the whole first row,
+/// 800 mm/s and 40 × 800 × 13 / 1,000 cm, and is taken with a warning, and with `--strict` not at all.
 #[test]
 fn an_answer_is_taken_with_and_without_the_key() {
     for words in
         [&["losses", BASIN, OWN_TABLE, "1"][..], &["rate", BASIN, OWN_TABLE, "1"], &["choose", BASIN, OWN_TABLE]]
     {
         let answer = answered(&[words, &["--json"]].concat());
-        let older = put(&answer, "\"under_first_row\":true,", "");
-        for taking in
-            [&["heads", BASIN, "-"][..], &["heads", BASIN, "-", "--walk", "1"], &["show", "-"], &["pack", "-"]]
-        {
-            let [own, without] = [&answer, &older].map(|text| office_with(taking, text.as_bytes()));
-            assert_eq!((own.status, own.error.as_str()), (0, ""), "{taking:?}");
-            assert_eq!((without.status, &without.output), (0, &own.output), "{taking:?}");
+        let figures = "\"under_first_row\":true,\"velocity_mm_per_s\":112,\"loss_cm\":63";
+        let older = put(&answer, figures, "\"velocity_mm_per_s\":800,\"loss_cm\":416");
+        for taking in TAKING {
+            let strict = [taking, &["--strict"]].concat();
+            let ran = office_with(&strict, answer.as_bytes());
+            assert_eq!((ran.status, ran.error.as_str()), (0, ""), "{taking:?}");
+            let ran = office_with(taking, older.as_bytes());
+            assert_eq!((ran.status, ran.error.as_str()), (0, WHOLE_ROWS), "{taking:?}");
+            let ran = office_with(&strict, older.as_bytes());
+            assert!(ran.status == 2 && ran.output.is_empty() && ran.error.starts_with(WHOLE_ROWS), "{taking:?}");
         }
-        let headed = office_with(&["heads", BASIN, "-"], answer.as_bytes()).text();
-        assert!(
-            headed.contains("\nrequired head: meter loss 50 + elevation 600 + free head 200 + losses 63 = 913 cm\n")
-        );
-        assert!(!headed.contains("first row"), "no size is read for given losses: {headed}");
-        assert_eq!(office_with(&["pack", "-"], answer.as_bytes()).output, [0, 0, 0, 63]);
+        for (text, lost, required) in [(&answer, 63, 913), (&older, 416, 1_266)] {
+            let headed = office_with(&["heads", BASIN, "-"], text.as_bytes()).text();
+            let sum = format!("meter loss 50 + elevation 600 + free head 200 + losses {lost} = {required} cm\n");
+            assert!(headed.contains(&sum), "{headed}");
+            assert!(!headed.contains("first row"), "no size is read for given losses: {headed}");
+            assert_eq!(office_with(&["pack", "-"], text.as_bytes()).output, u32::to_be_bytes(lost));
+        }
     }
+}
+
+/// One warning for all sections, also where some have the key. It goes on with the answer of `heads`, which itself has no such key, nor
+/// has a list. What is neither true nor false is refused.
+#[test]
+fn an_answer_that_lacks_the_key_in_some_sections_lacks_it() {
+    let answer = answered(&["losses", HOUSE, TABLE, WIDE, "--json"]);
+    let key = "\"under_first_row\":true,";
+    let [some, none] = [put(&answer, key, ""), answer.replace(key, "").replace("\"under_first_row\":false,", "")];
+    for older in [&some, &none] {
+        let ran = office_with(&["heads", HOUSE, "-", "--json"], older.as_bytes());
+        assert_eq!((ran.status, ran.error.as_str()), (0, WHOLE_ROWS));
+        assert_eq!(json::parse(&ran.text()).list("warnings").len(), 1);
+        let again = office_with(&["heads", HOUSE, "-"], &ran.output);
+        let repeated = WHOLE_ROWS.replacen("warning: ", "warning: standard input comes with this warning: ", 1);
+        assert_eq!((again.status, again.error), (0, repeated));
+    }
+    let own = office_with(&["heads", HOUSE, "-", "--json"], answer.as_bytes());
+    let list = office_with(&["show", "-"], answer.as_bytes());
+    for taken in [&own.output, &list.output] {
+        let ran = office_with(&["heads", HOUSE, "-"], taken);
+        assert!(ran.status == 0 && !ran.error.contains("first row"), "{}", ran.error);
+    }
+    let odd = office_with(&["heads", HOUSE, "-"], put(&answer, key, "\"under_first_row\":1,").as_bytes());
+    assert!(odd.status == 2 && odd.error.contains("`under_first_row` is neither true nor false"), "{}", odd.error);
 }
 
 /// 13 goes by the line from zero: 112 mm/s in size 1, where the first row has 800.
@@ -277,7 +315,8 @@ fn a_size_that_is_too_fast_by_the_line_from_zero() {
     let limited = |limit: u16| basin("velocity limit  1500 mm/s", &format!("velocity limit {limit} mm/s"));
     for command in ["rate", "losses"] {
         let refused = office_with(&[command, "-", OWN_TABLE, "1"], limited(111).as_bytes());
-        let place = "line 13, section 1: velocity 112 mm/s at 140 ml/s in size 1 passes the limit of 111 mm/s\n";
+        let place = "line 13, section 1: velocity 112 mm/s at 140 ml/s in size 1 (under the first row, 1000 ml/s) passes the limit of \
+            111 mm/s\n";
         assert!(refused.status == 1 && refused.text().starts_with("refused 13: "), "{}", refused.text());
         assert!(refused.text().ends_with(place), "{}", refused.text());
         for limit in [112, 799] {
@@ -287,8 +326,8 @@ fn a_size_that_is_too_fast_by_the_line_from_zero() {
     // Of both sizes the second has the least velocity, 70 mm/s: 140,000 cubic mm a second at 69 mm/s take 2,029 square mm, a bore of
     // 50.8 mm.
     let refused = office_with(&["choose", "-", OWN_TABLE], limited(69).as_bytes()).text();
-    let place = "section 1: no size serves it: at 140 ml/s the least velocity is 70 mm/s, in size 2 (50 mm), and the limit is 69 mm/s; a \
-        bore of about 51 mm would do\n";
+    let place = "section 1: no size serves it: at 140 ml/s the least velocity is 70 mm/s, in size 2 (50 mm; under the first row, 1000 \
+        ml/s), and the limit is 69 mm/s; a bore of about 51 mm would do\n";
     assert!(refused.starts_with("refused 16: ") && refused.ends_with(place), "{refused}");
     let chosen = office_with(&["choose", "-", OWN_TABLE], limited(70).as_bytes());
     assert!(chosen.status == 0 && chosen.text().contains("\nsizes  2\n"), "{}", chosen.text());
@@ -321,10 +360,17 @@ fn the_help_and_the_page_explain_the_words() {
     let unfolded = |topic: &str| answered(&["help", topic]).split_whitespace().collect::<Vec<_>>().join(" ");
     let rate = unfolded("rate");
     assert!(rate.contains("`under the first row` stands where the rows of a size begin at a greater flow"), "{rate}");
-    assert!(rate.contains("in the ratio of the flows, each rounded up."), "{rate}");
+    assert!(
+        rate.contains("velocity is then flow x first velocity / first flow, rounded up, and slope likewise."),
+        "{rate}"
+    );
     for topic in ["losses", "choose"] {
         let text = unfolded(topic);
         assert!(text.contains("`under the first row`") && text.contains("`office help rate`"), "{text}");
+    }
+    for topic in ["13", "16"] {
+        let text = unfolded(topic);
+        assert!(text.contains("the message has `under the first row` (`office help rate`)"), "{text}");
     }
     assert!(unfolded("losses").contains("under_first_row, velocity_mm_per_s"));
     assert!(unfolded("files").contains("under the first row by the line from zero"));

@@ -95,8 +95,8 @@ fn day(case: &Case, judged: &Judged, norm: fn(i128, usize) -> Norm) -> Option<An
     (case.call == Call::Flow && judged.number == 0).then(|| (0, given()))
 }
 
-/// A flow that is under a first row, and what is read there.
-type SmallReading = fn(i128, &Row) -> Reading;
+/// What is read at a flow that is under the first of these two rows, which are a size's first.
+type SmallReading = fn(i128, [&Row; 2]) -> Reading;
 
 /// The losses call that reads flows under the first row so.
 fn losses(case: &Case, judged: &Judged, small: SmallReading) -> Option<Answer> {
@@ -105,8 +105,8 @@ fn losses(case: &Case, judged: &Judged, small: SmallReading) -> Option<Answer> {
     let mut bytes = Vec::new();
     for ((flow, t), section) in judged.flows.iter().zip(&case.sizes).zip(&house.sections) {
         let size = &judged.cat.sizes[usize::from(*t) - 1];
-        let first = &size.rows[0];
-        let read = if *flow < first.flow { Some(small(*flow, first)) } else { size.read(*flow) };
+        let rows = [&size.rows[0], &size.rows[1]];
+        let read = if *flow < rows[0].flow { Some(small(*flow, rows)) } else { size.read(*flow) };
         let Some(reading) = read.filter(|reading| reading.velocity <= house.limit) else {
             return Some((13, Vec::new()));
         };
@@ -122,6 +122,12 @@ fn part(flow: i128, first: &Row, value: i128) -> i128 {
     up(flow * value, first.flow)
 }
 
+/// The value under a first row on the line through two rows, up, or 0 where that falls below it.
+fn carried_on(flow: i128, [first, second]: [&Row; 2], value: fn(&Row) -> i128) -> i128 {
+    let fall = (value(second) - value(first)) * (first.flow - flow) / (second.flow - first.flow);
+    (value(first) - fall).max(0)
+}
+
 fn is_two(case: &Case) -> bool {
     case.job.get(4) == Some(&2)
 }
@@ -135,7 +141,7 @@ const RIGHT: [(&str, Program); 7] = [
     ("duty", |case, judged| duty(case, judged, norms::of)),
     ("day", |case, judged| day(case, judged, norms::of)),
     ("small flows", |case, judged| {
-        losses(case, judged, |flow, first| Reading {
+        losses(case, judged, |flow, [first, _]| Reading {
             velocity: part(flow, first, first.velocity),
             slope: part(flow, first, first.slope),
         })
@@ -253,38 +259,56 @@ const WRONG_LAYOUTS: [(&str, Program); 11] = [
     }),
 ];
 
-const WRONG_READINGS: [(&str, Program); 7] = [
+const WRONG_READINGS: [(&str, Program); 9] = [
     ("the whole first row", |case, judged| {
-        losses(case, judged, |_, first| Reading { velocity: first.velocity, slope: first.slope })
+        losses(case, judged, |_, [first, _]| Reading { velocity: first.velocity, slope: first.slope })
     }),
     ("the first row's velocity", |case, judged| {
-        losses(case, judged, |flow, first| Reading { velocity: first.velocity, slope: part(flow, first, first.slope) })
+        losses(case, judged, |flow, [first, _]| Reading {
+            velocity: first.velocity,
+            slope: part(flow, first, first.slope),
+        })
     }),
     ("the first row's slope", |case, judged| {
-        losses(case, judged, |flow, first| Reading { velocity: part(flow, first, first.velocity), slope: first.slope })
+        losses(case, judged, |flow, [first, _]| Reading {
+            velocity: part(flow, first, first.velocity),
+            slope: first.slope,
+        })
     }),
     ("velocity and slope rounded down", |case, judged| {
-        losses(case, judged, |flow, first| Reading {
+        losses(case, judged, |flow, [first, _]| Reading {
             velocity: flow * first.velocity / first.flow,
             slope: flow * first.slope / first.flow,
         })
     }),
+    ("the velocity alone rounded down", |case, judged| {
+        losses(case, judged, |flow, [first, _]| Reading {
+            velocity: flow * first.velocity / first.flow,
+            slope: part(flow, first, first.slope),
+        })
+    }),
     ("the slope rounded down", |case, judged| {
-        losses(case, judged, |flow, first| Reading {
+        losses(case, judged, |flow, [first, _]| Reading {
             velocity: part(flow, first, first.velocity),
             slope: flow * first.slope / first.flow,
         })
     }),
     ("the slope by the velocity's ratio", |case, judged| {
-        losses(case, judged, |flow, first| {
+        losses(case, judged, |flow, [first, _]| {
             let velocity = part(flow, first, first.velocity);
             Reading { velocity, slope: up(velocity * first.slope, first.velocity) }
         })
     }),
     ("the slope by the square of the flows", |case, judged| {
-        losses(case, judged, |flow, first| Reading {
+        losses(case, judged, |flow, [first, _]| Reading {
             velocity: part(flow, first, first.velocity),
             slope: up(flow * flow * first.slope, first.flow * first.flow),
+        })
+    }),
+    ("the line through the first two rows carried on below the first", |case, judged| {
+        losses(case, judged, |flow, rows| Reading {
+            velocity: carried_on(flow, rows, |row| row.velocity),
+            slope: carried_on(flow, rows, |row| row.slope),
         })
     }),
 ];

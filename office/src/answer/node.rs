@@ -36,6 +36,13 @@ impl Node {
         }
     }
 
+    pub fn truth(&self, key: &str) -> Result<bool, Fault> {
+        match self.key(key)? {
+            Node { value: Value::Truth(truth), .. } => Ok(*truth),
+            other => Err(other.fault(format!("`{key}` is neither true nor false"), EXPECTED)),
+        }
+    }
+
     /// The number of a key, 0 or more.
     pub fn number(&self, key: &str, most: i64) -> Result<i64, Fault> {
         let node = self.key(key)?;

@@ -132,7 +132,7 @@ sections hang from section N, a line says which of those further on asks for the
 house, in digits alone.
 
 `under the first row` stands where the rows of a size begin at a greater flow than the section's, with the flow of the first row:
-velocity and slope are then those of that row in the ratio of the flows, each rounded up.
+velocity is then flow x first velocity / first flow, rounded up, and slope likewise.
 
 `office losses` and `office heads` give the same in two steps. `office help flow` explains the design flow, and `one tap of`
 behind it.
@@ -163,7 +163,7 @@ a greater one for now.
 office losses house.txt table.csv 2,2,1,1 --json | office heads house.txt -
 `show` makes a readable list of it, in which losses that were measured can be put.
 
-`office help flow` explains the design flow, and `one tap of` behind it, `office help rate` explains `under the first row`.
+`office help flow` explains the design flow, and `one tap of` behind it; `office help rate` explains `under the first row`.
 
 --json: service, local_losses_tenths, sizes, sections (section, parent, size, bore_mm, length_dm, flow_ml_per_s, one_tap_kinds,
 under_first_row, velocity_mm_per_s, loss_cm).",
@@ -192,7 +192,9 @@ The losses of an answer come with what they were worked out from. Where the serv
 the house of the hot one, the local losses are others, a section begins elsewhere in the house or has another length or flow, the
 answer was made for another house or before a change; where a velocity is over the house's limit, `rate` would refuse it. `heads`
 gives no answer then (status 2), and the message names the first difference. An answer from before there were services is of all
-water. The answer's warnings are repeated, and count for --strict; a refusal that was handed on is shown with its places (status 1).
+water. One of `losses`, `rate` or `choose` that lacks under_first_row in a section gets a warning: a flow under the first row of its
+size takes the whole first row there, so that losses may be too great; make it anew. The answer's warnings are repeated, and count
+for --strict; a refusal that was handed on is shown with its places (status 1).
 
 A readable list may say in a column `service` which line of the house its losses are of: those of another line are not taken, as of
 an answer, and for a house that is a cold or a hot line a list that does not say it gets a warning. Beside that a readable list and a

@@ -1,7 +1,7 @@
 //! `office losses`: what each section loses with a list of sizes, without heads.
 
 use super::arguments::Arguments;
-use super::network::{Demand, legend, service_fields};
+use super::network::{Demand, service_fields};
 use super::outcome::{Misuse, Outcome};
 use super::rating::{bytes, sizes_line, sizes_of};
 use super::refused::Given;
@@ -56,9 +56,9 @@ impl Lost {
     fn chart(&self) -> String {
         let marked = self.demand.taps.sections.iter().any(|kinds| !kinds.is_empty());
         let table = sections::table(&self.pipes, Known::Sizes);
-        let (tap, row) = (legend(marked), sections::legend(&self.pipes));
+        let legends = sections::legends(&self.pipes, marked);
         let service = self.demand.service.map(|service| format!("service  {}\n", service::name(service)));
-        format!("{}{}\n{table}{LEGEND}{tap}{row}", sizes_line(&self.sizes), service.unwrap_or_default())
+        format!("{}{}\n{table}{LEGEND}{legends}", sizes_line(&self.sizes), service.unwrap_or_default())
     }
 }
 

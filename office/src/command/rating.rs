@@ -3,7 +3,7 @@
 use super::charts::figures;
 use super::input::Source;
 use super::json::Json;
-use super::network::{Demand, house_fields, house_figures, legend};
+use super::network::{Demand, house_fields, house_figures};
 use super::refused::Given;
 use super::report::{Fields, Unanswered};
 use super::required;
@@ -77,8 +77,8 @@ impl Rated {
         rows.extend(required::figures(&self.record, &heads));
         let (set, sizes) = (required::set(&self.demand, &heads), sizes_line(&self.sizes));
         let table = sections::table(&self.pipes, Known::SizesAndHeads);
-        let (tap, row) = (legend(self.demand.taps.any()), sections::legend(&self.pipes));
-        format!("{set}{}{sizes}\n{table}{tap}{row}", figures(&rows))
+        let legends = sections::legends(&self.pipes, self.demand.taps.any());
+        format!("{set}{}{sizes}\n{table}{legends}", figures(&rows))
     }
 }
 

@@ -14,7 +14,8 @@ use office::places::{Asked, Heating, Place, places};
 use office::readable;
 use office::record::Record;
 use office::warnings::{
-    commented_out, of_no_line, off_heat, off_hours, off_losses, off_service, off_velocity, warnings,
+    by_whole_first_rows, commented_out, of_no_line, off_heat, off_hours, off_losses, off_service, off_velocity,
+    warnings,
 };
 use office::which::Which;
 use office::{Flow, Refusal, calls};
@@ -90,7 +91,7 @@ impl Given<'_> {
     }
 
     /// What is nearly always a slip in the lists and in the numbers beside them. Losses that were worked out from a table are none
-    /// that somebody wrote.
+    /// that somebody wrote; of them it is looked at by which reading.
     fn of_lists(&self) -> Vec<Place> {
         let record = self.job.and_then(|job| Record::read(&job.bytes).ok());
         // Bytes that are no list of meters have a refusal, and nothing that they hold is a slip.
@@ -102,6 +103,7 @@ impl Given<'_> {
         let unsaid = record.iter().filter(|_| self.service.is_none());
         found.extend(unsaid.filter_map(|record| of_no_line(record, &losses)));
         found.extend(record.iter().flat_map(|record| off_losses(record, &losses)));
+        found.extend(self.answer.and_then(by_whole_first_rows));
         let mean_hour = || self.flow().map(|flow| flow.mean_hour);
         found.extend(self.heating.and_then(|heating| off_heat(heating, mean_hour())));
         found

@@ -3,7 +3,7 @@
 
 use super::charts::{Column, chart, number, words};
 use super::json::Json;
-use super::network::{from, kinds_of};
+use super::network::{from, kinds_of, legend};
 use office::kinds;
 use office::pipes::{Pipe, UNDER_FIRST_ROW};
 use office::taps;
@@ -64,10 +64,11 @@ fn mark(pipe: &Pipe) -> String {
     format!("{}{}", if pipe.dictating { "*" } else { "" }, if short { " SHORT" } else { "" })
 }
 
-/// The tap that sets the flow, and where the rows of the size begin above it.
+/// That the rows of the size begin above the flow, and the tap that sets it, which may have many kinds.
 fn remarks(pipe: &Pipe) -> String {
-    let tap = (!pipe.taps.is_empty()).then(|| format!("flow: {}", taps::words(&pipe.taps)));
-    tap.into_iter().chain(pipe.first_row_mark()).collect::<Vec<_>>().join("; ")
+    let tap = (!pipe.taps.is_empty()).then(|| taps::words(&pipe.taps));
+    let all: Vec<String> = pipe.first_row_mark().into_iter().chain(tap).collect();
+    if all.is_empty() { String::new() } else { format!("flow: {}", all.join("; ")) }
 }
 
 /// One line a section. A star marks the dictating path.
@@ -80,9 +81,10 @@ pub fn table(pipes: &[Pipe], known: Known) -> String {
     format!("{table}{}", if known.has(About::Head) { legend } else { "" })
 }
 
-/// What `under the first row` means, where a line has it.
-pub fn legend(pipes: &[Pipe]) -> String {
-    if pipes.iter().any(Pipe::is_under_first_row) { format!("{UNDER_FIRST_ROW}\n") } else { String::new() }
+/// What the remarks mean: `one tap` where some flow has this mark, and `under the first row` where a line has it.
+pub fn legends(pipes: &[Pipe], tapped: bool) -> String {
+    let small = pipes.iter().any(Pipe::is_under_first_row);
+    legend(tapped) + &if small { format!("{UNDER_FIRST_ROW}\n") } else { String::new() }
 }
 
 const KEYS: &[Keyed] = &[

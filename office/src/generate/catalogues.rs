@@ -12,24 +12,44 @@ pub struct Measure {
     pub limit: i64,
 }
 
+/// What all sizes of a catalogue have in common.
+struct Range {
+    count: i64,
+    rows: i64,
+    /// The greatest flow of the house.
+    most: i64,
+    /// In a row of real pipes a wider one is dearer, slower and flatter; nothing in document 01 asks for that.
+    real: bool,
+    price: i64,
+    one_price: bool,
+}
+
 pub fn catalogue(rng: &Rng, measure: &Measure) -> Vec<DraftSize> {
-    let count = rng.pick(&[1, 2, 2, 3, 3, 4, 6, 12]);
-    let rows = rng.pick(&[2, 2, 3, 4, 8, 16, 64]);
-    let most = measure.flows.iter().copied().max().unwrap_or(1_000).clamp(100, 900_000);
-    // In a row of real pipes a wider one is dearer, slower and flatter; nothing in document 01 asks for that.
-    let real = !rng.once_in(4);
-    let price = rng.scaled(20, 1_500);
-    let one_price = rng.once_in(8);
+    let range = Range {
+        count: rng.pick(&[1, 2, 2, 3, 3, 4, 6, 12]),
+        rows: rng.pick(&[2, 2, 3, 4, 8, 16, 64]),
+        most: measure.flows.iter().copied().max().unwrap_or(1_000).clamp(100, 900_000),
+        real: !rng.once_in(4),
+        price: rng.scaled(20, 1_500),
+        one_price: rng.once_in(8),
+    };
     let twins = rng.once_in(8);
     let mut bore = rng.between(1, 60);
     let mut sizes: Vec<DraftSize> = Vec::new();
-    for place in 0..count {
-        if let Some(twin) = sizes.last().filter(|_| twins && rng.once_in(2)).cloned() {
-            // The same pipe under another bore, so that two sizes lose the same and cost the same.
-            sizes.push(DraftSize { bore: bore as u16, ..twin });
-            bore += rng.scaled(1, 1_000);
-            continue;
-        }
+    for place in 0..range.count {
+        // The same pipe under another bore, so that two sizes lose the same and cost the same.
+        let twin = sizes.last().filter(|_| twins && rng.once_in(2)).cloned();
+        let size = twin.unwrap_or_else(|| range.size(rng, measure, place));
+        sizes.push(DraftSize { bore: bore as u16, ..size });
+        bore += rng.scaled(1, 1_000);
+    }
+    sizes
+}
+
+impl Range {
+    /// The size at a place, without its bore.
+    fn size(&self, rng: &Rng, measure: &Measure, place: i64) -> DraftSize {
+        let Range { count, rows, most, real, .. } = *self;
         let last = if real && !rng.once_in(8) { most + rng.between(0, most) } else { rng.between(rows, 2 * most) };
         let share = if real { count - place } else { rng.between(1, count) };
         // Of a wide pipe the rows begin far above the house's flows, so many times as far up in all columns.
@@ -40,19 +60,20 @@ pub fn catalogue(rng: &Rng, measure: &Measure) -> Vec<DraftSize> {
         let velocities = rising(rng, rows, velocity);
         let slopes = rising(rng, rows, slope);
         let rows = flows.into_iter().zip(velocities).zip(slopes);
-        let price = match real {
-            _ if one_price => price,
-            true => price + price * place / 2,
-            false => rng.between(1, 10_000),
-        };
-        sizes.push(DraftSize {
-            bore: bore as u16,
-            price: price.clamp(1, 10_000) as u16,
+        DraftSize {
+            bore: 0,
+            price: self.price_at(rng, place).clamp(1, 10_000) as u16,
             rows: rows.map(|((flow, velocity), slope)| (flow, velocity, slope)).collect(),
-        });
-        bore += rng.scaled(1, 1_000);
+        }
     }
-    sizes
+
+    fn price_at(&self, rng: &Rng, place: i64) -> i64 {
+        match self.real {
+            _ if self.one_price => self.price,
+            true => self.price + self.price * place / 2,
+            false => rng.between(1, 10_000),
+        }
+    }
 }
 
 /// Strictly rising flows; some are flows of sections or one beside them.

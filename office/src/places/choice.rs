@@ -4,7 +4,7 @@ use super::flows::Flows;
 use super::{Asked, Place, pipe};
 use crate::at::{At, Field};
 use crate::calls;
-use crate::catalogue::Catalogue;
+use crate::catalogue::{Catalogue, Size};
 use crate::record::Record;
 
 pub fn none_suits(asked: &Asked) -> Vec<Place> {
@@ -38,16 +38,19 @@ pub fn gentlest(record: &Record, catalogue: &Catalogue, flows: &[u32]) -> Vec<Op
 /// Why no size will do for a section of this flow, which is given in words too, and the bore that would.
 fn why_unserved(catalogue: &Catalogue, (flow, words): (u32, &str), limit: u16) -> String {
     let sizes = (1_u8..=255).zip(&catalogue.sizes);
-    let readings = sizes.filter_map(|(number, size)| Some((number, size.bore, pipe::read(size, flow)?)));
+    let readings = sizes.filter_map(|(number, size)| Some((number, size, pipe::read(size, flow)?)));
     let needed = bore(flow, limit).max(catalogue.sizes.iter().map(|size| u64::from(size.bore) + 1).max().unwrap_or(1));
     let would = format!("and the limit is {limit} mm/s; a bore of about {needed} mm would do");
     match readings.min_by_key(|(_, _, reading)| reading.velocity) {
-        Some((number, bore, reading)) => format!(
-            "no size serves it: at {words} the least velocity is {} mm/s, in size {number} ({bore} mm), {would}",
-            reading.velocity
-        ),
+        Some((number, size, reading)) => {
+            let mark = pipe::first_row_mark(flow, size.first_flow()).map(|mark| format!("; {mark}"));
+            let (velocity, bore, mark) = (reading.velocity, size.bore, mark.unwrap_or_default());
+            format!(
+                "no size serves it: at {words} the least velocity is {velocity} mm/s, in size {number} ({bore} mm{mark}), {would}"
+            )
+        }
         None => {
-            let last = catalogue.sizes.iter().map(pipe::last).max().unwrap_or(0);
+            let last = catalogue.sizes.iter().map(Size::last_flow).max().unwrap_or(0);
             format!("no size serves its flow of {words}; the greatest flow in the table is {last} ml/s, {would}")
         }
     }

@@ -33,10 +33,12 @@ pub fn too_small(asked: &Asked) -> Vec<Place> {
         let Some(size) = catalogue.size(*number) else { continue };
         let limit = u64::from(record.limit);
         let why = match pipe::read(size, flow) {
-            None => format!("flow {words} is over the last row of size {number}, {} ml/s", pipe::last(size)),
+            None => format!("flow {words} is over the last row of size {number}, {} ml/s", size.last_flow()),
             Some(reading) if reading.velocity > limit => {
                 let velocity = reading.velocity;
-                format!("velocity {velocity} mm/s at {words} in size {number} passes the limit of {limit} mm/s")
+                let mark = pipe::first_row_mark(flow, size.first_flow()).map(|mark| format!(" ({mark})"));
+                let mark = mark.unwrap_or_default();
+                format!("velocity {velocity} mm/s at {words} in size {number}{mark} passes the limit of {limit} mm/s")
             }
             Some(_) => continue,
         };

@@ -11,7 +11,8 @@ pub struct Reading {
     pub slope: u64,
 }
 
-/// Velocity and slope by the straight line, each up; the line to the first row comes from zero; over the last row none.
+/// Velocity and slope by the straight line, each up; the line to the first row comes from zero. Over the last row there is none, nor
+/// at flow 0, which no section of an accepted job has.
 pub fn read(size: &Size, flow: u32) -> Option<Reading> {
     let zero = Row::default();
     let mut lines = std::iter::once(&zero).chain(&size.rows).zip(&size.rows);
@@ -28,12 +29,7 @@ fn between(flow: u32, low: &Row, high: &Row, value: impl Fn(&Row) -> u16) -> u64
     from + rise.div_ceil(u64::from(high.flow - low.flow))
 }
 
-/// The flow of a size's first row.
-pub fn first(size: &Size) -> u32 {
-    size.rows.first().map_or(0, |row| row.flow)
-}
-
-/// The last flow that a size serves.
-pub fn last(size: &Size) -> u32 {
-    size.rows.last().map_or(0, |row| row.flow)
+/// What is said of a figure at a flow that is under the first row of its size; nothing where it is not.
+pub fn first_row_mark(flow: u32, first_row: u32) -> Option<String> {
+    (flow < first_row).then(|| format!("under the first row, {first_row} ml/s"))
 }

@@ -209,6 +209,8 @@ pub const ROWS: &[Row] = &[
         causes: &[
             "The pipe is too narrow for what is behind it; near the pump it carries the flow of the whole house.",
             "One fixture alone sets the pipe's flow, where the message has `one tap of` (`office help flow`).",
+            "The velocity is worked out from a first row at a greater flow, where the message has `under the first row` (`office \
+             help rate`).",
             "The rows of the size end below the section's flow, although the supplier's table goes on.",
         ],
         remedies: &[
@@ -244,6 +246,8 @@ pub const ROWS: &[Row] = &[
             "The delivered head is too little for the highest or the furthest end.",
             "The widest size of the table is too narrow for the flow near the pump.",
             "One fixture alone sets a pipe's flow, where the message has `one tap of` (`office help flow`).",
+            "The velocity is worked out from a first row at a greater flow, where the message has `under the first row` (`office \
+             help rate`).",
             "An elevation, a length or a head has the wrong unit.",
         ],
         remedies: &[

@@ -22,15 +22,7 @@ impl Counters {
             self.note_taps(case, judged);
             self.note_line(case, judged);
         }
-        match &judged.result {
-            Expected::Rated(rating) => self.note_rating(judged, &rating.heads),
-            Expected::Headed(heads) => self.note_heads(judged, heads),
-            Expected::Chosen { cost, list } => {
-                self.note_choice(judged, *cost, list);
-                self.note_search(judged);
-            }
-            _ => {}
-        }
+        self.note_result(judged);
         match case.call {
             Call::Meter => self.note_meters(case, judged),
             Call::Losses => self.note_losses(case, judged),
@@ -45,6 +37,19 @@ impl Counters {
         if judged.number == 16 {
             self.note_none(judged);
             self.note_refused_together(judged);
+        }
+    }
+
+    /// What the call gave.
+    fn note_result(&mut self, judged: &Judged) {
+        match &judged.result {
+            Expected::Rated(rating) => self.note_rating(judged, &rating.heads),
+            Expected::Headed(heads) => self.note_heads(judged, heads),
+            Expected::Chosen { cost, list } => {
+                self.note_choice(judged, *cost, list);
+                self.note_search(judged);
+            }
+            _ => {}
         }
     }
 

@@ -1,5 +1,7 @@
-//! The warnings of a list of losses: a loss that no pipe has, losses of the way from the pump, and readings off two gauges.
+//! The warnings of a list of losses: a loss that no pipe has, losses of the way from the pump, and readings off two gauges; and that
+//! of an answer whose losses may go by whole first rows.
 
+use crate::answer::Answer;
 use crate::at::At;
 use crate::places::Place;
 use crate::record::Record;
@@ -25,6 +27,14 @@ pub fn of_no_line(record: &Record, losses: &[u32]) -> Option<Place> {
          row, says it"
     );
     (one_of_two && record.sections.len() == losses.len()).then(|| Place::new(At::Losses, why))
+}
+
+/// The warning of an answer that was printed before a flow under the first row of its size went by the line from zero.
+pub fn by_whole_first_rows(answer: &Answer) -> Option<Place> {
+    let why = "the answer does not say of each section whether its flow is under the first row of its size; such an answer goes by a \
+               reading in which a flow under the first row takes the whole first row, so that losses may be too great: make it anew \
+               with `office losses`";
+    answer.is_by_whole_first_rows().then(|| Place::new(At::Losses, why))
 }
 
 /// The warnings of a list of losses for a house with as many sections: the list's own, then each loss that no pipe has, and each
