@@ -1,13 +1,13 @@
 -- Rows that keep their rules read at a flow: whether they serve it, the line from zero, the line between two rows, and the largest and the least reading.
 -- Assumes nothing.
-use mathlib.Core.Path.{_≡_}
+use mathlib.Core.Path.{_≡_, _∙_}
 use mathlib.Core.Bool.{true, false, cond}
 use mathlib.Core.List.{List}
 use mathlib.Core.Logic.{⊎-elim}
 use Prim.Native.Nat.{ℕ, _+_, _-_, _*_, _≤_, _<_}
 use native.Mathlib.Omega.{arith}
 use borrow.Author.Tests.{leb-true, le-leb, lt-leb}
-use Rattle.basis.specs.Round.{line}
+use Rattle.basis.specs.Round.{up, line}
 use Rattle.basis.proofs.Round.{line-zero}
 use Rattle.basis.proofs.Split.{either}
 use Rattle.wire.specs.Wire.{byteAt}
@@ -15,7 +15,7 @@ use Rattle.wire.proofs.Fields.{be-lt}
 use Rattle.catalogue.specs.declared.reading.SizeAtFlow.{SizeAtFlow}
 use Rattle.catalogue.specs.Layout.{flowAt, velocityAt, slopeAt}
 use Rattle.catalogue.specs.Reading.{between, servesAt, readRows}
-use Rattle.catalogue.specs.Contracts.{Rows, Above, UpToFirst, fromZero}
+use Rattle.catalogue.specs.Contracts.{Rows, Above}
 use Rattle.catalogue.proofs.RowBounds.{RowIn, Rises, row-in, rows-own}
 use Rattle.catalogue.proofs.Rising.{rises, flows-rise}
 use Rattle.catalogue.proofs.Lines.{Rising, rising-le, between-first, between-line, between-high, between-pos}
@@ -33,30 +33,23 @@ module _ (rows : List ℕ) (n q : ℕ) where
   unfolding readRows servesAt
   reading-over h = rw (lt-leb q (flowAt rows (n - 1)) h)
 
--- the lines from (0, 0) to the first row, as the code draws them
-pub lines-zero : (rows : List ℕ) (q : ℕ) →
+-- a point of flow x and row k, with the straight lines between them at q
+abbrev pub onLine : List ℕ → ℕ → ℕ → ℕ → ℕ → ℕ → SizeAtFlow
+onLine rows x velocity slope k q =
     record {
       serves = true;
-      velocity = line 0 0 (flowAt rows 0) (velocityAt rows 0) q;
-      slope = line 0 0 (flowAt rows 0) (slopeAt rows 0) q;
-    }
-    ≡ fromZero rows q
-lines-zero rows q = rw (line-zero (flowAt rows 0) (velocityAt rows 0) q, line-zero (flowAt rows 0) (slopeAt rows 0) q)
-
--- rows i and j, with the straight line between them at q
-abbrev pub onLine : List ℕ → ℕ → ℕ → ℕ → SizeAtFlow
-onLine rows i j q =
-    record {
-      serves = true;
-      velocity = line (flowAt rows i) (velocityAt rows i) (flowAt rows j) (velocityAt rows j) q;
-      slope = line (flowAt rows i) (slopeAt rows i) (flowAt rows j) (slopeAt rows j) q;
+      velocity = line x velocity (flowAt rows k) (velocityAt rows k) q;
+      slope = line x slope (flowAt rows k) (slopeAt rows k) q;
     }
 
--- row k and the one before it, with q between their flows
-pub record Around (rows : List ℕ) (q k : ℕ) : Type 0 where
-  pub rise : Rises rows (k - 1) k
-  pub low : flowAt rows (k - 1) < q
+-- the lines from such a point to row k are those on which the rows are read at q
+pub record Drawn (rows : List ℕ) (n q k x velocity slope : ℕ) : Type 0 where
+  pub across : x < flowAt rows k
+  pub velocity-rises : velocity ≤ velocityAt rows k
+  pub slope-rises : slope ≤ slopeAt rows k
+  pub low : x ≤ q
   pub high : q ≤ flowAt rows k
+  pub reading : readRows rows n q ≡ onLine rows x velocity slope k q
 
 module _ {rows : List ℕ} {n : ℕ} (r : Rows rows n) where
   rising : Rising (flowAt rows) (n - 1)
@@ -68,7 +61,13 @@ module _ {rows : List ℕ} {n : ℕ} (r : Rows rows n) where
   pub first-flow : 0 < flowAt rows 0
   first-flow = own 0 (omega (arith, r .low)) .flow .low
 
-  pub reading-low : (q : ℕ) → q ≤ flowAt rows 0 → readRows rows n q ≡ fromZero rows q
+  pub reading-low : (q : ℕ) → q ≤ flowAt rows 0 →
+      readRows rows n q ≡
+      record {
+        serves = true;
+        velocity = up (q * velocityAt rows 0) (flowAt rows 0);
+        slope = up (q * slopeAt rows 0) (flowAt rows 0);
+      }
   unfolding readRows
   reading-low q h =
       let last : flowAt rows 0 ≤ flowAt rows (n - 1) = rising-le rising 0 (n - 1) (omega arith) (omega arith) in
@@ -78,7 +77,7 @@ module _ {rows : List ℕ} {n : ℕ} (r : Rows rows n) where
         between-first (flowAt rows) (slopeAt rows) (n - 1) q rising h,
       )
 
-  pub reading-between : (q k : ℕ) → k + 1 < n → flowAt rows k < q → q ≤ flowAt rows (k + 1) → readRows rows n q ≡ onLine rows k (k + 1) q
+  pub reading-between : (q k : ℕ) → k + 1 < n → flowAt rows k < q → q ≤ flowAt rows (k + 1) → readRows rows n q ≡ onLine rows (flowAt rows k) (velocityAt rows k) (slopeAt rows k) (k + 1) q
   unfolding readRows
   reading-between q k l h u =
       let last : flowAt rows (k + 1) ≤ flowAt rows (n - 1) = rising-le rising (k + 1) (n - 1) (omega arith) (omega arith) in
@@ -88,23 +87,36 @@ module _ {rows : List ℕ} {n : ℕ} (r : Rows rows n) where
         between-line (flowAt rows) (slopeAt rows) (n - 1) k q rising (omega arith) h u,
       )
 
-  -- at the row that the search finds
-  module _ {q k : ℕ} (a : Above rows n q k) where
-    pub above-first : k ≡ 0 → readRows rows n q ≡ fromZero rows q
-    above-first e = reading-low q (rw e at (a .reached))
+  -- at the row that the search finds: the lines come from the row before it, and to the first row from zero
+  module _ {q k x velocity slope : ℕ} (a : Above rows n q k) where
+    pub drawn-first : k ≡ 0 → x ≡ 0 → velocity ≡ 0 → slope ≡ 0 → Drawn rows n q k x velocity slope
+    drawn-first e x₀ v₀ s₀ =
+        let under : q ≤ flowAt rows 0 = rw e at (a .reached) in
+        rw (e, x₀, v₀, s₀)
+        (record {
+          across = first-flow;
+          velocity-rises = omega arith;
+          slope-rises = omega arith;
+          low = omega arith;
+          high = under;
+          reading = reading-low q under ∙
+              rw (line-zero (flowAt rows 0) (velocityAt rows 0) q, line-zero (flowAt rows 0) (slopeAt rows 0) q);
+        })
 
-    pub above-under : k ≡ 0 → UpToFirst rows q
-    above-under e = record { long = omega (arith, r .long, r .low); some = first-flow; under = rw e at (a .reached) }
-
-    module _ (h : 0 < k) where
-      pub above-around : Around rows q k
-      above-around =
-          record { rise = rises rows n (r .rules) (k - 1) k (omega arith) (a .within); low = a .under h; high = a .reached }
-
-      pub above-line : readRows rows n q ≡ onLine rows (k - 1) k q
-      above-line =
-          let e : k - 1 + 1 ≡ k = omega arith in
-          rw e at (reading-between q (k - 1) (omega arith) (a .under h) (rw e (a .reached)))
+    pub drawn-next : 0 < k → x ≡ flowAt rows (k - 1) → velocity ≡ velocityAt rows (k - 1) → slope ≡ slopeAt rows (k - 1) →
+        Drawn rows n q k x velocity slope
+    drawn-next h x₀ v₀ s₀ =
+        let e : k - 1 + 1 ≡ k = omega arith in
+        let rise = rises rows n (r .rules) (k - 1) k (omega arith) (a .within) in
+        rw (x₀, v₀, s₀)
+        (record {
+          across = rise .flow;
+          velocity-rises = rise .velocity;
+          slope-rises = rise .slope;
+          low = omega (arith, a .under h);
+          high = a .reached;
+          reading = rw e at (reading-between q (k - 1) (omega arith) (a .under h) (rw e (a .reached)));
+        })
 
   -- a value that does not fall from row to row is read at no more than the last row's
   top : (value : ℕ → ℕ) (q m : ℕ) → ((k : ℕ) → k < n - 1 → value k ≤ value (k + 1)) → value (n - 1) ≤ m →

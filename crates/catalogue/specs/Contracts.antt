@@ -1,13 +1,11 @@
--- What the catalogue's contracts ask: room for size s, rows that keep their rules, the row above a flow; and the line that one of them gives.
+-- What the catalogue's contracts ask: room for size s, and rows that keep their rules.
 -- Assumes nothing.
 use mathlib.Core.Path.{_≡_}
 use mathlib.Core.Bool.{true}
 use Prim.Native.Nat.{ℕ, _+_, _-_, _*_, _≤_, _<_}
 use mathlib.Core.List.{List}
 use lib.ListN.{length}
-use Rattle.basis.specs.Round.{up}
-use Rattle.catalogue.specs.declared.reading.SizeAtFlow.{SizeAtFlow}
-use Rattle.catalogue.specs.Layout.{rowsOf, sizeLength, flowAt, velocityAt, slopeAt}
+use Rattle.catalogue.specs.Layout.{rowsOf, sizeLength, flowAt}
 use Rattle.catalogue.specs.Rules.{rowsOk, shapeOk, sizesOk}
 
 -- size s, from 1 to 12, lies within the catalogue, with at most 64 rows
@@ -34,18 +32,3 @@ pub record Above (rows : List ℕ) (n q k : ℕ) : Type 0 where
   pub within : k < n
   pub reached : q ≤ flowAt rows k
   pub under : 0 < k → flowAt rows (k - 1) < q
-
--- a part with a first row, and a flow up to that row's
-pub record UpToFirst (rows : List ℕ) (q : ℕ) : Type 0 where
-  pub long : 8 ≤ length rows
-  pub some : 0 < flowAt rows 0
-  pub under : q ≤ flowAt rows 0
-
--- the straight line from zero to the first row, at q
-abbrev pub fromZero : List ℕ → ℕ → SizeAtFlow
-fromZero rows q =
-    record {
-      serves = true;
-      velocity = up (q * velocityAt rows 0) (flowAt rows 0);
-      slope = up (q * slopeAt rows 0) (flowAt rows 0);
-    }

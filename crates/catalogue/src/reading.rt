@@ -8,7 +8,7 @@ ghost use mathlib.Core.Path.{_≡_};
 ghost use Prim.Native.Nat.{_+_, _-_, _*_, _≤_, _<_};
 ghost use Rattle.catalogue.specs.Layout.{rowsOf, sizesOf, partOf, flowAt};
 ghost use Rattle.catalogue.specs.Reading.{readRows};
-ghost use Rattle.catalogue.specs.Contracts.{Rows, AcceptedCat, Above, UpToFirst, fromZero};
+ghost use Rattle.catalogue.specs.Contracts.{Rows, AcceptedCat, Above};
 
 // Velocity in mm/s and slope in mm per metre, 0 where the size can't serve.
 pub struct SizeAtFlow {
@@ -35,20 +35,7 @@ fn row_above(rows: &[u8], n: usize, q: u32) -> usize
     lo
 }
 
-// The straight line from zero to the first row of a part, at a flow up to that row's.
-fn from_zero(rows: &[u8], q: u32) -> SizeAtFlow
-    requires { ⌜ UpToFirst (now rows) q ⌝ }
-    ensures { λ r. ⌜ r ≡ fromZero (now (rows .entry)) q ⌝ }
-{
-    let flow = row_flow(rows, 0);
-    SizeAtFlow {
-        serves: true,
-        velocity: round::line_at(0, 0, flow, row_velocity(rows, 0) as u32, q),
-        slope: round::line_at(0, 0, flow, row_slope(rows, 0) as u32, q),
-    }
-}
-
-// n rows of a part read at q.
+// n rows of a part read at q, on the line from the row before; the line to the first row comes from zero.
 fn read_rows(rows: &[u8], n: usize, q: u32) -> SizeAtFlow
     requires { ⌜ Rows (now rows) n ⌝ }
     ensures { λ r. ⌜ r ≡ readRows (now (rows .entry)) n q ⌝ }
@@ -61,29 +48,19 @@ fn read_rows(rows: &[u8], n: usize, q: u32) -> SizeAtFlow
         };
     }
     let k = row_above(rows, n, q);
-    if k == 0 {
-        return from_zero(rows, q);
+    let mut x0: u32 = 0;
+    let mut velocity: u32 = 0;
+    let mut slope: u32 = 0;
+    if 0 < k {
+        x0 = row_flow(rows, k - 1);
+        velocity = row_velocity(rows, k - 1) as u32;
+        slope = row_slope(rows, k - 1) as u32;
     }
-    let x0 = row_flow(rows, k - 1);
     let x1 = row_flow(rows, k);
-    let velocity = round::line_at(
-        x0,
-        row_velocity(rows, k - 1) as u32,
-        x1,
-        row_velocity(rows, k) as u32,
-        q,
-    );
-    let slope = round::line_at(
-        x0,
-        row_slope(rows, k - 1) as u32,
-        x1,
-        row_slope(rows, k) as u32,
-        q,
-    );
     SizeAtFlow {
         serves: true,
-        velocity,
-        slope,
+        velocity: round::line_at(x0, velocity, x1, row_velocity(rows, k) as u32, q),
+        slope: round::line_at(x0, slope, x1, row_slope(rows, k) as u32, q),
     }
 }
 

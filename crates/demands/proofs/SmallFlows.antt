@@ -27,7 +27,7 @@ use Rattle.catalogue.specs.declared.reading.SizeAtFlow.{SizeAtFlow}
 use Rattle.catalogue.specs.Layout.{sizesOf, partOf, flowAt, velocityAt, slopeAt}
 use Rattle.catalogue.specs.Rules.{catNo}
 use Rattle.catalogue.specs.Reading.{readRows}
-use Rattle.catalogue.specs.Contracts.{Rows, AcceptedCat, fromZero}
+use Rattle.catalogue.specs.Contracts.{Rows, AcceptedCat}
 use Rattle.catalogue.proofs.AcceptedCat.{cat-of, cat-rows}
 use Rattle.catalogue.proofs.Lines.{first-high}
 use Rattle.catalogue.proofs.Readings.{first-flow, reading-over, reading-low, reading-between, reading-pos}
@@ -58,7 +58,7 @@ module _ {rows : List ℕ} {n : ℕ} (r : Rows rows n) (q : ℕ) where
   before-beyond h = rw (le-ltb q (flowAt rows 0) h)
 
   -- under the first row
-  line-lower : q ≤ flowAt rows 0 → Lower (fromZero rows q) (served (velocityAt rows 0) (slopeAt rows 0))
+  line-lower : q ≤ flowAt rows 0 → Lower (served (up (q * velocityAt rows 0) (flowAt rows 0)) (up (q * slopeAt rows 0) (flowAt rows 0))) (served (velocityAt rows 0) (slopeAt rows 0))
   line-lower h =
       record {
         serves = refl;
