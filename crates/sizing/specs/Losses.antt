@@ -53,7 +53,7 @@ module _ (job : Job) (read : ℕ → ℕ → SizeAtFlow) where
 abbrev pub overAt : Job → List ℕ → ℕ → ℕ → Bool
 overAt job cat s i = overWith job (readingOf job cat) s i
 
--- 13: a section of a list is
+-- 13: a section of a list is over its last row or the limit
 abbrev pub overAny : Job → List ℕ → List ℕ → Bool
 overAny job cat list = anyWith job (readingOf job cat) list
 
