@@ -7,7 +7,7 @@ ghost use Rattle.catalogue.specs.Steps.{Rows, AcceptedCat, Above};
 use crate::layout::{row_flow, row_slope, row_velocity, rows_of, size_from};
 
 // Velocity in mm/s and slope in mm per metre, 0 where the size can't serve.
-#[derive(Drop)]
+#[derive(Clone, Copy)]
 pub struct SizeAtFlow {
     pub serves: bool,
     pub velocity: u32,

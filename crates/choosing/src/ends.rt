@@ -7,7 +7,7 @@ ghost use Rattle.choosing.specs.Steps.{shift, EndsOf};
 use fields::{Job, Section};
 
 // The parent of each section, and elevation + free head at its end, 1,000 cm more so that it is not negative; at the section's place.
-#[derive(Drop)]
+#[derive(Clone, Copy)]
 pub struct Ends {
     pub parents: [u8; 64],
     pub needs: [u32; 64],

@@ -10,7 +10,7 @@ use fields::Job;
 use numbers::{greater, long16, long32};
 
 // Of a section or the house: m, the sum of share × Z, and one tap in ml/s.
-#[derive(Drop)]
+#[derive(Clone, Copy)]
 pub struct Sums {
     pub m: u64,
     pub weighted: u64,
@@ -18,14 +18,14 @@ pub struct Sums {
 }
 
 // Of the house's hour: the sum of the shares, and of share × O.
-#[derive(Drop)]
+#[derive(Clone, Copy)]
 pub struct HourSums {
     pub shares: u64,
     pub weighted: u64,
 }
 
 // What a kind adds to the sums: its share, share × Z, and Z where it is served.
-#[derive(Drop)]
+#[derive(Clone, Copy)]
 struct Part {
     share: u64,
     weighted: u64,
@@ -84,7 +84,7 @@ pub fn sums_of(job: Job, counts: &[u32; 768], i: usize) -> Sums
 }
 
 // What a kind adds to the sums of the house's hour: its share, and share × O.
-#[derive(Drop)]
+#[derive(Clone, Copy)]
 struct HourPart {
     share: u64,
     weighted: u64,

@@ -3,7 +3,7 @@ ghost use Rattle.std.specs.Prelude.{◌≡◌};
 ghost use Rattle.fields.specs.Fields.{blank_section, blank_job};
 
 // A section of pipe with what stands at its end. Length in decimetres, elevation and free head in cm.
-#[derive(Drop)]
+#[derive(Clone, Copy)]
 pub struct Section {
     pub parent: u8,
     pub kind: u8,
@@ -14,7 +14,7 @@ pub struct Section {
 }
 
 // The head of a job: the version of its record, the service (0 total, 1 cold, 2 hot), k, S, T, meter loss, G, H and velocity limit.
-#[derive(Drop)]
+#[derive(Clone, Copy)]
 pub struct Header {
     pub version: u8,
     pub service: u8,
@@ -28,7 +28,7 @@ pub struct Header {
 }
 
 // A job. The residents of kind c are at place c - 1, section i at place i; place 0 stands for the pump.
-#[derive(Drop)]
+#[derive(Clone, Copy)]
 pub struct Job {
     pub header: Header,
     pub residents: [u16; 12],

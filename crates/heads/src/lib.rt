@@ -8,7 +8,7 @@ ghost use Rattle.heads.specs.Steps.{Given, Walkable};
 use fields::{Job, Section};
 
 // Required head in cm, pump head in cm, and the dictating section.
-#[derive(Drop)]
+#[derive(Clone, Copy)]
 pub struct Heads {
     pub required: i32,
     pub pump: u32,
@@ -16,7 +16,7 @@ pub struct Heads {
 }
 
 // The greatest reach of the sections looked at, and the lowest of them that has it.
-#[derive(Drop)]
+#[derive(Clone, Copy)]
 struct Greatest {
     reach: i32,
     section: usize,

@@ -11,7 +11,7 @@ use fields::Job;
 use numbers::wide32;
 
 // What reading gives: the answer, and the fields, all zero after a refusal.
-#[derive(Drop)]
+#[derive(Clone, Copy)]
 pub struct Reading {
     pub answer: Answer,
     pub job: Job,

@@ -12,7 +12,7 @@ use answer::Answer;
 use rated_bytes::put_heads;
 
 // The losses at the sections' places, and whether 19 finds nothing.
-#[derive(Drop)]
+#[derive(Clone, Copy)]
 struct Losses {
     ok: bool,
     at: [u32; 64],

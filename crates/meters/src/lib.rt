@@ -5,7 +5,7 @@ ghost use Rattle.meters.specs.Meters.{meter_at, meter_ok, meters_ok, meter_loss,
 use numbers::{long16, long32};
 
 // A meter: its form, the paper's type (1 vane, 2 turbine), its resistance in ten-thousandths of m per (l/s) squared, and service flow in l/h.
-#[derive(Drop)]
+#[derive(Clone, Copy)]
 pub struct Meter {
     pub form: u8,
     pub resistance: u16,

@@ -44,7 +44,7 @@ const HOURLY: [u16; 24] = [
 ];
 
 // D, Q, Z and O of a kind.
-#[derive(Drop)]
+#[derive(Clone, Copy)]
 pub struct Norm {
     pub day: u64,
     pub hour: u64,

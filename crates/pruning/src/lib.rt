@@ -11,7 +11,7 @@ use numbers::{greater, wide8, wide32};
 use sizes::trim;
 
 // The tables with fewer sizes and greater needs; or, where a section has no size left, that no list suits.
-#[derive(Drop)]
+#[derive(Clone, Copy)]
 pub struct Smaller {
     pub some: bool,
     pub needs: [u32; 64],

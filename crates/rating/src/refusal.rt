@@ -6,7 +6,7 @@ use answer::Answer;
 use fields::Job;
 
 // The answer, and where it is a result the job with the flows, velocities and losses at the sections' places; all zero after a refusal.
-#[derive(Drop)]
+#[derive(Clone, Copy)]
 pub struct Outcome {
     pub answer: Answer,
     pub job: Job,

@@ -8,7 +8,7 @@ use numbers::wide8;
 use sizing::try_size;
 
 // The flows, velocities and losses at the sections' places, and whether a section is over its last row or the limit.
-#[derive(Drop)]
+#[derive(Clone, Copy)]
 pub struct Rated {
     pub over: bool,
     pub flows: [u32; 64],

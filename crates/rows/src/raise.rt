@@ -10,7 +10,7 @@ use numbers::{greater, lesser, wide32};
 use plan::MARK;
 
 // A section's row: from what its end needs to the most that it can use; where its sizes stand in the tables, and where the row starts in the workspace. The stride lays a row for each size apart (L9); at 0 the sizes share one row.
-#[derive(Drop)]
+#[derive(Clone, Copy)]
 pub struct Row {
     pub need: usize,
     pub high: usize,
@@ -34,7 +34,7 @@ pub fn row_of(needs: &[u32; 64], highs: &[usize; 64], head: usize, s: usize) -> 
 }
 
 // From this head on the best cost is at most this.
-#[derive(Drop)]
+#[derive(Clone, Copy)]
 struct Level {
     head: usize,
     cost: u32,

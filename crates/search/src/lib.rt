@@ -15,7 +15,7 @@ use rows::fill;
 use usable::high_of;
 
 // Whether a list suits, and one of least cost: the cost, and its sizes, section s at place s - 1.
-#[derive(Drop)]
+#[derive(Clone, Copy)]
 pub struct Choice {
     pub found: bool,
     pub cost: u32,

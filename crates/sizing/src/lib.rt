@@ -7,7 +7,7 @@ ghost use Rattle.sizing.specs.Losses.{loss_of};
 ghost use Rattle.sizing.specs.Steps.{tried_of};
 
 // Whether the flow is over the size's last row or the velocity over the limit; velocity in mm/s and loss in cm, 0 where it is.
-#[derive(Drop)]
+#[derive(Clone, Copy)]
 pub struct Tried {
     pub over: bool,
     pub velocity: u32,

@@ -7,7 +7,7 @@ use Rattle.fields.proofs.blank_job.Tie as tie
 
 returns : tie.Need-returns
 unfolding blank_job
-returns c = rw c.blank-section.ensures
+returns c = rw c.blank_section-blank.ensures
 
 pub blank_job_spec : {M : Type 1} → statement M
 blank_job_spec = tie.close (tie.spec (λ c κs. search rules) returns)

@@ -9,6 +9,6 @@ use Rattle.wire.proofs.bits32.Tie as tie
 pub bits32_spec : {M : Type 1} → statement M
 bits32_spec =
     tie.close
-    (tie.spec (λ c. cast_fits w64 (omega arith) c.before.ranges.z) (λ c. sum_fits w64 (omega arith) c.before.ranges.z c.if1.true)
-    (λ c. sum_back w64 (omega arith) c.before.ranges.z c.if1.true) (λ c. same_back w64 (omega arith) c.before.ranges.z c.if1.false)
-    (λ c. sum_is w64 (omega arith) c.before.ranges.z c.if1.true) (λ c. same_is w64 (omega arith) c.before.ranges.z c.if1.false))
+    (tie.spec (λ c. cast_fits w64 (omega arith) c.before.ranges.z) (λ c. sum_fits w64 (omega arith) c.before.ranges.z c.if-z-lt0.true)
+    (λ c. sum_back w64 (omega arith) c.before.ranges.z c.if-z-lt0.true) (λ c. same_back w64 (omega arith) c.before.ranges.z c.if-z-lt0.false)
+    (λ c. sum_is w64 (omega arith) c.before.ranges.z c.if-z-lt0.true) (λ c. same_is w64 (omega arith) c.before.ranges.z c.if-z-lt0.false))

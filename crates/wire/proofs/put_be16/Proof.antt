@@ -9,4 +9,4 @@ pub put_be16_spec : {M : Type 1} → statement M
 put_be16_spec =
     tie.close
     (tie.spec (λ c κs. search rules) (λ c. search rules) (λ c κs. search rules) (λ c. search rules)
-    (λ c. c.before.before.put.ensures ∙ rw c.before.before.before.before.before.bytes16.ensures))
+    (λ c. c.before.before.put.ensures ∙ rw c.before.before.before.before.before.bytes16-x.ensures))
