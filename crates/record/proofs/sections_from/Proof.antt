@@ -8,4 +8,4 @@ use Rattle.record.proofs.sections_from.Tie as tie
 
 pub sections_from_spec : {M : Type 1} → statement M
 sections_from_spec =
-    tie.close (tie.spec (λ c. (sym (from_two c.if1.true), omega arith)) (λ c. (sym (from_other c.if1.false), omega arith)))
+    tie.close (tie.spec (λ c. (sym (from_two c.if-version-eq2.true), omega arith)) (λ c. (sym (from_other c.if-version-eq2.false), omega arith)))

@@ -11,12 +11,12 @@ use Rattle.round.proofs.line_at.Tie as tie
 product : (c : tie.Start) → (c.args.y1 - c.args.y0) * (c.args.x - c.args.x0) ≤ 4294967295 * 4294967295
 product c = piece_product c.requires (omega arith) (omega arith)
 
-sum : (c : tie.After-divide-up) → c.before.args.y0 + c.divide-up.result ≤ c.before.args.y1
-sum c = rw c.divide-up.ensures (piece_sum c.before.requires)
+sum : (c : tie.After-divide_up) → c.before.args.y0 + c.divide_up.result ≤ c.before.args.y1
+sum c = rw c.divide_up.ensures (piece_sum c.before.requires)
 
 returns : tie.Need-returns
 unfolding line
-returns c = rw c.divide-up.ensures
+returns c = rw c.divide_up.ensures
 
 pub line_at_spec : {M : Type 1} → statement M
 line_at_spec =

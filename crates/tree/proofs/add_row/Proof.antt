@@ -7,27 +7,27 @@ use Rattle.tree.proofs.Row.{Adding, adding_start, adding_fits, adding_more, addi
 use Rattle.tree.proofs.add_row.Statement.{statement}
 use Rattle.tree.proofs.add_row.Tie as tie
 
-abbrev invariant-loop : tie.invariant-loop
+abbrev invariant-loop : tie.invariant-loop-k
 invariant-loop n₀ from to k₀ n k = (k ≤ 12) × Adding n₀ n from to k
 
-abbrev decreases-loop : tie.decreases-loop
+abbrev decreases-loop : tie.decreases-loop-k
 decreases-loop n₀ from to k₀ n k = 12 - k
 
-loop_holds : tie.Need-loop-init invariant-loop decreases-loop
+loop_holds : tie.Need-loop-k-init invariant-loop decreases-loop
 loop_holds c = (omega arith, adding_start _ _ _ c.requires.long)
 
-add_n_3 : tie.Need-overflow-add-n-3 invariant-loop decreases-loop
+add_n_3 : tie.Need-overflow_add-n-in-loop-k-2 invariant-loop decreases-loop
 add_n_3 c =
-    record { fits = adding_fits c.before.before.before.loop.invariant.1 c.before.before.before.before.requires (omega arith) }
+    record { fits = adding_fits c.before.before.before.loop-k.invariant.1 c.before.before.before.before.requires (omega arith) }
 
-loop_again : tie.Need-loop-preserved invariant-loop decreases-loop
+loop_again : tie.Need-loop-k-preserved invariant-loop decreases-loop
 loop_again c = (
   omega arith,
-  adding_more c.before.before.before.loop.invariant.1 c.before.before.before.before.requires (omega arith),
+  adding_more c.before.before.before.loop-k.invariant.1 c.before.before.before.before.requires (omega arith),
 )
 
 returns : tie.Need-returns invariant-loop decreases-loop
-returns c = adding_end c.before.loop.invariant.1 (omega arith)
+returns c = adding_end c.before.loop-k.invariant.1 (omega arith)
 
 pub add_row_spec : {M : Type 1} → statement M
 add_row_spec =

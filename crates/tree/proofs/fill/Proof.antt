@@ -11,35 +11,35 @@ use Rattle.tree.proofs.Filled.{owned_start, owned_skip, owned_set}
 use Rattle.tree.proofs.fill.Statement.{statement}
 use Rattle.tree.proofs.fill.Tie as tie
 
-abbrev invariant-loop : tie.invariant-loop
+abbrev invariant-loop : tie.invariant-loop-j
 invariant-loop n₀ job count j₀ n j = (0 < j) × (j ≤ count_of job + 1) × Owned job (j - 1) n
 
-abbrev decreases-loop : tie.decreases-loop
+abbrev decreases-loop : tie.decreases-loop-j
 decreases-loop n₀ job count j₀ n j = count_of job + 1 - j
 
-loop_holds : tie.Need-loop-init invariant-loop decreases-loop
+loop_holds : tie.Need-loop-j-init invariant-loop decreases-loop
 loop_holds c = (omega arith, omega arith, owned_start _ c.requires.2)
 
-twelve : (c : tie.After-struct-known2 invariant-loop decreases-loop) →
-    (section_of c.before.before.before.before.before.before.args.t1 c.before.before.before.before.before.loop.j).kind ≤ 12
+twelve : (c : tie.After-struct_known-then-kind-gt0-1 invariant-loop decreases-loop) →
+    (section_of c.before.before.before.before.before.before.args.job c.before.before.before.before.before.loop-j.j).kind ≤ 12
 twelve c = c.before.before.before.before.before.before.requires.1.twelve _ (omega arith) (omega arith)
 
-loop_again : tie.Need-loop-preserved invariant-loop decreases-loop
+loop_again : tie.Need-loop-j-preserved invariant-loop decreases-loop
 loop_again c =
-    let o = c.before.before.before.before.loop.invariant.2 in
-    let s = c.before.struct_known.given.1.1.0.fits in
-    let twelve = c.before.before.before.before.before.requires.1.twelve c.before.before.before.before.loop.j (omega arith) (omega arith) in (
+    let o = c.before.before.before.before.loop-j.invariant.2 in
+    let s = c.before.struct_known-1.given.1.1.0.fits in
+    let twelve = c.before.before.before.before.before.requires.1.twelve c.before.before.before.before.loop-j.j (omega arith) (omega arith) in (
       omega arith,
       omega arith,
       ⊎_elim
           (λ w. rw w.2 (owned_set o (omega arith) (omega arith) s w.0.taken twelve))
           (λ w. rw w.1 (owned_skip o (omega arith) (omega arith) s (omega arith)))
-          c.if1.branch,
+          c.if-kind-gt0.branch-raw,
     )
 
 returns : tie.Need-returns invariant-loop decreases-loop
 returns c =
-    let e : c.before.loop.j - 1 ≡ count_of c.before.before.args.t1 = omega arith in rw e at c.before.loop.invariant.2
+    let e : c.before.loop-j.j - 1 ≡ count_of c.before.before.args.job = omega arith in rw e at c.before.loop-j.invariant.2
 
 pub fill_spec : {M : Type 1} → statement M
 fill_spec =

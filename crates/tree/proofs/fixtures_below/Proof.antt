@@ -10,27 +10,27 @@ use Rattle.tree.proofs.Members.{Passed, passed_start, passed_in, passed_more, pa
 use Rattle.tree.proofs.fixtures_below.Statement.{statement}
 use Rattle.tree.proofs.fixtures_below.Tie as tie
 
-abbrev invariant-loop : tie.invariant-loop
+abbrev invariant-loop : tie.invariant-loop-rest
 invariant-loop set i job sum₀ rest₀ j₀ sum rest j = Passed (count_of job) (below job i) (λ k. (section_of job k).fixtures) j rest sum
 
-abbrev decreases-loop : tie.decreases-loop
+abbrev decreases-loop : tie.decreases-loop-rest
 decreases-loop set i job sum₀ rest₀ j₀ sum rest j = rest
 
-loop_holds : tie.Need-loop-init invariant-loop decreases-loop
+loop_holds : tie.Need-loop-rest-init invariant-loop decreases-loop
 unfolding set_of
 loop_holds c =
     rw c.requires.2 (passed_start c.args.i (omega arith) (λ k p q. below_under c.requires.0 c.args.i k q (omega arith)))
 
 -- the section's place
-low : (c : tie.In-loop invariant-loop decreases-loop) → c.before.loop.j < 64
-low c = omega (arith, passed_in c.before.loop.invariant (omega arith), c.before.before.requires.0.few)
+low : (c : tie.In-loop-rest invariant-loop decreases-loop) → c.before.loop-rest.j < 64
+low c = omega (arith, passed_in c.before.loop-rest.invariant (omega arith), c.before.before.requires.0.few)
 
-loop_again : tie.Need-loop-preserved invariant-loop decreases-loop
-loop_again c = passed_more c.before.before.before.loop.invariant (omega arith) c.struct_known.given.1.1.0.fits
+loop_again : tie.Need-loop-rest-preserved invariant-loop decreases-loop
+loop_again c = passed_more c.before.before.before.loop-rest.invariant (omega arith) c.struct_known-1.given.1.1.0.fits
 
 returns : tie.Need-returns invariant-loop decreases-loop
 unfolding fixtures_below
-returns c = passed_end c.before.loop.invariant (omega arith)
+returns c = passed_end c.before.loop-rest.invariant (omega arith)
 
 pub fixtures_below_spec : {M : Type 1} → statement M
 fixtures_below_spec =

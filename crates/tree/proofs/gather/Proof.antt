@@ -8,29 +8,29 @@ use Rattle.tree.proofs.Upward.{Summed, summed_start, summed_fits, summed_more, s
 use Rattle.tree.proofs.gather.Statement.{statement}
 use Rattle.tree.proofs.gather.Tie as tie
 
-abbrev invariant-loop : tie.invariant-loop
+abbrev invariant-loop : tie.invariant-loop-t
 invariant-loop n₀ job t₀ n t = (t ≤ count_of job) × Summed job t n
 
-abbrev decreases-loop : tie.decreases-loop
+abbrev decreases-loop : tie.decreases-loop-t
 decreases-loop n₀ job t₀ n t = t
 
-loop_holds : tie.Need-loop-init invariant-loop decreases-loop
+loop_holds : tie.Need-loop-t-init invariant-loop decreases-loop
 loop_holds c = (omega arith, summed_start c.requires.0 c.requires.1)
 
 cast_p : tie.Need-overflow-cast-p invariant-loop decreases-loop
-cast_p c = omega (arith, c.before.before.requires.0.lower c.before.loop.t (omega arith) (omega arith))
+cast_p c = omega (arith, c.before.before.requires.0.lower c.before.loop-t.t (omega arith) (omega arith))
 
-add_row_requires : tie.Need-add-row-requires invariant-loop decreases-loop
-add_row_requires c κs = summed_fits c.before.before.before.requires.0 (omega arith) (omega arith) c.before.before.loop.invariant.1
+add_row_requires : tie.Need-add_row-requires invariant-loop decreases-loop
+add_row_requires c κs = summed_fits c.before.before.before.requires.0 (omega arith) (omega arith) c.before.before.loop-t.invariant.1
 
-loop_again : tie.Need-loop-preserved invariant-loop decreases-loop
+loop_again : tie.Need-loop-t-preserved invariant-loop decreases-loop
 loop_again c = (
   omega arith,
-  summed_more c.before.before.before.before.requires.0 (omega arith) (omega arith) c.before.before.before.loop.invariant.1 c.add_row.ensures,
+  summed_more c.before.before.before.before.requires.0 (omega arith) (omega arith) c.before.before.before.loop-t.invariant.1 c.add_row.ensures,
 )
 
 returns : tie.Need-returns invariant-loop decreases-loop
-returns c = summed_end c.before.before.requires.0 c.before.loop.invariant.1 (omega arith)
+returns c = summed_end c.before.before.requires.0 c.before.loop-t.invariant.1 (omega arith)
 
 pub gather_spec : {M : Type 1} → statement M
 gather_spec =

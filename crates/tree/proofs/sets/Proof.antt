@@ -9,30 +9,30 @@ use Rattle.tree.proofs.Upward.{Joined, joined_start, joined_fits, joined_more, j
 use Rattle.tree.proofs.sets.Statement.{statement}
 use Rattle.tree.proofs.sets.Tie as tie
 
-abbrev invariant-loop : tie.invariant-loop
+abbrev invariant-loop : tie.invariant-loop-t
 invariant-loop job count sets₀ t₀ sets t = (t ≤ count_of job) × Joined job t sets
 
-abbrev decreases-loop : tie.decreases-loop
+abbrev decreases-loop : tie.decreases-loop-t
 decreases-loop job count sets₀ t₀ sets t = t
 
-loop_holds : tie.Need-loop-init invariant-loop decreases-loop
-loop_holds c = (omega arith, joined_start c.before.requires c.singles.ensures)
+loop_holds : tie.Need-loop-t-init invariant-loop decreases-loop
+loop_holds c = (omega arith, joined_start c.before.requires c.singles-sets.ensures)
 
 -- the parent's place
-low : (c : tie.In-loop invariant-loop decreases-loop) → up_of c.before.before.before.args.t1 c.before.loop.t < 64
-low c = omega (arith, c.before.before.before.requires.lower c.before.loop.t (omega arith) (omega arith))
+low : (c : tie.In-loop-t invariant-loop decreases-loop) → up_of c.before.before.before.args.job c.before.loop-t.t < 64
+low c = omega (arith, c.before.before.before.requires.lower c.before.loop-t.t (omega arith) (omega arith))
 
-add_sets : tie.Need-overflow-add-sets invariant-loop decreases-loop
-add_sets c = record { fits = joined_fits c.before.before.before.requires (omega arith) (omega arith) c.before.loop.invariant.1 }
+add_sets : tie.Need-overflow_add-sets invariant-loop decreases-loop
+add_sets c = record { fits = joined_fits c.before.before.before.requires (omega arith) (omega arith) c.before.loop-t.invariant.1 }
 
-loop_again : tie.Need-loop-preserved invariant-loop decreases-loop
+loop_again : tie.Need-loop-t-preserved invariant-loop decreases-loop
 loop_again c = (
   omega arith,
-  joined_more c.before.before.before.requires (omega arith) (omega arith) c.before.loop.invariant.1,
+  joined_more c.before.before.before.requires (omega arith) (omega arith) c.before.loop-t.invariant.1,
 )
 
 returns : tie.Need-returns invariant-loop decreases-loop
-returns c = joined_end c.before.before.before.requires c.before.loop.invariant.1 (omega arith)
+returns c = joined_end c.before.before.before.requires c.before.loop-t.invariant.1 (omega arith)
 
 pub sets_spec : {M : Type 1} → statement M
 sets_spec =
