@@ -8,35 +8,35 @@ use Rattle.coefficient.proofs.Reading.{Neighbours, reached_last, reached_piece, 
 use Rattle.coefficient.proofs.alpha.Statement.{statement}
 use Rattle.coefficient.proofs.alpha.Tie as tie
 
-returns : tie.Need-returns
+returns : tie.Need-returns-then-m-lt15000
 returns c = sym (alpha_low _ (omega arith))
 
-place_requires : tie.Need-place-requires
-place_requires c κs = (c.before.requires, omega arith)
+place_requires : tie.Need-place-i-requires
+place_requires c κs = (c.requires, omega arith)
 
-returns_2 : tie.Need-returns-2
-returns_2 c = c.value.ensures ∙ reached_last c.before.before.place.ensures c.before.if2.true
+returns_2 : tie.Need-returns-then-i-eq485
+returns_2 c = c.value.ensures ∙ reached_last c.place-i.ensures c.if-i-eq485.true
 
-pairs : (c : tie.After-value3) →
-    Neighbours c.before.before.before.before.before.place.result
-    c.before.before.before.key.result
-    c.before.before.value2.result
-    c.before.key2.result
-    c.value3.result
+pairs : (c : tie.After-value-3) →
+    Neighbours c.place-i.result
+    c.key.result
+    c.value-2.result
+    c.key-2.result
+    c.value-3.result
 pairs c = record {
-  key = c.before.before.before.key.ensures;
-  value = c.before.before.value2.ensures;
-  next_key = c.before.key2.ensures;
-  next_value = c.value3.ensures;
+  key = c.key.ensures;
+  value = c.value-2.ensures;
+  next_key = c.key-2.ensures;
+  next_value = c.value-3.ensures;
 }
 
-line_at_requires : tie.Need-line-at-requires
-line_at_requires c κs = reached_piece c.before.before.before.before.before.place.ensures (pairs c) (omega arith)
+line_at_requires : tie.Need-line_at-requires
+line_at_requires c κs = reached_piece c.place-i.ensures (pairs c) (omega arith)
 
-returns_3 : tie.Need-returns-3
+returns_3 : tie.Need-returns
 returns_3 c =
-    c.line_at_lem.ensures ∙
-    reached_line c.before.before.before.before.before.before.place.ensures (pairs c.before) (omega arith) (omega arith)
+    c.line_at.ensures ∙
+    reached_line c.place-i.ensures (pairs c.before) (omega arith) (omega arith)
 
 pub alpha_spec : {M : Type 1} → statement M
 alpha_spec =

@@ -14,4 +14,4 @@ returns c = cc
 pub job_of_spec : {M : Type 1} → statement M
 job_of_spec =
     tie.close
-    (tie.spec (λ c κs. omega (arith, from_in (version_at c.before.args.b.now))) (λ c κs. omega (arith, from_in (version_at c.before.before.args.b.now))) (λ c. omega (arith, from_in (version_at c.before.before.before.before.args.b.now))) (λ c κs. search rules) (λ c κs. search rules) returns)
+    (tie.spec (λ c κs. omega (arith, from_in (version_at c.args.b.now))) (λ c κs. omega (arith, from_in (version_at c.args.b.now))) (λ c. omega (arith, from_in (version_at c.args.b.now))) (λ c κs. search rules) (λ c κs. search rules) returns)

@@ -10,21 +10,21 @@ use borrow.Author.Rules.{rules}
 use Rattle.decoding.proofs.residents_of.Statement.{statement}
 use Rattle.decoding.proofs.residents_of.Tie as tie
 
-abbrev invariant-loop : tie.invariant-loop
+abbrev invariant-loop : tie.invariant-loop-c
 invariant-loop b residents₀ c₀ residents c = (c ≤ 12) × (residents ≡ slots 12 0 c 0 (residents_at b))
 
-abbrev decreases-loop : tie.decreases-loop
+abbrev decreases-loop : tie.decreases-loop-c
 decreases-loop b residents₀ c₀ residents c = 12 - c
 
-loop_again : tie.Need-loop-preserved invariant-loop decreases-loop
+loop_again : tie.Need-loop-c-preserved invariant-loop decreases-loop
 unfolding residents_at
 loop_again c =
-    let b = c.before.before.before.before.args.b.now in
-    let at = c.before.before.loop.c in
-    (omega arith, rw (c.before.before.loop.invariant.1, c.be16.ensures) (slots_more 12 0 at 0 (residents_at b) (omega arith) (omega arith)))
+    let b = c.args.b.now in
+    let at = c.loop-c.c in
+    (omega arith, rw (c.loop-c.invariant.1, c.be16.ensures) (slots_more 12 0 at 0 (residents_at b) (omega arith) (omega arith)))
 
 returns : tie.Need-returns invariant-loop decreases-loop
-returns c = let e : c.before.loop.c ≡ 12 = omega arith in (rw e at c.before.loop.invariant.1) ∙ slots_full 12 0 _
+returns c = let e : c.loop-c.c ≡ 12 = omega arith in (rw e at c.loop-c.invariant.1) ∙ slots_full 12 0 _
 
 pub residents_of_spec : {M : Type 1} → statement M
 residents_of_spec =

@@ -10,12 +10,12 @@ use Rattle.decoding.proofs.section_from.Tie as tie
 returns : tie.Need-returns
 unfolding section_from
 returns c = rw (
-  to_z-of_z {w = w16} {z = c.before.signed16.result} (record { sfits = c.before.signed16.type-inv }),
-  c.before.signed16.ensures,
-  c.before.before.be163.ensures,
-  c.before.before.before.before.be16.ensures,
-  c.before.before.before.be162.ensures,
-  c.be164.ensures,
+  to_z-of_z {w = w16} {z = c.signed16.result} (record { sfits = c.signed16.type_inv }),
+  c.signed16.ensures,
+  c.be16-3.ensures,
+  c.be16.ensures,
+  c.be16-2.ensures,
+  c.be16-4.ensures,
 )
 
 pub section_from_spec : {M : Type 1} → statement M

@@ -7,14 +7,14 @@ use Rattle.record.proofs.Service.{service_two, service_other, service_past}
 use Rattle.decoding.proofs.service_of.Statement.{statement}
 use Rattle.decoding.proofs.service_of.Tie as tie
 
-returns : tie.Need-returns
-returns c = sym (service_other _ c.if1.true)
+returns : tie.Need-returns-then-b-ne2
+returns c = sym (service_other _ c.if-b-ne2.true)
 
-returns_2 : tie.Need-returns-2
-returns_2 c = sym (service_past _ c.before.if1.false (omega arith))
+returns_2 : tie.Need-returns-then-b-le-SERVICE
+returns_2 c = sym (service_past _ c.if-b-ne2.false (omega arith))
 
-returns_3 : tie.Need-returns-3
-returns_3 c = sym (service_two _ c.before.before.if1.false)
+returns_3 : tie.Need-returns
+returns_3 c = sym (service_two _ c.if-b-ne2.false)
 
 pub service_of_spec : {M : Type 1} → statement M
 service_of_spec = tie.close (tie.spec (λ c. search rules) returns returns_2 (λ c. search rules) returns_3)

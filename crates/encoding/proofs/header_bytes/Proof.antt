@@ -9,12 +9,12 @@ use Rattle.encoding.proofs.header_bytes.Tie as tie
 returns : tie.Need-returns
 unfolding header_bytes bytes_of
 returns c = rw (
-  c.before.before.before.before.bytes32.ensures,
-  c.before.before.before.before.before.length-of.ensures.0,
-  c.before.before.before.bytes16.ensures,
-  c.before.before.bytes162.ensures,
-  c.before.bytes163.ensures,
-  c.bytes164.ensures,
+  c.bytes32-n.ensures,
+  c.length_of.ensures.0,
+  c.bytes16-meter.ensures,
+  c.bytes16-guaranteed.ensures,
+  c.bytes16-delivered.ensures,
+  c.bytes16-limit.ensures,
 )
 
 pub header_bytes_spec : {M : Type 1} → statement M

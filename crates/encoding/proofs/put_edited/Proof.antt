@@ -11,13 +11,10 @@ use Rattle.encoding.proofs.put_edited.Tie as tie
 
 returns : tie.Need-returns
 returns c =
-    let field = c.before.before in
-    let whole = field.before.before.before.before in
-    let start = whole.before.before.before.before in
-    field.put-be16.ensures ∙
-    rw whole.put.ensures
-    (stored_inside start.args.out.now start.args.at start.args.b.now start.args.field (bytes_of 2 start.args.n) (omega arith)
-    (rw (bytes_length 2 start.args.n) (omega arith)))
+    c.put_be16.ensures ∙
+    rw c.put.ensures
+    (stored_inside c.args.out.now c.args.at c.args.b.now c.args.field (bytes_of 2 c.args.n) (omega arith)
+    (rw (bytes_length 2 c.args.n) (omega arith)))
 
 pub put_edited_spec : {M : Type 1} → statement M
 put_edited_spec = tie.close (tie.spec (λ c κs. search rules) (λ c. search rules) (λ c κs. search rules) (λ c. search rules) returns)

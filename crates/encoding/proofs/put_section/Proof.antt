@@ -6,7 +6,7 @@ use Rattle.encoding.proofs.put_section.Statement.{statement}
 use Rattle.encoding.proofs.put_section.Tie as tie
 
 returns : tie.Need-returns
-returns c = c.before.before.put.ensures ∙ rw c.before.before.before.before.before.section-bytes.ensures
+returns c = c.put.ensures ∙ rw c.section_bytes-x.ensures
 
 pub put_section_spec : {M : Type 1} → statement M
 put_section_spec =

@@ -12,32 +12,32 @@ use Rattle.record.proofs.Lengths.{section_length}
 use Rattle.encoding.proofs.put_sections.Statement.{statement}
 use Rattle.encoding.proofs.put_sections.Tie as tie
 
-abbrev invariant-loop : tie.invariant-loop
+abbrev invariant-loop : tie.invariant-loop-i
 invariant-loop out₀ version count sections i₀ out i = (0 < i) × (i ≤ count + 1) × Running (λ k. section_bytes (get_or sections k blank_section)) out₀ (sections_from version) (i - 1) out
 
-abbrev decreases-loop : tie.decreases-loop
+abbrev decreases-loop : tie.decreases-loop-i
 decreases-loop out₀ version count sections i₀ out i = count + 1 - i
 
-put_section_requires : tie.Need-put-section-requires invariant-loop decreases-loop
+put_section_requires : tie.Need-put_section-requires invariant-loop decreases-loop
 put_section_requires c κs =
-    rw c.before.place_of.ensures.0
-    (running_room 10 (λ i. section_length _) c.before.before.before.before.loop.invariant.2 (omega arith) (omega arith))
+    rw c.place_of.ensures.0
+    (running_room 10 (λ i. section_length _) c.loop-i.invariant.2 (omega arith) (omega arith))
 
-loop_again : tie.Need-loop-preserved invariant-loop decreases-loop
+loop_again : tie.Need-loop-i-preserved invariant-loop decreases-loop
 loop_again c =
-    let r = c.before.before.before.before.before.before.before.loop.invariant.2 in
-    let put = c.before.before in (
+    let r = c.loop-i.invariant.2 in
+    (
       omega arith,
       omega arith,
       running_more 10 (λ i. section_length _) r (omega arith) (omega arith)
-          (put.put-section.ensures ∙ rw put.before.before.place_of.ensures.0),
+          (c.put_section.ensures ∙ rw c.place_of.ensures.0),
     )
 
 returns : tie.Need-returns invariant-loop decreases-loop
-returns c = let e : c.before.loop.i - 1 ≡ c.before.before.before.args.count = omega arith in rw e at c.before.loop.invariant.2.run
+returns c = let e : c.loop-i.i - 1 ≡ c.args.count = omega arith in rw e at c.loop-i.invariant.2.run
 
 pub put_sections_spec : {M : Type 1} → statement M
 put_sections_spec =
     tie.close
     (tie.spec invariant-loop decreases-loop (λ c. (omega arith, omega arith, running_start _ _ _)) (λ c κs. search rules) (λ c. search rules) (λ c. search rules)
-    put_section_requires (λ c. search rules) (λ c. search rules) loop_again (λ c. c.before.loop.invariant.2.same) returns)
+    put_section_requires (λ c. search rules) (λ c. search rules) loop_again (λ c. c.loop-i.invariant.2.same) returns)

@@ -10,20 +10,18 @@ use Rattle.record.proofs.Lengths.{from_two}
 use Rattle.encoding.proofs.put_service.Statement.{statement}
 use Rattle.encoding.proofs.put_service.Tie as tie
 
-slice_write_out : tie.Need-slice-write-out
-slice_write_out c = omega (arith, from_two c.if1.true)
+slice_write_out : tie.Need-bounds-out-40
+slice_write_out c = omega (arith, from_two c.if-h-eq2.true)
 
-returns : tie.Need-returns
+returns : tie.Need-returns-then-h-eq2
 unfolding service_bytes
 returns c =
-    let start = c.before.before in
-    stored_one start.args.out.now 40 _ (slice_write_out c) ∙ rw (eq-eqb start.args.h.version 2 c.if1.true)
+    stored_one c.args.out.now 40 _ (slice_write_out c) ∙ rw (eq-eqb c.args.h.version 2 c.if-h-eq2.true)
 
-returns_2 : tie.Need-returns-2
+returns_2 : tie.Need-returns-else-h-eq2
 unfolding service_bytes
 returns_2 c =
-    let start = c.before.before in
-    sym (rw (ne_eqb start.args.h.version 2 c.if1.false) (stored_none start.args.out.now 40))
+    sym (rw (ne_eqb c.args.h.version 2 c.if-h-eq2.false) (stored_none c.args.out.now 40))
 
 pub put_service_spec : {M : Type 1} → statement M
 put_service_spec = tie.close (tie.spec slice_write_out (λ c. search rules) returns returns_2)

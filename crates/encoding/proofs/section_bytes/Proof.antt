@@ -11,14 +11,14 @@ use Rattle.encoding.proofs.section_bytes.Tie as tie
 returns : tie.Need-returns
 unfolding section_bytes bytes_of
 returns c = rw (
-  c.before.before.before.before.before.bytes16.ensures,
-  c.before.before.before.before.bytes162.ensures,
-  c.before.bytes163.ensures,
-  c.before.before.bits16.ensures,
+  c.bytes16-fixtures.ensures,
+  c.bytes16-decimetres.ensures,
+  c.bytes16-elevation.ensures,
+  c.bits16.ensures,
   to_z-of_z
-      {w = w16} {z = c.before.before.before.before.before.before.args.s.elevation}
-      (record { sfits = c.before.before.before.struct_told.given.1.1.1.1.0.1 }),
-  c.bytes164.ensures,
+      {w = w16} {z = c.args.s.elevation}
+      (record { sfits = c.struct_told-1.given.1.1.1.1.0.1 }),
+  c.bytes16-free.ensures,
 )
 
 pub section_bytes_spec : {M : Type 1} → statement M

@@ -7,7 +7,7 @@ use Rattle.meters.proofs.meter_at.Tie as tie
 
 returns : tie.Need-returns
 unfolding meter_at
-returns c = rw (c.before.be16.ensures, c.be162.ensures)
+returns c = rw (c.be16.ensures, c.be16-2.ensures)
 
 pub meter_at_spec : {M : Type 1} → statement M
 meter_at_spec =

@@ -6,10 +6,10 @@ use Rattle.meters.proofs.Qualifying.{fit_last, unfit}
 use Rattle.meters.proofs.qualifies.Statement.{statement}
 use Rattle.meters.proofs.qualifies.Tie as tie
 
-returns : tie.Need-returns
+returns : tie.Need-returns-then-most_loss-loss_of
 returns c = unfit _ _ _ (λ f. omega arith)
 
-returns_2 : tie.Need-returns-2
+returns_2 : tie.Need-returns
 returns_2 c = fit_last _ _ _ (omega arith)
 
 pub qualifies_spec : {M : Type 1} → statement M

@@ -12,25 +12,25 @@ use Rattle.meters.proofs.Least.{Leads, leads_start, leads_less, leads_same, lead
 use Rattle.meters.proofs.winner.Statement.{statement}
 use Rattle.meters.proofs.winner.Tie as tie
 
-abbrev invariant-loop : tie.invariant-loop
+abbrev invariant-loop : tie.invariant-loop-t
 invariant-loop list q mean count place₀ least₀ t₀ place least t = (0 < t) × (t ≤ meters_in list + 1) × Leads list q mean (t - 1) place least
 
-abbrev decreases-loop : tie.decreases-loop
+abbrev decreases-loop : tie.decreases-loop-t
 decreases-loop list q mean count place₀ least₀ t₀ place least t = meters_in list + 1 - t
 
-loop_holds : tie.Need-loop-init invariant-loop decreases-loop
+loop_holds : tie.Need-loop-t-init invariant-loop decreases-loop
 loop_holds c = (omega arith, omega arith, leads_start _ _ _)
 
-meter_at_requires : tie.Need-meter-at-requires invariant-loop decreases-loop
-meter_at_requires c κs = (omega arith, omega (arith, (list_in _ c.before.before.before.requires.0).whole))
+meter_at_requires : tie.Need-meter_at-m-requires invariant-loop decreases-loop
+meter_at_requires c κs = (omega arith, omega (arith, (list_in _ c.requires.0).whole))
 
-loop_again : tie.Need-loop-preserved invariant-loop decreases-loop
+loop_again : tie.Need-loop-t-preserved invariant-loop decreases-loop
 loop_again c =
     let at = c.before.before.before.before in
-    let t = at.loop.t in
-    let l = at.loop.invariant.2 in
-    let meter = c.before.before.meter-at.ensures in
-    let lost : c.before.loss-of.result ≡ meter_loss (meter_at at.before.before.args.list.now t) at.before.before.args.q = c.before.loss-of.ensures ∙ rw meter in
+    let t = at.loop-t.t in
+    let l = at.loop-t.invariant.2 in
+    let meter = c.meter_at-m.ensures in
+    let lost : c.loss_of-loss.result ≡ meter_loss (meter_at at.args.list.now t) at.args.q = c.loss_of-loss.ensures ∙ rw meter in
     let next : t ≡ suc (t - 1) = omega arith in
     let e : t + 1 - 1 ≡ t = omega arith in (
       omega arith,
@@ -42,14 +42,13 @@ loop_again c =
           (λ v. apart f (rw meter at (sym v.1.ensures ∙ v.2.left)))
           (λ v. omega arith)
           w.0.came)))
-          c.if1.branch),
+          c.if-loss-least.branch-raw),
     )
 
 returns : tie.Need-returns invariant-loop decreases-loop
 returns c =
-    let start = c.before.before.before in
-    let e : c.before.loop.t - 1 ≡ meters_in start.args.list.now = omega arith in
-    leads_wins _ _ _ (rw e at c.before.loop.invariant.2)
+    let e : c.loop-t.t - 1 ≡ meters_in c.args.list.now = omega arith in
+    leads_wins _ _ _ (rw e at c.loop-t.invariant.2)
 
 pub winner_spec : {M : Type 1} → statement M
 winner_spec =

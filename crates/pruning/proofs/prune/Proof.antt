@@ -15,11 +15,11 @@ use borrow.Author.Rules.{rules}
 use Rattle.pruning.proofs.prune.Statement.{statement}
 use Rattle.pruning.proofs.prune.Tie as tie
 
-abbrev invariant-loop : tie.invariant-loop
+abbrev invariant-loop : tie.invariant-loop-s
 invariant-loop parents costs sections sizes head needs₀ losses₀ s₀ rules losses s =
     (s ≤ sections) × Pruned sections sizes parents needs₀ losses₀ costs head rules losses
 
-abbrev decreases-loop : tie.decreases-loop
+abbrev decreases-loop : tie.decreases-loop-s
 decreases-loop parents costs sections sizes head needs₀ losses₀ s₀ rules losses s = s
 
 needs_long : (c : tie.Start invariant-loop decreases-loop) → length c.args.asked ≡ 64
@@ -31,31 +31,26 @@ no_need : (c : tie.Start invariant-loop decreases-loop) → let a = c.args in
     (net_of a.sections a.sizes a.parents.now (set a.asked 0 0) a.table a.costs.now)
 no_need c = keeps_pump c.requires.0 c.args.head 0 (λ j i. get_or-set_other c.args.asked 0 j 0 0 i) refl
 
-returns : tie.Need-returns invariant-loop decreases-loop
+returns : tie.Need-returns-then-least invariant-loop decreases-loop
 returns c =
-    let k = c.before in
-    let g = k.before.before.before.before in
-    let b = g.before in (
+    let b = c.before in (
       (λ e. keeps_none b.args.head (no_need b)
-          (pruned_stop g.loop.invariant.1 (sound_like b.requires.0) k.trim.new.1.1.0 g.loop.s k.trim.result (omega arith) g.loop.invariant.0
-          k.trim.ensures.1.0 k.trim.ensures.1.1 c.if1.true)),
+          (pruned_stop c.loop-s.invariant.1 (sound_like b.requires.0) c.trim-least.new.1.1.0 c.loop-s.s c.trim-least.result (omega arith) c.loop-s.invariant.0
+          c.trim-least.ensures.1.0 c.trim-least.ensures.1.1 c.if-least.true)),
       λ e. absurd (apart e refl),
     )
 
 -- the parent's number is less
-parent_low : (c : tie.After-wide8 invariant-loop decreases-loop) → c.wide8.result < c.before.before.before.before.before.before.before.loop.s
+parent_low : (c : tie.After-wide8-p invariant-loop decreases-loop) → c.wide8-p.result < c.loop-s.s
 parent_low c =
-    let g = c.before.before.before.before.before.before.before in
-    omega (arith, c.wide8.ensures.0, g.before.requires.0.lower g.loop.s (omega arith) g.loop.invariant.0)
+    omega (arith, c.wide8-p.ensures.0, c.requires.0.lower c.loop-s.s (omega arith) c.loop-s.invariant.0)
 
-loop_again : tie.Need-loop-preserved invariant-loop decreases-loop
+loop_again : tie.Need-loop-s-preserved invariant-loop decreases-loop
 loop_again c =
-    let w = c.before.before.before in
-    let k = w.before.before.before in
-    let g = k.before.before.before.before in (
+    (
       omega arith,
-      pruned_more g.loop.invariant.1 (sound_like g.before.requires.0) k.trim.new.1.1.0 g.loop.s k.trim.result (omega arith) g.loop.invariant.0
-          k.trim.ensures.1.0 k.trim.ensures.1.1 w.wide8.result k.trim.ensures.0 w.before.before.if1.false w.wide8.ensures.0 (omega arith),
+      pruned_more c.loop-s.invariant.1 (sound_like c.requires.0) c.trim-least.new.1.1.0 c.loop-s.s c.trim-least.result (omega arith) c.loop-s.invariant.0
+          c.trim-least.ensures.1.0 c.trim-least.ensures.1.1 c.wide8-p.result c.trim-least.ensures.0 c.if-least.false c.wide8-p.ensures.0 (omega arith),
     )
 
 pub prune_spec : {M : Type 1} → statement M
@@ -64,10 +59,9 @@ prune_spec =
     (tie.spec invariant-loop decreases-loop (λ c. search rules)
     (λ c. let l = needs_long c in
     (omega arith, pruned_none (length-set c.args.asked 0 0 ∙ l) (search rules) (get_or-set_same c.args.asked 0 0 0 (omega arith))))
-    (λ c κs. let g = c.before.before.before in
-    (sound_like g.before.requires.0 {need = λ s. get_or g.loop.needs s 0}, (g.loop.invariant.1.losses_long, omega arith, g.loop.invariant.0, g.before.requires.1)))
+    (λ c κs. (sound_like c.requires.0 {need = λ s. get_or c.loop-s.needs s 0}, (c.loop-s.invariant.1.losses_long, omega arith, c.loop-s.invariant.0, c.requires.1)))
     (λ c. search rules) returns (λ c. search rules) (λ c κs. search rules) (λ c. search rules) (λ c. omega (arith, parent_low c))
     (λ c κs. search rules) (λ c. search rules) (λ c. search rules) (λ c κs. search rules) (λ c. search rules) (λ c κs. search rules)
-    (λ c. let t = c.before.before.before.before.before.before.trim.ensures.1.1 in omega (arith, t.fits (omega (arith, t.most))))
+    (λ c. let t = c.trim-least.ensures.1.1 in omega (arith, t.fits (omega (arith, t.most))))
     (λ c. search rules) (λ c. omega (arith, parent_low c.before.before.before)) (λ c. search rules) (λ c. omega arith) loop_again
-    (λ c. ((λ e. absurd (apart refl e)), λ e. pruned_first c.before.loop.invariant.1 (no_need c.before.before))))
+    (λ c. ((λ e. absurd (apart refl e)), λ e. pruned_first c.loop-s.invariant.1 (no_need c.before.before))))

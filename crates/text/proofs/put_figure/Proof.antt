@@ -6,7 +6,7 @@ use Rattle.text.proofs.put_figure.Statement.{statement}
 use Rattle.text.proofs.put_figure.Tie as tie
 
 returns : tie.Need-returns
-returns c = wrote_then c.before.before.before.before.before.before.put_byte.ensures c.before.before.put-decimal.ensures
+returns c = wrote_then c.put_byte-next.ensures c.put_decimal.ensures
 
 pub put_figure_spec : {M : Type 1} → statement M
 put_figure_spec = tie.close (tie.spec (λ c κs. search rules) (λ c κs. search rules) (λ c. search rules) returns)

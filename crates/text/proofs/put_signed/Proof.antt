@@ -13,31 +13,27 @@ use Rattle.text.proofs.Signs.{signed_plain, signed_minus}
 use Rattle.text.proofs.put_signed.Statement.{statement}
 use Rattle.text.proofs.put_signed.Tie as tie
 
-bits : (c : tie.After-bits32) → c.bits32.result ≡ bits_of 32 c.before.before.args.z
-bits c = simp (to_z-of_z c.before.before.ranges.z) at c.bits32.ensures
+bits : (c : tie.After-bits32-bits) → c.bits32-bits.result ≡ bits_of 32 c.args.z
+bits c = simp (to_z-of_z c.ranges.z) at c.bits32-bits.ensures
 
-returns : tie.Need-returns
+returns : tie.Need-returns-then-bits-lt2147483648
 returns c =
     let at = c.before.before.before.before.before in
-    let z = at.before.before.args.z in
-    let low : bits_of 32 z < 2147483648 = rw (← bits at) c.before.before.before.before.if1.true in
-    let e : decimal at.bits32.result ≡ signed_decimal z = rw (bits at) (signed_plain z at.before.before.ranges.z.sfits low) in
-    let p = wrote_as c.before.before.put-figure.ensures (ap (λ (l : List ℕ). 32 ∷ l) e) in wrote_within p (omega (arith, p.short))
+    let z = at.args.z in
+    let low : bits_of 32 z < 2147483648 = rw (← bits at) c.if-bits-lt2147483648.true in
+    let e : decimal at.bits32-bits.result ≡ signed_decimal z = rw (bits at) (signed_plain z at.ranges.z.sfits low) in
+    let p = wrote_as c.put_figure.ensures (ap (λ (l : List ℕ). 32 ∷ l) e) in wrote_within p (omega (arith, p.short))
 
-returns_2 : tie.Need-returns-2
+returns_2 : tie.Need-returns
 returns_2 c =
-    let word = c.before.before.before.before.before.before in
-    let two = word.before.before.before in
-    let at = two.before in
-    let z = at.before.before.args.z in
-    let high : 2147483648 ≤ bits_of 32 z = rw (← bits at) two.if1.false in
-    let e : 45 ∷ decimal (4294967296 - at.bits32.result) ≡ signed_decimal z =
-    rw (bits at) (signed_minus z at.before.before.ranges.z.sfits high) in
-    wrote_as (wrote_then word.put_word.ensures c.before.before.put-decimal.ensures) (ap (λ (l : List ℕ). 32 ∷ l) e)
+    let at = c.before in
+    let z = at.args.z in
+    let high : 2147483648 ≤ bits_of 32 z = rw (← bits at) c.if-bits-lt2147483648.false in
+    let e : 45 ∷ decimal (4294967296 - at.bits32-bits.result) ≡ signed_decimal z =
+    rw (bits at) (signed_minus z at.ranges.z.sfits high) in
+    wrote_as (wrote_then c.put_word-next.ensures c.put_decimal.ensures) (ap (λ (l : List ℕ). 32 ∷ l) e)
 
 pub put_signed_spec : {M : Type 1} → statement M
 put_signed_spec =
     tie.close
-    (tie.spec (λ c κs. search rules) (λ c. search rules) (λ c. search rules) (λ c κs. search rules) (λ c. search rules) returns
-    (λ c. search rules) (λ c κs. search rules) (λ c. search rules) (λ c. search rules) (λ c κs. search rules) (λ c. search rules)
-    returns_2)
+    (tie.spec (λ c κs. search rules) (λ c. search rules) (λ c. search rules) (λ c κs. search rules) (λ c. search rules) returns (λ c κs. search rules) (λ c. search rules) (λ c. search rules) (λ c κs. search rules) (λ c. search rules) returns_2)

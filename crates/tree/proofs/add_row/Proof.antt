@@ -18,16 +18,16 @@ loop_holds c = (omega arith, adding_start _ _ _ c.requires.long)
 
 add_n_3 : tie.Need-overflow_add-n-in-loop-k-2 invariant-loop decreases-loop
 add_n_3 c =
-    record { fits = adding_fits c.before.before.before.loop-k.invariant.1 c.before.before.before.before.requires (omega arith) }
+    record { fits = adding_fits c.loop-k.invariant.1 c.requires (omega arith) }
 
 loop_again : tie.Need-loop-k-preserved invariant-loop decreases-loop
 loop_again c = (
   omega arith,
-  adding_more c.before.before.before.loop-k.invariant.1 c.before.before.before.before.requires (omega arith),
+  adding_more c.loop-k.invariant.1 c.requires (omega arith),
 )
 
 returns : tie.Need-returns invariant-loop decreases-loop
-returns c = adding_end c.before.loop-k.invariant.1 (omega arith)
+returns c = adding_end c.loop-k.invariant.1 (omega arith)
 
 pub add_row_spec : {M : Type 1} → statement M
 add_row_spec =

@@ -8,4 +8,4 @@ use Rattle.tree.proofs.counts.Tie as tie
 pub counts_spec : {M : Type 1} → statement M
 counts_spec =
     tie.close
-    (tie.spec (λ c κs. (c.before.requires.0.few, c.before.requires.1, zeros)) (λ c κs. search rules) (λ c. search rules))
+    (tie.spec (λ c κs. (c.requires.0.few, c.requires.1, zeros)) (λ c κs. search rules) (λ c. search rules))

@@ -22,15 +22,15 @@ loop_holds c =
     rw c.requires.2 (passed_start c.args.i (omega arith) (λ k p q. below_under c.requires.0 c.args.i k q (omega arith)))
 
 -- the section's place
-low : (c : tie.In-loop-rest invariant-loop decreases-loop) → c.before.loop-rest.j < 64
-low c = omega (arith, passed_in c.before.loop-rest.invariant (omega arith), c.before.before.requires.0.few)
+low : (c : tie.In-loop-rest invariant-loop decreases-loop) → c.loop-rest.j < 64
+low c = omega (arith, passed_in c.loop-rest.invariant (omega arith), c.requires.0.few)
 
 loop_again : tie.Need-loop-rest-preserved invariant-loop decreases-loop
-loop_again c = passed_more c.before.before.before.loop-rest.invariant (omega arith) c.struct_known-1.given.1.1.0.fits
+loop_again c = passed_more c.loop-rest.invariant (omega arith) c.struct_known-1.given.1.1.0.fits
 
 returns : tie.Need-returns invariant-loop decreases-loop
 unfolding fixtures_below
-returns c = passed_end c.before.loop-rest.invariant (omega arith)
+returns c = passed_end c.loop-rest.invariant (omega arith)
 
 pub fixtures_below_spec : {M : Type 1} → statement M
 fixtures_below_spec =

@@ -17,23 +17,19 @@ decreases-loop n₀ job t₀ n t = t
 loop_holds : tie.Need-loop-t-init invariant-loop decreases-loop
 loop_holds c = (omega arith, summed_start c.requires.0 c.requires.1)
 
-cast_p : tie.Need-overflow-cast-p invariant-loop decreases-loop
-cast_p c = omega (arith, c.before.before.requires.0.lower c.before.loop-t.t (omega arith) (omega arith))
-
 add_row_requires : tie.Need-add_row-requires invariant-loop decreases-loop
-add_row_requires c κs = summed_fits c.before.before.before.requires.0 (omega arith) (omega arith) c.before.before.loop-t.invariant.1
+add_row_requires c κs = summed_fits c.requires.0 (omega arith) (omega arith) c.loop-t.invariant.1
 
 loop_again : tie.Need-loop-t-preserved invariant-loop decreases-loop
 loop_again c = (
   omega arith,
-  summed_more c.before.before.before.before.requires.0 (omega arith) (omega arith) c.before.before.before.loop-t.invariant.1 c.add_row.ensures,
+  summed_more c.requires.0 (omega arith) (omega arith) c.loop-t.invariant.1 c.add_row.ensures,
 )
 
 returns : tie.Need-returns invariant-loop decreases-loop
-returns c = summed_end c.before.before.requires.0 c.before.loop-t.invariant.1 (omega arith)
+returns c = summed_end c.requires.0 c.loop-t.invariant.1 (omega arith)
 
 pub gather_spec : {M : Type 1} → statement M
 gather_spec =
     tie.close
-    (tie.spec invariant-loop decreases-loop (λ c. search rules) loop_holds (λ c. search rules) (λ c. search rules) cast_p add_row_requires
-    (λ c. search rules) (λ c. search rules) loop_again returns)
+    (tie.spec invariant-loop decreases-loop (λ c. search rules) loop_holds (λ c. search rules) (λ c. search rules) add_row_requires (λ c. search rules) (λ c. search rules) loop_again returns)

@@ -18,21 +18,21 @@ invariant-loop job count parents₀ i₀ parents i = (0 < i) × (i ≤ count_of 
 abbrev decreases-loop : tie.decreases-loop-i
 decreases-loop job count parents₀ i₀ parents i = count_of job + 1 - i
 
-inside : (c : tie.In-loop-i invariant-loop decreases-loop) → c.before.loop-i.i < 64
+inside : (c : tie.In-loop-i invariant-loop decreases-loop) → c.loop-i.i < 64
 inside c = omega arith
 
 loop_again : tie.Need-loop-i-preserved invariant-loop decreases-loop
 loop_again c =
-    let job = c.before.before.args.job in
-    let i = c.before.loop-i.i in
+    let job = c.args.job in
+    let i = c.loop-i.i in
     let put : (section_of job i).parent ≡ parent_of job i = omega (arith, parent_at job i (omega arith)) in (
       omega arith,
       omega arith,
-      rw (c.before.loop-i.invariant.2, put) (slots_more 64 1 i 0 (parent_of job) (omega arith) (inside c)),
+      rw (c.loop-i.invariant.2, put) (slots_more 64 1 i 0 (parent_of job) (omega arith) (inside c)),
     )
 
 returns : tie.Need-returns invariant-loop decreases-loop
-returns c = let e : c.before.loop-i.i ≡ count_of c.before.before.args.job + 1 = omega arith in rw e at c.before.loop-i.invariant.2
+returns c = let e : c.loop-i.i ≡ count_of c.args.job + 1 = omega arith in rw e at c.loop-i.invariant.2
 
 pub parents_of_spec : {M : Type 1} → statement M
 parents_of_spec =

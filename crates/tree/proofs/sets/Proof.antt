@@ -16,27 +16,25 @@ abbrev decreases-loop : tie.decreases-loop-t
 decreases-loop job count sets₀ t₀ sets t = t
 
 loop_holds : tie.Need-loop-t-init invariant-loop decreases-loop
-loop_holds c = (omega arith, joined_start c.before.requires c.singles-sets.ensures)
+loop_holds c = (omega arith, joined_start c.requires c.singles-sets.ensures)
 
 -- the parent's place
-low : (c : tie.In-loop-t invariant-loop decreases-loop) → up_of c.before.before.before.args.job c.before.loop-t.t < 64
-low c = omega (arith, c.before.before.before.requires.lower c.before.loop-t.t (omega arith) (omega arith))
+low : (c : tie.In-loop-t invariant-loop decreases-loop) → up_of c.args.job c.loop-t.t < 64
+low c = omega (arith, c.requires.lower c.loop-t.t (omega arith) (omega arith))
 
 add_sets : tie.Need-overflow_add-sets invariant-loop decreases-loop
-add_sets c = record { fits = joined_fits c.before.before.before.requires (omega arith) (omega arith) c.before.loop-t.invariant.1 }
+add_sets c = record { fits = joined_fits c.requires (omega arith) (omega arith) c.loop-t.invariant.1 }
 
 loop_again : tie.Need-loop-t-preserved invariant-loop decreases-loop
 loop_again c = (
   omega arith,
-  joined_more c.before.before.before.requires (omega arith) (omega arith) c.before.loop-t.invariant.1,
+  joined_more c.requires (omega arith) (omega arith) c.loop-t.invariant.1,
 )
 
 returns : tie.Need-returns invariant-loop decreases-loop
-returns c = joined_end c.before.before.before.requires c.before.loop-t.invariant.1 (omega arith)
+returns c = joined_end c.requires c.loop-t.invariant.1 (omega arith)
 
 pub sets_spec : {M : Type 1} → statement M
 sets_spec =
     tie.close
-    (tie.spec invariant-loop decreases-loop (λ c. search rules) (λ c κs. search rules) loop_holds (λ c. search rules) (λ c. search rules)
-    (λ c. omega (arith, low c)) (λ c. omega (arith, low c)) (λ c. low c) (λ c. search rules) (λ c. search rules) add_sets
-    (λ c. omega (arith, low c)) (λ c. low c) (λ c. search rules) (λ c. search rules) loop_again returns)
+    (tie.spec invariant-loop decreases-loop (λ c. search rules) (λ c κs. search rules) loop_holds (λ c. search rules) (λ c. omega (arith, low c)) (λ c. omega (arith, low c)) (λ c. low c) (λ c. search rules) (λ c. search rules) add_sets (λ c. omega (arith, low c)) (λ c. low c) (λ c. search rules) (λ c. search rules) loop_again returns)

@@ -22,11 +22,11 @@ loop_again : tie.Need-loop-j-preserved invariant-loop decreases-loop
 loop_again c = (
   omega arith,
   omega arith,
-  rw (shifted c.before.loop-j.j (omega arith)) (singles_more c.before.loop-j.invariant.2 (omega arith) (omega arith)),
+  rw (shifted c.loop-j.j (omega arith)) (singles_more c.loop-j.invariant.2 (omega arith) (omega arith)),
 )
 
 returns : tie.Need-returns invariant-loop decreases-loop
-returns c = let e : c.before.loop-j.j - 1 ≡ c.before.before.args.count = omega arith in rw e at c.before.loop-j.invariant.2
+returns c = let e : c.loop-j.j - 1 ≡ c.args.count = omega arith in rw e at c.loop-j.invariant.2
 
 pub singles_spec : {M : Type 1} → statement M
 singles_spec =

@@ -9,13 +9,13 @@ use Rattle.catalogue.proofs.accept.catalogue_refusal.Statement.{statement}
 use Rattle.catalogue.proofs.accept.catalogue_refusal.Tie as tie
 
 -- what the first test has shown
-shape : (c : tie.Else1) → shape_ok c.before.before.before.args.cat.now ≡ true
-shape c = sym c.before.shape-ok.ensures ∙ not-false c.before.shape-ok.result c.if1.false
+shape : (c : tie.Else-not-shape_ok) → shape_ok c.args.cat.now ≡ true
+shape c = sym c.shape_ok.ensures ∙ c.if-not-shape_ok.false
 
 pub catalogue_refusal_spec : {M : Type 1} → statement M
 unfolding cat_no cat_checks first_no
 catalogue_refusal_spec =
     tie.close
-    (tie.spec (λ c κs. tt) (λ c. rw (← c.before.shape-ok.ensures, c.if1.true)) (λ c κs. shape c)
-    (λ c. rw (shape c.before.before, ← c.before.sizes-ok.ensures, c.if2.true))
-    (λ c. rw (shape c.before.before, ← c.before.sizes-ok.ensures, c.if2.false)))
+    (tie.spec (λ c κs. tt) (λ c. rw (← c.shape_ok.ensures, c.if-not-shape_ok.true)) (λ c κs. shape c)
+    (λ c. rw (shape c.before.before, ← c.sizes_ok.ensures, c.if-not-sizes_ok.true))
+    (λ c. rw (shape c.before.before, ← c.sizes_ok.ensures, c.if-not-sizes_ok.false)))

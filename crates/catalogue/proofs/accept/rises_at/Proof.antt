@@ -12,4 +12,4 @@ rises_at_spec =
     (tie.spec (λ c κs. omega arith) (λ c. omega arith) (λ c κs. omega arith) (λ c. rise_refused _ _ (λ b. omega arith))
     (λ c κs. omega arith) (λ c. omega arith) (λ c κs. omega arith) (λ c. rise_refused _ _ (λ b. omega arith))
     (λ c. omega arith) (λ c κs. omega arith) (λ c κs. omega arith)
-    (λ c. rw (c.before.row-slope.ensures, c.row-slope2.ensures) (sym (rise_last _ _ (omega arith) (omega arith)))))
+    (λ c. rw (c.row_slope.ensures, c.row_slope-2.ensures) (sym (rise_last _ _ (omega arith) (omega arith)))))

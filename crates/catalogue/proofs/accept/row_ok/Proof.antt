@@ -9,6 +9,6 @@ use Rattle.catalogue.proofs.accept.row_ok.Tie as tie
 pub row_ok_spec : {M : Type 1} → statement M
 row_ok_spec =
     tie.close
-    (tie.spec (λ c κs. c.before.requires) (λ c. row_refused _ _ (λ b. omega arith)) (λ c. row_refused _ _ (λ b. omega arith))
+    (tie.spec (λ c κs. c.requires) (λ c. row_refused _ _ (λ b. omega arith)) (λ c. row_refused _ _ (λ b. omega arith))
     (λ c κs. omega arith) (λ c. row_refused _ _ (λ b. omega arith)) (λ c κs. omega arith)
-    (λ c. rw c.row-slope.ensures (sym (row_last _ _ (omega arith) (omega arith)))))
+    (λ c. rw c.row_slope.ensures (sym (row_last _ _ (omega arith) (omega arith)))))

@@ -10,10 +10,10 @@ use Rattle.catalogue.proofs.accept.shape_ok.Statement.{statement}
 use Rattle.catalogue.proofs.accept.shape_ok.Tie as tie
 
 -- the counts as they were read, and that the length which they make fits
-abbrev counts : tie.Else6 → tie.After-rows-of
+abbrev counts : tie.Else-wide32-cat → tie.After-rows_of-rows
 counts c = c.before.before.before.before.before.before.before.before
 
-product : (c : tie.Else6) → (counts c).before.sizes-of.result * size_length (counts c).rows_of_lem.result ≤ 100 * 1000
+product : (c : tie.Else-wide32-cat) → (counts c).before.sizes-of.result * size_length (counts c).rows_of_lem.result ≤ 100 * 1000
 product c = mul-le-mul {n₂ = 100} {m₂ = 1000} (omega arith) (omega arith)
 
 pub shape_ok_spec : {M : Type 1} → statement M

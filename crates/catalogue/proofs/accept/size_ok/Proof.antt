@@ -14,38 +14,38 @@ use Rattle.catalogue.proofs.accept.size_ok.Statement.{statement}
 use Rattle.catalogue.proofs.accept.size_ok.Tie as tie
 
 -- what the bores' test has shown
-over : (c : tie.Joined2) → Over c.before.before.before.before.args.cat.now c.before.before.before.before.args.s
-over c h = ⊎_elim (λ t. omega arith) (λ t. absurd (omega arith)) c.if2.branch
+over : (c : tie.Joined-s-gt1) → Over c.args.cat.now c.args.s
+over c h = ⊎_elim (λ t. omega arith) (λ t. absurd (omega arith)) c.if-s-gt1.branch-raw
 
 -- the catalogue where the size begins, and that the rows end within it
-abbrev lent : tie.After-size-from → List ℕ
-lent c = c.before.before.before.before.before.before.before.before.before.args.cat.now
+abbrev lent : tie.After-size_from-a → List ℕ
+lent c = c.args.cat.now
 
-room : (c : tie.After-size-from) → c.size-from.result + 4 + 8 * rows_of (lent c) ≤ length (lent c)
-room c = omega (arith, sized_room c.before.before.before.before.before.before.before.before.before.requires.0)
+room : (c : tie.After-size_from-a) → c.size_from-a.result + 4 + 8 * rows_of (lent c) ≤ length (lent c)
+room c = omega (arith, sized_room c.requires.0)
 
-handed : (c : tie.After-size-from) →
-    let a = c.size-from.result + 4 in part (lent c) a (a + 8 * c.before.rows_of_lem.result - a) ≡ part_of (lent c) c.before.before.before.before.before.before.before.before.before.args.s
+handed : (c : tie.After-size_from-a) →
+    let a = c.size_from-a.result + 4 in part (lent c) a (a + 8 * c.rows_of-n.result - a) ≡ part_of (lent c) c.args.s
 handed c =
-    part_handed c.before.before.before.before.before.before.before.before.before.requires.0 c.size-from.result c.before.rows_of_lem.result
-    c.size-from.ensures c.before.rows_of_lem.ensures
+    part_handed c.requires.0 c.size_from-a.result c.rows_of-n.result
+    c.size_from-a.ensures c.rows_of-n.ensures
 
-returns_5 : tie.Need-returns-5
+returns_5 : tie.Need-returns
 returns_5 c =
     let from = c.before.before in
     let joined = from.before.before.before.before.before in
     c.rows_ok.ensures ∙ rw (handed from)
-    (sym (size_last _ _ _ from.before.rows_of_lem.ensures (omega arith) (omega arith) (over joined) (omega arith)))
+    (sym (size_last _ _ _ from.rows_of-n.ensures (omega arith) (omega arith) (over joined) (omega arith)))
 
 pub size_ok_spec : {M : Type 1} → statement M
 size_ok_spec =
     tie.close
-    (tie.spec (λ c κs. c.before.requires.0) (λ c. size_refused _ _ (λ b. omega arith)) (λ c κs. c.before.before.before.before.requires.0)
-    (λ c. omega arith) (λ c κs. sized_before c.before.before.before.before.before.requires.0 (omega arith))
-    (λ c. size_refused _ _ (λ b. omega (arith, b.over (omega arith)))) (λ c κs. c.before.before.before.before.requires.0)
+    (tie.spec (λ c κs. c.requires.0) (λ c. size_refused _ _ (λ b. omega arith)) (λ c κs. c.requires.0)
+    (λ c. omega arith) (λ c κs. sized_before c.requires.0 (omega arith))
+    (λ c. size_refused _ _ (λ b. omega (arith, b.over (omega arith)))) (λ c κs. c.requires.0)
     (λ c. size_refused _ _ (λ b. omega arith)) (λ c. size_refused _ _ (λ b. omega arith)) (λ c. omega arith) (λ c. omega arith)
-    (λ c κs. c.before.before.before.before.before.before.before.before.requires.0) (λ c. omega (arith, room c)) (λ c. omega arith)
+    (λ c κs. c.requires.0) (λ c. omega (arith, room c)) (λ c. omega arith)
     (λ c. omega (arith, room c)) (λ c. omega arith) (λ c. omega arith) (λ c. omega (arith, room c))
-    (λ c κs. let sized = c.before.before.before.before.before.before.before.before.before.before.requires.0 in
+    (λ c κs. let sized = c.requires.0 in
     (omega arith, omega arith, rw (handed c.before, part_long sized) (omega arith)))
     returns_5)

@@ -14,37 +14,37 @@ use Rattle.catalogue.proofs.ShapeBounds.{ShapeIn, shape_in, shape_sized}
 use Rattle.catalogue.proofs.accept.sizes_ok.Statement.{statement}
 use Rattle.catalogue.proofs.accept.sizes_ok.Tie as tie
 
-abbrev invariant-loop : tie.invariant-loop
+abbrev invariant-loop : tie.invariant-loop-s
 invariant-loop cat count s₀ s = (1 ≤ s) × (s ≤ sizes_of cat + 1) × (all_to (s - 1) (λ t. size_ok cat t) ≡ true) × ShapeIn cat
 
-abbrev decreases-loop : tie.decreases-loop
+abbrev decreases-loop : tie.decreases-loop-s
 decreases-loop cat count s₀ s = sizes_of cat + 1 - s
 
-returns : tie.Need-returns invariant-loop decreases-loop
+returns : tie.Need-returns-then-not-size_ok invariant-loop decreases-loop
 unfolding sizes_ok
 returns c =
-    let s = c.before.before.before.loop.s in
-    let e = sym c.before.Size-ok.ensures ∙ not-true c.before.Size-ok.result c.if1.true in
+    let s = c.loop-s.s in
+    let e = sym c.size_ok.ensures ∙ c.if-not-size_ok.true in
     sym (all_false _ s _ (omega arith) (omega arith) e)
 
-loop_again : tie.Need-loop-preserved invariant-loop decreases-loop
+loop_again : tie.Need-loop-s-preserved invariant-loop decreases-loop
 loop_again c =
-    let s = c.before.before.before.loop.s in
-    let inv = c.before.before.before.loop.invariant in
-    let e = sym c.before.Size-ok.ensures ∙ not-false c.before.Size-ok.result c.if1.false in
+    let s = c.loop-s.s in
+    let inv = c.loop-s.invariant in
+    let e = sym c.size_ok.ensures ∙ c.if-not-size_ok.false in
     (omega arith, omega arith, rw (add-sub_cancel s 1) (all_more (s - 1) s _ (omega arith) inv.2 e), inv.3)
 
-returns_2 : tie.Need-returns-2 invariant-loop decreases-loop
+returns_2 : tie.Need-returns invariant-loop decreases-loop
 unfolding sizes_ok
 returns_2 c =
-    let e : c.before.loop.s - 1 ≡ sizes_of c.before.before.before.before.args.cat.now = omega arith in
-    sym (rw e at c.before.loop.invariant.2)
+    let e : c.loop-s.s - 1 ≡ sizes_of c.args.cat.now = omega arith in
+    sym (rw e at c.loop-s.invariant.2)
 
 pub sizes_ok_spec : {M : Type 1} → statement M
 sizes_ok_spec =
     tie.close
-    (tie.spec invariant-loop decreases-loop (λ c κs. omega (arith, (shape_in _ c.before.requires).long))
-    (λ c. omega (arith, (shape_in _ c.before.before.requires).sizes.high))
-    (λ c. (omega arith, omega arith, all_none _, shape_in _ c.before.before.requires))
-    (λ c κs. (shape_sized c.before.loop.invariant.3 (omega arith) (omega arith), omega arith)) returns (λ c. omega arith) (λ c. omega arith)
+    (tie.spec invariant-loop decreases-loop (λ c κs. omega (arith, (shape_in _ c.requires).long))
+    (λ c. omega (arith, (shape_in _ c.requires).sizes.high))
+    (λ c. (omega arith, omega arith, all_none _, shape_in _ c.requires))
+    (λ c κs. (shape_sized c.loop-s.invariant.3 (omega arith) (omega arith), omega arith)) returns (λ c. omega arith) (λ c. omega arith)
     loop_again returns_2)

@@ -11,5 +11,5 @@ pub bore_spec : {M : Type 1} → statement M
 unfolding bore_of
 bore_spec =
     tie.close
-    (tie.spec (λ c κs. c.before.requires) (λ c κs. omega (arith, sized_room c.before.before.requires))
-    (λ c. c.be16.ensures ∙ rw c.before.size-from.ensures))
+    (tie.spec (λ c κs. c.requires) (λ c κs. omega (arith, sized_room c.requires))
+    (λ c. c.be16.ensures ∙ rw c.size_from.ensures))

@@ -15,21 +15,21 @@ use Rattle.catalogue.proofs.reading.read_size.Tie as tie
 sized : (c : tie.Start) → Sized c.args.cat.now c.args.s
 sized c = cat_sized c.requires.0 c.args.s c.requires.1 c.requires.2
 
-room : (c : tie.After-size-from) →
-    c.size-from.result + 4 + 8 * rows_of c.before.before.before.args.cat.now ≤ length c.before.before.before.args.cat.now
-room c = rw c.size-from.ensures (omega (arith, sized_room (sized c.before.before.before)))
+room : (c : tie.After-size_from-a) →
+    c.size_from-a.result + 4 + 8 * rows_of c.args.cat.now ≤ length c.args.cat.now
+room c = rw c.size_from-a.ensures (omega (arith, sized_room (sized c.before.before.before)))
 
-read_rows_requires : tie.Need-read-rows-requires
+read_rows_requires : tie.Need-read_rows-requires
 read_rows_requires c κs =
     let b = c.before.before.before.before in
-    rw (part_handed (sized b) _ _ c.before.size-from.ensures c.before.before.rows_of_lem.ensures, c.before.before.rows_of_lem.ensures)
+    rw (part_handed (sized b) _ _ c.size_from-a.ensures c.rows_of-n.ensures, c.rows_of-n.ensures)
     (cat_rows b.requires.0 b.args.s b.requires.1 b.requires.2)
 
 returns : tie.Need-returns
 returns c =
     let b = c.before.before.before.before.before in
-    c.read-rows.ensures ∙
-    rw (part_handed (sized b) _ _ c.before.before.size-from.ensures c.before.before.before.rows_of_lem.ensures, c.before.before.before.rows_of_lem.ensures)
+    c.read_rows.ensures ∙
+    rw (part_handed (sized b) _ _ c.size_from-a.ensures c.rows_of-n.ensures, c.rows_of-n.ensures)
 
 pub read_size_spec : {M : Type 1} → statement M
 read_size_spec =

@@ -7,17 +7,17 @@ use Rattle.catalogue.proofs.Halving.{Span, span_start, span_upper, span_lower, s
 use Rattle.catalogue.proofs.reading.row_above.Statement.{statement}
 use Rattle.catalogue.proofs.reading.row_above.Tie as tie
 
-abbrev invariant-loop : tie.invariant-loop
+abbrev invariant-loop : tie.invariant-loop-lo
 invariant-loop rows n q lo₀ hi₀ lo hi = Span rows n q lo hi
 
-abbrev decreases-loop : tie.decreases-loop
+abbrev decreases-loop : tie.decreases-loop-lo
 decreases-loop rows n q lo₀ hi₀ lo hi = hi - lo
 
 pub row_above_spec : {M : Type 1} → statement M
 row_above_spec =
     tie.close
-    (tie.spec invariant-loop decreases-loop (λ c. search rules) (λ c. span_start (omega arith) c.before.requires.1) (λ c. search rules) (λ c. search rules)
+    (tie.spec invariant-loop decreases-loop (λ c. search rules) (λ c. span_start (omega arith) c.requires.1) (λ c. search rules) (λ c. search rules)
     (λ c κs. omega arith) (λ c. search rules) (λ c. search rules)
-    (λ c. span_upper c.before.before.before.loop.invariant _ (omega arith) (omega arith)) (λ c. search rules)
-    (λ c. span_lower c.before.before.before.loop.invariant (omega arith) (omega arith) (omega arith))
-    (λ c. span_end c.before.loop.invariant (omega arith)))
+    (λ c. span_upper c.loop-lo.invariant _ (omega arith) (omega arith)) (λ c. search rules)
+    (λ c. span_lower c.loop-lo.invariant (omega arith) (omega arith) (omega arith))
+    (λ c. span_end c.loop-lo.invariant (omega arith)))

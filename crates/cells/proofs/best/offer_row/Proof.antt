@@ -9,19 +9,17 @@ use Rattle.cells.proofs.Offers.{offered_none, offered_more, offered_end}
 use Rattle.cells.proofs.best.offer_row.Statement.{statement}
 use Rattle.cells.proofs.best.offer_row.Tie as tie
 
-abbrev invariant-loop : tie.invariant-loop
+abbrev invariant-loop : tie.invariant-loop-h
 invariant-loop ws best₀ row loss cost start end h₀ best h =
     (start ≤ h) × (h ≤ max end start) × Offered best₀ best start h (λ x. cost + cell_at ws (row + (x - loss)))
 
-abbrev decreases-loop : tie.decreases-loop
+abbrev decreases-loop : tie.decreases-loop-h
 decreases-loop ws best₀ row loss cost start end h₀ best h = end - h
 
 -- a cell and a cost fit four bytes
-add_least : tie.Need-overflow-add-least invariant-loop decreases-loop
+add_least : tie.Need-overflow_add-get invariant-loop decreases-loop
 add_least c =
-    let g = c.before.before.before in
-    let b = g.before.before in
-    omega (arith, c.get.ensures.0, b.requires.1 g.loop.h (omega arith) (omega arith))
+    omega (arith, c.get.ensures.0, c.requires.1 c.loop-h.h (omega arith) (omega arith))
 
 pub offer_row_spec : {M : Type 1} → statement M
 offer_row_spec =
@@ -29,5 +27,5 @@ offer_row_spec =
     (tie.spec invariant-loop decreases-loop (λ c. (omega arith, omega arith, offered_none (omega arith))) (λ c. search rules) (λ c. search rules) (λ c. omega arith)
     (λ c. omega arith) (λ c κs. omega arith) add_least (λ c κs. search rules) (λ c. search rules) (λ c. search rules)
     (λ c. search rules) (λ c. omega arith)
-    (λ c. (omega arith, omega arith, offered_more c.before.before.before.before.loop.invariant.2 (omega arith) (omega arith) (omega arith)))
-    (λ c. offered_end c.before.loop.invariant.2 (omega arith) (omega arith)))
+    (λ c. (omega arith, omega arith, offered_more c.loop-h.invariant.2 (omega arith) (omega arith) (omega arith)))
+    (λ c. offered_end c.loop-h.invariant.2 (omega arith) (omega arith)))

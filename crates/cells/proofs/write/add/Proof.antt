@@ -12,36 +12,31 @@ use Rattle.cells.proofs.Writes.{filled_none, filled_more, filled_end}
 use Rattle.cells.proofs.write.add.Statement.{statement}
 use Rattle.cells.proofs.write.add.Tie as tie
 
-abbrev invariant-loop : tie.invariant-loop
+abbrev invariant-loop : tie.invariant-loop-h
 invariant-loop ws₀ best up start end h₀ ws h = (start ≤ h) × (h ≤ max end start) × Filled ws₀ ws up start h (λ x. min mark (cell_at ws₀ (up + x) + get_or best x 0))
 
-abbrev decreases-loop : tie.decreases-loop
+abbrev decreases-loop : tie.decreases-loop-h
 decreases-loop ws₀ best up start end h₀ ws h = end - h
 
 -- what stood in the cell
-old_is : (c : tie.After-get invariant-loop decreases-loop) →
-    let g = c.before.before.before in
-    let a = g.before.before.args in
-    c.get.result ≡ cell_at a.ws.now (a.up + g.loop.h)
+old_is : (c : tie.After-get-old invariant-loop decreases-loop) →
+    let a = c.args in
+    c.get-old.result ≡ cell_at a.ws.now (a.up + c.loop-h.h)
 old_is c =
-    let g = c.before.before.before in
-    let a = g.before.before.args in
-    c.get.ensures.0 ∙ g.loop.invariant.2.above (a.up + g.loop.h) (omega arith)
+    let a = c.args in
+    c.get-old.ensures.0 ∙ c.loop-h.invariant.2.above (a.up + c.loop-h.h) (omega arith)
 
-old_most : (c : tie.After-get invariant-loop decreases-loop) → c.get.result ≤ mark
+old_most : (c : tie.After-get-old invariant-loop decreases-loop) → c.get-old.result ≤ mark
 old_most c =
-    let g = c.before.before.before in
-    let b = g.before.before in
-    omega (arith, old_is c, b.requires.1 g.loop.h (omega arith) (omega arith))
+    omega (arith, old_is c, c.requires.1 c.loop-h.h (omega arith) (omega arith))
 
 pub add_spec : {M : Type 1} → statement M
 add_spec =
     tie.close
     (tie.spec invariant-loop decreases-loop (λ c. (omega arith, omega arith, filled_none)) (λ c. search rules)
-    (λ c κs. omega (arith, c.before.before.loop.invariant.2.long)) (λ c. search rules) (λ c. search rules) (λ c. search rules)
+    (λ c κs. omega (arith, c.loop-h.invariant.2.long)) (λ c. search rules) (λ c. search rules) (λ c. search rules)
     (λ c. omega (arith, old_most c.before.before)) (λ c κs. search rules) (λ c. omega (arith, old_most c.before.before.before))
-    (λ c κs. omega (arith, c.before.before.before.before.before.before.loop.invariant.2.long)) (λ c. search rules) (λ c. omega arith)
-    (λ c. let p = c.before.before in
-    let o = p.before.before.before.before in
-    (omega arith, omega arith, filled_more o.before.before.before.loop.invariant.2 p.put.ensures (omega arith) (omega (arith, old_is o, old_most o))))
-    (λ c. c.before.loop.invariant.2.long) (λ c. filled_end c.before.loop.invariant.2 (omega arith) (omega arith)))
+    (λ c κs. omega (arith, c.loop-h.invariant.2.long)) (λ c. search rules) (λ c. omega arith)
+    (λ c. let o = c.before in
+    (omega arith, omega arith, filled_more o.loop-h.invariant.2 c.put.ensures (omega arith) (omega (arith, old_is c.before.before.before.before.before.before.before, old_most o))))
+    (λ c. c.loop-h.invariant.2.long) (λ c. filled_end c.loop-h.invariant.2 (omega arith) (omega arith)))

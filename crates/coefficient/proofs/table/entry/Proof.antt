@@ -5,7 +5,7 @@ use Rattle.coefficient.proofs.table.entry.Statement.{statement}
 use Rattle.coefficient.proofs.table.entry.Tie as tie
 
 returns : tie.Need-returns
-returns c = rw c.before.requires.0
+returns c = rw c.requires.0
 
 pub entry_spec : {M : Type 1} → statement M
 entry_spec = tie.close (tie.spec (λ c. search rules) (λ c. search rules) returns)

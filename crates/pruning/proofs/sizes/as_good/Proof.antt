@@ -9,4 +9,4 @@ pub as_good_spec : {M : Type 1} → statement M
 as_good_spec =
     tie.close
     (tie.spec (λ c. search rules) (λ c. search rules) (λ c. search rules) (λ c. search rules) (λ c. search rules) (λ c. search rules)
-    (λ c. search rules) (λ c. search rules) (λ c. rw (le-leb _ _ c.before.before.if1.true)) (λ c. rw (lt-leb _ _ c.if1.false)))
+    (λ c. search rules) (λ c. search rules) (λ c. rw (le-leb _ _ c.if-losses-kept.true)) (λ c. rw (lt-leb _ _ c.if-losses-kept.false)))
