@@ -37,4 +37,6 @@ returns c = joined_end c.requires c.loop-t.invariant.1 (omega arith)
 pub sets_spec : {M : Type 1} → statement M
 sets_spec =
     tie.close
-    (tie.spec invariant-loop decreases-loop (λ c. search rules) (λ c κs. search rules) loop_holds (λ c. search rules) (λ c. omega (arith, low c)) (λ c. omega (arith, low c)) (λ c. low c) (λ c. search rules) (λ c. search rules) add_sets (λ c. omega (arith, low c)) (λ c. low c) (λ c. search rules) (λ c. search rules) loop_again returns)
+    (tie.spec invariant-loop decreases-loop (λ c. search rules) (λ c κs. search rules) loop_holds (λ c. search rules) (λ c. search rules)
+    (λ c. omega (arith, low c.before)) (λ c. low c.before) (λ c. search rules) (λ c. search rules) add_sets
+    (λ c. omega (arith, low c.before)) (λ c. low c.before) (λ c. search rules) (λ c. search rules) loop_again returns)
