@@ -37,11 +37,11 @@ loop_again c =
       omega arith,
       rw e
           (⊎_elim
-          (λ w. rw (w.3, w.4, lost) (leads_less _ _ _ l t next (rw lost at w.0.taken) (rw meter at (sym w.1.ensures ∙ w.2.taken))))
-          (λ w. rw (w.1, w.2) (leads_same _ _ _ l t next (λ h f. ⊎_elim
-          (λ v. apart f (rw meter at (sym v.1.ensures ∙ v.2.left)))
+          (λ w. rw (w.place-is, w.least-is, lost) (leads_less _ _ _ l t next (rw lost at w.if-loss-least.true) (rw meter at (sym w.qualifies.ensures ∙ w.if-qualifies.true))))
+          (λ w. rw (w.place-is, w.least-is) (leads_same _ _ _ l t next (λ h f. ⊎_elim
+          (λ v. apart f (rw meter at (sym v.qualifies.ensures ∙ v.if-qualifies.false)))
           (λ v. omega arith)
-          w.0.came)))
+          w.else-loss-least.branch-raw)))
           c.if-loss-least.branch-raw),
     )
 

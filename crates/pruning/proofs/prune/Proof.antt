@@ -33,9 +33,9 @@ no_need c = keeps_pump c.requires.0 c.args.head 0 (λ j i. get_or-set_other c.ar
 
 returns : tie.Need-returns-then-least invariant-loop decreases-loop
 returns c =
-    let b = c.before in (
-      (λ e. keeps_none b.args.head (no_need b)
-          (pruned_stop c.loop-s.invariant.1 (sound_like b.requires.0) c.trim-least.new.1.1.0 c.loop-s.s c.trim-least.result (omega arith) c.loop-s.invariant.0
+    (
+      (λ e. keeps_none c.args.head (no_need c.before.before.before.before.before.before)
+          (pruned_stop c.loop-s.invariant.1 (sound_like c.requires.0) c.trim-least.new.needs.1.0 c.loop-s.s c.trim-least.result (omega arith) c.loop-s.invariant.0
           c.trim-least.ensures.1.0 c.trim-least.ensures.1.1 c.if-least.true)),
       λ e. absurd (apart e refl),
     )
@@ -49,7 +49,7 @@ loop_again : tie.Need-loop-s-preserved invariant-loop decreases-loop
 loop_again c =
     (
       omega arith,
-      pruned_more c.loop-s.invariant.1 (sound_like c.requires.0) c.trim-least.new.1.1.0 c.loop-s.s c.trim-least.result (omega arith) c.loop-s.invariant.0
+      pruned_more c.loop-s.invariant.1 (sound_like c.requires.0) c.trim-least.new.needs.1.0 c.loop-s.s c.trim-least.result (omega arith) c.loop-s.invariant.0
           c.trim-least.ensures.1.0 c.trim-least.ensures.1.1 c.wide8-p.result c.trim-least.ensures.0 c.if-least.false c.wide8-p.ensures.0 (omega arith),
     )
 

@@ -18,42 +18,42 @@ use Rattle.rules.proofs.Ends.{childless_zero_at, zero_set}
 use Rattle.rules.proofs.childless_zero.Statement.{statement}
 use Rattle.rules.proofs.childless_zero.Tie as tie
 
-abbrev invariant-loop : tie.invariant-loop
+abbrev invariant-loop : tie.invariant-loop-i
 invariant-loop job count below i₀ i = (1 ≤ i) × (i ≤ count_of job + 1) × (any_to (i - 1) (childless_zero_at job) ≡ false)
 
-abbrev decreases-loop : tie.decreases-loop
+abbrev decreases-loop : tie.decreases-loop-i
 decreases-loop job count below i₀ i = count_of job + 1 - i
 
 -- what the turn's two tests say of section i
-tests : (c : tie.In-loop invariant-loop decreases-loop) →
-    childless_zero_at c.before.before.before.args.t1 c.before.loop.i ≡
-    (eqb (section_of c.before.before.before.args.t1 c.before.loop.i).kind 0 &&
-    eqb (get_or c.before.before.sets.result c.before.loop.i 0) ((1 * 2 ^ c.before.loop.i) % 2 ^ 64))
+tests : (c : tie.In-loop-i invariant-loop decreases-loop) →
+    childless_zero_at c.args.job c.loop-i.i ≡
+    (eqb (section_of c.args.job c.loop-i.i).kind 0 &&
+    eqb (get_or c.sets-below.result c.loop-i.i 0) ((1 * 2 ^ c.loop-i.i) % 2 ^ 64))
 tests c =
-    let few = c.before.before.before.requires.few in
-    zero_set c.before.before.before.requires c.before.loop.i (omega arith) (omega arith) _
-    (c.before.before.sets.ensures c.before.loop.i (omega arith))
+    let few = c.requires.few in
+    zero_set c.requires c.loop-i.i (omega arith) (omega arith) _
+    (c.sets-below.ensures c.loop-i.i (omega arith))
 
-returns : tie.Need-returns invariant-loop decreases-loop
+returns : tie.Need-returns-then-below-i invariant-loop decreases-loop
 unfolding childless_zero
 returns c =
     sym
-    (any_true _ c.before.before.before.loop.i _ (omega arith) (omega arith)
-    (tests c.before.before ∙ rw (eq-eqb _ _ c.before.if1.true, eq-eqb _ _ c.if2.true)))
+    (any_true _ c.loop-i.i _ (omega arith) (omega arith)
+    (tests c.before.before ∙ rw (eq-eqb _ _ c.if-job-i-eq0.true, eq-eqb _ _ c.if-below-i.true)))
 
-loop_again : tie.Need-loop-preserved invariant-loop decreases-loop
+loop_again : tie.Need-loop-i-preserved invariant-loop decreases-loop
 loop_again c =
-    let i = c.before.before.loop.i in
-    let e : childless_zero_at c.before.before.before.before.args.t1 i ≡ false =
+    let i = c.loop-i.i in
+    let e : childless_zero_at c.args.job i ≡ false =
     tests c.before ∙
-    ⊎_elim (λ w. rw (eq-eqb _ _ w.0.taken, ne_eqb _ _ w.1.left)) (λ w. rw (ne_eqb _ _ w.left)) c.if1.branch in
-    (omega arith, omega arith, rw (add-sub_cancel i 1) (any_more (i - 1) i _ (omega arith) c.before.before.loop.invariant.2 e))
+    ⊎_elim (λ w. rw (eq-eqb _ _ w.0.taken, ne_eqb _ _ w.1.left)) (λ w. rw (ne_eqb _ _ w.left)) c.if-job-i-eq0.branch-raw in
+    (omega arith, omega arith, rw (add-sub_cancel i 1) (any_more (i - 1) i _ (omega arith) c.loop-i.invariant.2 e))
 
-returns_2 : tie.Need-returns-2 invariant-loop decreases-loop
+returns_2 : tie.Need-returns invariant-loop decreases-loop
 unfolding childless_zero
 returns_2 c =
-    let e : c.before.loop.i - 1 ≡ count_of c.before.before.before.args.t1 = omega arith in
-    sym (rw e at c.before.loop.invariant.2)
+    let e : c.loop-i.i - 1 ≡ count_of c.args.job = omega arith in
+    sym (rw e at c.loop-i.invariant.2)
 
 pub childless_zero_spec : {M : Type 1} → statement M
 childless_zero_spec =

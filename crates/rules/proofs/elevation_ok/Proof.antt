@@ -5,22 +5,22 @@ use Rattle.rules.proofs.Elevation.{elevation_tests}
 use Rattle.rules.proofs.elevation_ok.Statement.{statement}
 use Rattle.rules.proofs.elevation_ok.Tie as tie
 
-returns : tie.Need-returns
+returns : tie.Need-returns-in-minus1000-to-6000
 returns c =
-    let low = simp (to_z-of_z c.before.before.ranges.e) at c.before.if1.false in
-    let high = simp (to_z-of_z c.before.before.ranges.e) at c.if2.true in
-    rw (elevation_tests c.before.before.args.e, low, high)
+    let low = simp (to_z-of_z c.ranges.e) at c.if-e-ltminus1000.false in
+    let high = simp (to_z-of_z c.ranges.e) at c.if-e-lt6001.true in
+    rw (elevation_tests c.args.e, low, high)
 
-returns_2 : tie.Need-returns-2
+returns_2 : tie.Need-returns-in_default
 returns_2 c =
-    let low = simp (to_z-of_z c.before.ranges.e) at c.if1.true in
-    rw (elevation_tests c.before.args.e, low)
+    let low = simp (to_z-of_z c.ranges.e) at c.if-e-ltminus1000.true in
+    rw (elevation_tests c.args.e, low)
 
-returns_3 : tie.Need-returns-3
+returns_3 : tie.Need-returns-in_default-2
 returns_3 c =
-    let low = simp (to_z-of_z c.before.before.ranges.e) at c.before.if1.false in
-    let high = simp (to_z-of_z c.before.before.ranges.e) at c.if2.false in
-    rw (elevation_tests c.before.before.args.e, low, high)
+    let low = simp (to_z-of_z c.ranges.e) at c.if-e-ltminus1000.false in
+    let high = simp (to_z-of_z c.ranges.e) at c.if-e-lt6001.false in
+    rw (elevation_tests c.args.e, low, high)
 
 pub elevation_ok_spec : {M : Type 1} → statement M
 elevation_ok_spec = tie.close (tie.spec returns returns_2 returns_3)

@@ -8,11 +8,11 @@ use Rattle.rules.proofs.HeaderBounds.{ServiceIn, service_in, service_refused, in
 use Rattle.rules.proofs.header_ok.Statement.{statement}
 use Rattle.rules.proofs.header_ok.Tie as tie
 
-returns : tie.Need-returns
-returns c = service_refused _ (sym c.before.service-ok.ensures ∙ not-true c.before.service-ok.result c.if1.true)
+returns : tie.Need-returns-then-not-service_ok
+returns c = service_refused _ (sym c.service_ok.ensures ∙ c.if-not-service_ok.true)
 
-served : (c : tie.Else1) → ServiceIn c.before.before.args.h.version c.before.before.args.h.service
-served c = service_in _ (sym c.before.service-ok.ensures ∙ not-false c.before.service-ok.result c.if1.false)
+served : (c : tie.Else-not-service_ok) → ServiceIn c.args.h.version c.args.h.service
+served c = service_in _ (sym c.service_ok.ensures ∙ c.if-not-service_ok.false)
 
 pub header_ok_spec : {M : Type 1} → statement M
 header_ok_spec =
@@ -33,7 +33,7 @@ header_ok_spec =
     sym
     (in_head _
     (record {
-      service = served c.before.before.before.before.before.before.before.before.before.before.before;
+      service = served c.before.before.before.before.before.before.before.before.before.before.before.before;
       tenths = omega arith;
       sections = omega arith;
       hours = omega arith;

@@ -12,19 +12,19 @@ use Rattle.rules.proofs.SectionBounds.{kind_in, in_kind, in_section, section_ref
 use Rattle.rules.proofs.section_ok.Statement.{statement}
 use Rattle.rules.proofs.section_ok.Tie as tie
 
-elevation : (c : tie.After-elevation-ok) → c.elevation-ok.result ≡ elevation_ok c.before.before.before.before.before.before.args.s.elevation
+elevation : (c : tie.After-elevation_ok) → c.elevation_ok.result ≡ elevation_ok c.args.s.elevation
 elevation c =
-    simp (to_z-of_z {w = w16} {z = c.before.before.before.before.before.before.args.s.elevation} (record { sfits = c.before.struct_told.given.1.1.1.1.0.1 })) at c.elevation-ok.ensures
+    simp (to_z-of_z {w = w16} {z = c.args.s.elevation} (record { sfits = c.struct_told-1.given.1.1.1.1.0.1 })) at c.elevation_ok.ensures
 
-returns_2 : tie.Need-returns-2
+returns_2 : tie.Need-returns-then-not-kind_ok
 returns_2 c =
-    section_refused _ _ (λ b. apart (c.before.Kind-ok.ensures ∙ in_kind _ b.kinds) (not-true c.before.Kind-ok.result c.if2.true))
+    section_refused _ _ (λ b. apart (c.kind_ok.ensures ∙ in_kind _ b.kinds) (c.if-not-kind_ok.true))
 
-returns_3 : tie.Need-returns-3
+returns_3 : tie.Need-returns-then-not-elevation_ok
 returns_3 c =
-    section_refused _ _ (λ b. apart (elevation c.before ∙ b.elevation) (not-true c.before.elevation-ok.result c.if3.true))
+    section_refused _ _ (λ b. apart (elevation c.before ∙ b.elevation) (c.if-not-elevation_ok.true))
 
-returns_6 : tie.Need-returns-6
+returns_6 : tie.Need-returns-in-0-to-1000
 returns_6 c =
     let told = c.before.before.before.before in
     let kept = told.before.before.before in
@@ -32,9 +32,9 @@ returns_6 c =
     (in_section _ _
     (record {
       parent = omega arith;
-      kinds = kind_in _ (sym kept.Kind-ok.ensures ∙ not-false kept.Kind-ok.result told.before.before.if2.false);
+      kinds = kind_in _ (sym kept.kind_ok.ensures ∙ told.if-not-kind_ok.false);
       decimetres = omega arith;
-      elevation = sym (elevation told) ∙ not-false told.elevation-ok.result c.before.before.before.if3.false;
+      elevation = sym (elevation told) ∙ c.if-not-elevation_ok.false;
       free = omega arith;
     }))
 

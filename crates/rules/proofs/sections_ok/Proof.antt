@@ -14,30 +14,30 @@ use Rattle.rules.specs.Rules.{section_ok, sections_ok}
 use Rattle.rules.proofs.sections_ok.Statement.{statement}
 use Rattle.rules.proofs.sections_ok.Tie as tie
 
-abbrev invariant-loop : tie.invariant-loop
+abbrev invariant-loop : tie.invariant-loop-i
 invariant-loop job count i₀ i = (1 ≤ i) × (i ≤ count_of job + 1) × (all_to (i - 1) (λ j. section_ok j (section_of job j)) ≡ true)
 
-abbrev decreases-loop : tie.decreases-loop
+abbrev decreases-loop : tie.decreases-loop-i
 decreases-loop job count i₀ i = count_of job + 1 - i
 
-returns : tie.Need-returns invariant-loop decreases-loop
+returns : tie.Need-returns-then-not-section_ok invariant-loop decreases-loop
 unfolding sections_ok
 returns c =
-    let i = c.before.before.before.before.loop.i in
-    let e = sym c.before.section-ok.ensures ∙ not-true c.before.section-ok.result c.if1.true in
+    let i = c.loop-i.i in
+    let e = sym c.section_ok.ensures ∙ c.if-not-section_ok.true in
     sym (all_false _ i _ (omega arith) (omega arith) e)
 
-loop_again : tie.Need-loop-preserved invariant-loop decreases-loop
+loop_again : tie.Need-loop-i-preserved invariant-loop decreases-loop
 loop_again c =
-    let i = c.before.before.before.before.loop.i in
-    let e = sym c.before.section-ok.ensures ∙ not-false c.before.section-ok.result c.if1.false in
-    (omega arith, omega arith, rw (add-sub_cancel i 1) (all_more (i - 1) i _ (omega arith) c.before.before.before.before.loop.invariant.2 e))
+    let i = c.loop-i.i in
+    let e = sym c.section_ok.ensures ∙ c.if-not-section_ok.false in
+    (omega arith, omega arith, rw (add-sub_cancel i 1) (all_more (i - 1) i _ (omega arith) c.loop-i.invariant.2 e))
 
-returns_2 : tie.Need-returns-2 invariant-loop decreases-loop
+returns_2 : tie.Need-returns invariant-loop decreases-loop
 unfolding sections_ok
 returns_2 c =
-    let e : c.before.loop.i - 1 ≡ count_of c.before.before.args.t1 = omega arith in
-    sym (rw e at c.before.loop.invariant.2)
+    let e : c.loop-i.i - 1 ≡ count_of c.args.job = omega arith in
+    sym (rw e at c.loop-i.invariant.2)
 
 pub sections_ok_spec : {M : Type 1} → statement M
 sections_ok_spec =

@@ -29,7 +29,7 @@ last_most c =
 -- the row's own cells
 row_offered : (c : tie.After-offer_row) →
     let a = c.args in
-    Offered a.best.now c.offer_row.new.1.0 a.start c.lesser-mid.result
+    Offered a.best.now c.offer_row.new.best a.start c.lesser-mid.result
     (λ h. a.cost + cell_at a.ws.now (a.row + min (h - a.loss) a.high))
 row_offered c =
     let a = c.args in
@@ -37,9 +37,8 @@ row_offered c =
 
 returns : tie.Need-returns-then-rest-end
 returns c =
-    let o = c.before in
-    let a = o.args in
-    offered_join (row_offered o)
+    let a = c.args in
+    offered_join (row_offered c.before.before.before.before.before)
     (offered_same c.offer_flat.ensures
     (λ h x y. let e : min (h - a.loss) a.high ≡ a.high = omega arith in rw e (omega (arith, c.get.ensures.0))))
     (omega arith) c.greater-rest.ensures

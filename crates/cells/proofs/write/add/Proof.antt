@@ -35,8 +35,7 @@ add_spec =
     tie.close
     (tie.spec invariant-loop decreases-loop (λ c. (omega arith, omega arith, filled_none)) (λ c. search rules)
     (λ c κs. omega (arith, c.loop-h.invariant.2.long)) (λ c. search rules) (λ c. search rules) (λ c. search rules)
-    (λ c. omega (arith, old_most c.before.before)) (λ c κs. search rules) (λ c. omega (arith, old_most c.before.before.before))
+    (λ c. omega (arith, old_most c.before.before.before)) (λ c κs. search rules) (λ c. omega (arith, old_most c.before.before.before.before))
     (λ c κs. omega (arith, c.loop-h.invariant.2.long)) (λ c. search rules) (λ c. omega arith)
-    (λ c. let o = c.before in
-    (omega arith, omega arith, filled_more o.loop-h.invariant.2 c.put.ensures (omega arith) (omega (arith, old_is c.before.before.before.before.before.before.before, old_most o))))
+    (λ c. (omega arith, omega arith, filled_more c.loop-h.invariant.2 c.put.ensures (omega arith) (omega (arith, old_is c.before.before.before.before.before.before.before, old_most c.before.before.before.before.before.before.before))))
     (λ c. c.loop-h.invariant.2.long) (λ c. filled_end c.loop-h.invariant.2 (omega arith) (omega arith)))
