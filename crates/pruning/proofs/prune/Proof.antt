@@ -35,7 +35,7 @@ returns : tie.Need-returns-then-least invariant-loop decreases-loop
 returns c =
     (
       (λ e. keeps_none c.args.head (no_need c.before.before.before.before.before.before)
-          (pruned_stop c.loop-s.invariant.1 (sound_like c.requires.0) c.trim-least.new.needs.1.0 c.loop-s.s c.trim-least.result (omega arith) c.loop-s.invariant.0
+          (pruned_stop c.loop-s.invariant.1 (sound_like c.requires.0) c.trim-least.new.losses c.loop-s.s c.trim-least.result (omega arith) c.loop-s.invariant.0
           c.trim-least.ensures.1.0 c.trim-least.ensures.1.1 c.if-least.true)),
       λ e. absurd (apart e refl),
     )
@@ -49,7 +49,7 @@ loop_again : tie.Need-loop-s-preserved invariant-loop decreases-loop
 loop_again c =
     (
       omega arith,
-      pruned_more c.loop-s.invariant.1 (sound_like c.requires.0) c.trim-least.new.needs.1.0 c.loop-s.s c.trim-least.result (omega arith) c.loop-s.invariant.0
+      pruned_more c.loop-s.invariant.1 (sound_like c.requires.0) c.trim-least.new.losses c.loop-s.s c.trim-least.result (omega arith) c.loop-s.invariant.0
           c.trim-least.ensures.1.0 c.trim-least.ensures.1.1 c.wide8-p.result c.trim-least.ensures.0 c.if-least.false c.wide8-p.ensures.0 (omega arith),
     )
 

@@ -46,7 +46,7 @@ loop_again c =
     let i = c.loop-i.i in
     let e : childless_zero_at c.args.job i ≡ false =
     tests c.before ∙
-    ⊎_elim (λ w. rw (eq-eqb _ _ w.0.taken, ne_eqb _ _ w.1.left)) (λ w. rw (ne_eqb _ _ w.left)) c.if-job-i-eq0.branch-raw in
+    ⊎_elim (λ w. rw (eq-eqb _ _ w.if-job-i-eq0.true, ne_eqb _ _ w.if-below-i.false)) (λ w. rw (ne_eqb _ _ w.if-job-i-eq0.false)) c.if-job-i-eq0.branch-raw in
     (omega arith, omega arith, rw (add-sub_cancel i 1) (any_more (i - 1) i _ (omega arith) c.loop-i.invariant.2 e))
 
 returns_2 : tie.Need-returns invariant-loop decreases-loop

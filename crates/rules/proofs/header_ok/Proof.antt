@@ -33,7 +33,7 @@ header_ok_spec =
     sym
     (in_head _
     (record {
-      service = served c.before.before.before.before.before.before.before.before.before.before.before.before;
+      service = served c.before.before.before.before.before.before.before;
       tenths = omega arith;
       sections = omega arith;
       hours = omega arith;

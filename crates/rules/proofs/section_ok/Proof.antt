@@ -26,15 +26,13 @@ returns_3 c =
 
 returns_6 : tie.Need-returns-in-0-to-1000
 returns_6 c =
-    let told = c.before.before.before.before in
-    let kept = told.before.before.before in
     sym
     (in_section _ _
     (record {
       parent = omega arith;
-      kinds = kind_in _ (sym kept.kind_ok.ensures ∙ told.if-not-kind_ok.false);
+      kinds = kind_in _ (sym c.kind_ok.ensures ∙ c.if-not-kind_ok.false);
       decimetres = omega arith;
-      elevation = sym (elevation told) ∙ c.if-not-elevation_ok.false;
+      elevation = sym (elevation c.before.before.before) ∙ c.if-not-elevation_ok.false;
       free = omega arith;
     }))
 

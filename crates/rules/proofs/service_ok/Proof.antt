@@ -8,7 +8,7 @@ use Rattle.rules.proofs.service_ok.Statement.{statement}
 use Rattle.rules.proofs.service_ok.Tie as tie
 
 returns : tie.Need-returns-in-0
-returns c = sym (in_service _ (record { most = omega (arith, c.in-0.keys1); total = λ v. c.in-0.keys1 }))
+returns c = sym (in_service _ (record { most = omega (arith, c.in-0.is); total = λ v. c.in-0.is }))
 
 returns_2 : tie.Need-returns-in-1-to-2
 returns_2 c = sym (service_line _ (omega arith) (omega arith))
