@@ -9,29 +9,26 @@ use Rattle.job.proofs.Written.{refused_again, long, read_again}
 use Rattle.job.proofs.write_read.Statement.{statement}
 use Rattle.job.proofs.write_read.Tie as tie
 
-returns : tie.Need-returns
+returns : tie.Need-returns-then-number-ne0
 returns c =
-    let tested = c.before.before in
-    let w = tested.before.before.before.write.ensures in
+    let w = c.write-answer.ensures in
     rw (c.refused.ensures.0, c.refused.ensures.1)
-    (refused_again _ _ w.0 w.1 (λ e. c.before.if1.true (tested.number.ensures ∙ e)))
+    (refused_again _ _ w.0 w.1 (λ e. c.if-number-ne0.true (c.number.ensures ∙ e)))
 
 -- where the code goes on, the record is at the front of the buffer
-taken : (c : tie.Else1) → number_of c.before.before.before.before.write.result ≡ 0
-taken c = sym c.before.number.ensures ∙ c.if1.false
+taken : (c : tie.Else-number-ne0) → number_of c.write-answer.result ≡ 0
+taken c = sym c.number.ensures ∙ c.if-number-ne0.false
 
-slice_reshare_prefix_read : tie.Need-slice-reshare-prefix-read
+slice_reshare_prefix_read : tie.Need-slice_bounds-read-end
 slice_reshare_prefix_read c =
-    let w = c.before.before.before.before.before.write.ensures in
-    rw c.length-of.ensures.0 (long _ _ w.0 w.1 (taken c.before))
+    let w = c.write-answer.ensures in
+    rw c.length_of-end.ensures.0 (long _ _ w.0 w.1 (taken c.before))
 
-returns_2 : tie.Need-returns-2
+returns_2 : tie.Need-returns
 returns_2 c =
-    let end = c.before.before in
-    let w = end.before.before.before.before.before.write.ensures in
-    let start = end.before.before.before.before.before.before.before.before in
-    let e = end.length-of.ensures.0 in
-    read_again _ _ w.0 w.1 (taken end.before) (held start.well_formed.0)
+    let w = c.write-answer.ensures in
+    let e = c.length_of-end.ensures.0 in
+    read_again _ _ w.0 w.1 (taken c.before.before) (held c.well_formed.0)
     (rw e at c.read.ensures.0) (rw e at c.read.ensures.1)
 
 pub write_read_spec : {M : Type 1} → statement M

@@ -9,11 +9,8 @@ use Rattle.catalogue.proofs.ShapeBounds.{shape_refused, shape_last}
 use Rattle.catalogue.proofs.accept.shape_ok.Statement.{statement}
 use Rattle.catalogue.proofs.accept.shape_ok.Tie as tie
 
--- the counts as they were read, and that the length which they make fits
-abbrev counts : tie.Else-wide32-cat → tie.After-rows_of-rows
-counts c = c.before.before.before.before.before.before.before.before
-
-product : (c : tie.Else-wide32-cat) → (counts c).before.sizes-of.result * size_length (counts c).rows_of_lem.result ≤ 100 * 1000
+-- the length that the counts make fits
+product : (c : tie.Else-wide32-cat) → c.sizes_of-sizes.result * size_length c.rows_of-rows.result ≤ 100 * 1000
 product c = mul-le-mul {n₂ = 100} {m₂ = 1000} (omega arith) (omega arith)
 
 pub shape_ok_spec : {M : Type 1} → statement M
@@ -24,4 +21,4 @@ shape_ok_spec =
     (λ c. shape_refused _ (λ b. omega arith)) (λ c. shape_refused _ (λ b. omega arith)) (λ c κs. omega arith) (λ c κs. tt)
     (λ c. shape_refused _ (λ b. omega arith)) (λ c. omega arith) (λ c. omega arith) (λ c. omega arith) (λ c. omega arith)
     (λ c. omega (arith, product c)) (λ c. omega (arith, product c))
-    (λ c. sym (shape_last _ _ _ (counts c).before.sizes-of.ensures (counts c).rows_of_lem.ensures (omega arith) (omega arith) (omega arith) (omega arith) (omega arith))))
+    (λ c. sym (shape_last _ _ _ c.sizes_of-sizes.ensures c.rows_of-rows.ensures (omega arith) (omega arith) (omega arith) (omega arith) (omega arith))))

@@ -32,10 +32,8 @@ handed c =
 
 returns_5 : tie.Need-returns
 returns_5 c =
-    let from = c.before.before in
-    let joined = from.before.before.before.before.before in
-    c.rows_ok.ensures ∙ rw (handed from)
-    (sym (size_last _ _ _ from.rows_of-n.ensures (omega arith) (omega arith) (over joined) (omega arith)))
+    c.rows_ok.ensures ∙ rw (handed c.before.before)
+    (sym (size_last _ _ _ c.rows_of-n.ensures (omega arith) (omega arith) (over c.before.before.before.before.before.before) (omega arith)))
 
 pub size_ok_spec : {M : Type 1} → statement M
 size_ok_spec =

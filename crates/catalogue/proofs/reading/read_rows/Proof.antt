@@ -22,14 +22,15 @@ drawn c =
     let pre = c.requires in
     let above = c.row_above-k.ensures in
     ⊎_elim
-    (λ t. drawn_next pre above (omega arith) (t.4 ∙ t.1.ensures) (t.5 ∙ t.2.ensures) (t.6 ∙ t.3.ensures))
-    (λ t. drawn_first pre above (omega arith) t.1 t.2 t.3)
+    (λ t. drawn_next pre above (omega arith) (t.x0-is ∙ t.row_flow-x0.ensures) (t.velocity-is ∙ t.row_velocity-velocity.ensures)
+        (t.slope-is ∙ t.row_slope-slope.ensures))
+    (λ t. drawn_first pre above (omega arith) t.x0-is t.velocity-is t.slope-is)
     c.if-k-gt0.branch-raw
 
 returns_2 : tie.Need-returns
 returns_2 c =
     rw (c.line_at.ensures, c.line_at-2.ensures, c.row_flow-x1.ensures, c.row_velocity.ensures, c.row_slope.ensures)
-    (sym (drawn c.before).reading)
+    (sym (drawn c.before.before.before.before.before).reading)
 
 pub read_rows_spec : {M : Type 1} → statement M
 read_rows_spec =

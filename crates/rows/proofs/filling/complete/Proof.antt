@@ -10,4 +10,4 @@ complete_spec =
     tie.close
     (tie.spec (λ c. search rules) (λ c. search rules) (λ c. search rules) (λ c. search rules) (λ c. search rules) (λ c κs. search rules)
     (λ c. search rules) (λ c. search rules) (λ c. search rules) (λ c κs. search rules) (λ c. search rules) (λ c. search rules)
-    (λ c. let d = c.before.before in (rw d.before.before.wide32.ensures.0 at d.settle.ensures, refl)))
+    (λ c. (rw c.wide32.ensures.0 at c.settle.ensures, refl)))

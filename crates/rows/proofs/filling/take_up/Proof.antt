@@ -14,10 +14,9 @@ use Rattle.rows.proofs.filling.take_up.Tie as tie
 
 complete_requires : tie.Need-complete-requires
 complete_requires c κs =
-    let b = c.before.before.before in
-    let ok = b.requires.0 in
-    let l = b.requires.1.1.1 in
-    omega (arith, ok.sound.few, ok.narrow, ok.usable.most b.args.s l, ok.rows, row_fits b.args.s b.args.sections (b.args.head + 1) l)
+    let ok = c.requires.0 in
+    let l = c.requires.1.1.1 in
+    omega (arith, ok.sound.few, ok.narrow, ok.usable.most c.args.s l, ok.rows, row_fits c.args.s c.args.sections (c.args.head + 1) l)
 
 -- its row is complete
 module _ (c : tie.After-complete) where
@@ -26,22 +25,22 @@ module _ (c : tie.After-complete) where
 
   ready : let a = b.args in
       Filling (net_of a.sections a.sizes a.parents.now a.needs.now a.losses.now a.costs.now) a.head (λ s. get_or a.highs.now s 0)
-      c.complete.new.0 c.complete.new.1.0 a.s × (get_or c.complete.new.1.0 a.s false ≡ true)
+      c.complete.new.ws c.complete.new.begun a.s × (get_or c.complete.new.begun a.s false ≡ true)
   ready = fill_settle b.pre.0 b.pre.1.0 c.complete.ensures.0 c.complete.ensures.1 b.pre.1.1.1
 
 -- the parent's number is less, and its row within the workspace
-module _ (c : tie.After-wide8) where
+module _ (c : tie.After-wide8-p) where
   abbrev k : tie.After-complete
   k = c.before.before.before.before.before
 
   abbrev p : ℕ
-  p = c.wide8.result
+  p = c.wide8-p.result
 
   parent_low : (p < (b k).args.s) × (p < 64)
   parent_low =
       let s = (b k).pre.1.1 in
       let l = (b k).pre.0.sound.lower (b k).args.s s.0 s.1 in
-      (omega (arith, c.wide8.ensures.0, l), omega (arith, c.wide8.ensures.0, l, s, (b k).pre.0.sound.few))
+      (omega (arith, c.wide8-p.ensures.0, l), omega (arith, c.wide8-p.ensures.0, l, s, (b k).pre.0.sound.few))
 
   up_fits : (p * ((b k).args.head + 1) + ((b k).args.head + 1) ≤ ((b k).args.sections + 1) * ((b k).args.head + 1)) × (get_or (b k).args.highs.now p 0 ≤ (b k).args.head)
   up_fits =
@@ -52,11 +51,11 @@ raise_requires : tie.Need-raise-requires
 raise_requires c κs =
     let w = c.before.before.before.before.before.before in
     let d = k w in
-    let r = w.before.before.row_of in
+    let r = w.row_of-row in
     let a = (b d).args in
     let ok = (b d).pre.0 in
     let t = (b d).pre.1.1 in
-    let m = c.before.before.before.before.wide32 in
+    let m = c.wide32-start in
     let high = ok.usable.most a.s t.1 in
     let long = d.complete.ensures.0.long in (
       (
@@ -78,14 +77,13 @@ raise_requires c κs =
 
 returns : tie.Need-returns
 returns c =
-    let o = c.before.before in
-    let w = o.before.before.before.before.before.before.before in
+    let w = c.before in
     let d = k w in
     let t = (b d).pre.1.1 in
-    let m = o.before.before.before.before.before.wide32 in (
-      (omega (arith, o.raise.ensures.0.long, d.complete.ensures.0.long), o.raise.ensures.1),
-      fill_turn (b d).pre.0 (b d).args.s (ready d).0 (ready d).1 t.0 t.1 w.wide8.ensures.0 m.ensures.0
-          (rw w.before.before.row_of.ensures.0 at o.raise.ensures.0),
+    let m = c.wide32-start in (
+      (omega (arith, c.raise.ensures.0.long, d.complete.ensures.0.long), c.raise.ensures.1),
+      fill_turn (b d).pre.0 (b d).args.s (ready d).0 (ready d).1 t.0 t.1 w.wide8-p.ensures.0 m.ensures.0
+          (rw w.row_of-row.ensures.0 at c.raise.ensures.0),
     )
 
 pub take_up_spec : {M : Type 1} → statement M

@@ -9,20 +9,18 @@ use borrow.Author.Rules.{rules}
 use Rattle.rows.proofs.raise.bests.Statement.{statement}
 use Rattle.rows.proofs.raise.bests.Tie as tie
 
-abbrev invariant-loop : tie.invariant-loop
+abbrev invariant-loop : tie.invariant-loop-t
 invariant-loop ws best₀ losses costs s n start end level₀ t₀ best level t =
     (t ≤ n) × Lowest best start end t (options_of s losses costs ws) × Flat best start end level.head level.cost
 
-abbrev decreases-loop : tie.decreases-loop
+abbrev decreases-loop : tie.decreases-loop-t
 decreases-loop ws best₀ losses costs s n start end level₀ t₀ best level t = n - t
 
 pub bests_spec : {M : Type 1} → statement M
 bests_spec =
     tie.close
     (tie.spec invariant-loop decreases-loop (λ c κs. search rules) (λ c. (omega arith, lowest_none c.fresh.ensures.0 c.fresh.ensures.1, flat_none))
-    (λ c κs. let g = c.before.before in
-    (offerable_less g.before.before.before.before.requires.0 (omega arith), (g.loop.invariant.1, g.loop.invariant.2)))
-    (λ c. search rules) (λ c. search rules) (λ c. (omega arith, c.offer-next.ensures.0, c.offer-next.ensures.1))
-    (λ c. let g = c.before in
-    let e : g.loop.t ≡ g.before.before.before.before.args.n = omega arith in
-    rw e at g.loop.invariant.1))
+    (λ c κs. (offerable_less c.requires.0 (omega arith), (c.loop-t.invariant.1, c.loop-t.invariant.2)))
+    (λ c. search rules) (λ c. search rules) (λ c. (omega arith, c.offer_next-level.ensures.0, c.offer_next-level.ensures.1))
+    (λ c. let e : c.loop-t.t ≡ c.args.n = omega arith in
+    rw e at c.loop-t.invariant.1))

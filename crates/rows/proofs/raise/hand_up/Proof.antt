@@ -9,10 +9,8 @@ use Rattle.rows.proofs.raise.hand_up.Tie as tie
 pub hand_up_spec : {M : Type 1} → statement M
 hand_up_spec =
     tie.close
-    (tie.spec (λ c κs. (omega arith, c.before.before.before.requires.1.0 c.before.if1.true)) (λ c κs. search rules)
-    (λ c. c.before.before.add.ensures.long)
-    (λ c. let d = c.before.before in filled_same d.add.ensures (λ h x y. rw d.before.before.if1.true))
-    (λ c. c.before.before.place.ensures.long)
-    (λ c. let d = c.before.before in
-    let b = d.before.before.before.before in
-    filled_same d.place.ensures (λ h x y. rw d.before.before.if1.false (omega (arith, b.requires.1.1 h x y)))))
+    (tie.spec (λ c κs. (omega arith, c.requires.1.0 c.if-begun.true)) (λ c κs. search rules)
+    (λ c. c.add.ensures.long)
+    (λ c. filled_same c.add.ensures (λ h x y. rw c.if-begun.true))
+    (λ c. c.place.ensures.long)
+    (λ c. filled_same c.place.ensures (λ h x y. rw c.if-begun.false (omega (arith, c.requires.1.1 h x y)))))

@@ -10,5 +10,5 @@ pub row_of_spec : {M : Type 1} → statement M
 row_of_spec =
     tie.close
     (tie.spec (λ c. search rules) (λ c. search rules) (λ c κs. search rules) (λ c. search rules) (λ c. search rules) (λ c. search rules)
-    (λ c. search rules) (λ c. let a = c.before.before.before.args in omega (arith, row_small a.s a.head (omega arith) (omega arith)))
-    (λ c. let w = c.before in (rw w.wide32.ensures.0, omega (arith, w.wide32.ensures))))
+    (λ c. search rules) (λ c. let a = c.args in omega (arith, row_small a.s a.head (omega arith) (omega arith)))
+    (λ c. (rw c.wide32.ensures.0, omega (arith, c.wide32.ensures))))
