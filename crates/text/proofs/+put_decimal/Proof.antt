@@ -25,19 +25,19 @@ put_decimal_at t = and 1 put-decimal-kinds.ps (is 1 put-decimal-kinds.ps μ_put_
 abbrev put_decimal_below : ℕ → In 1 put-decimal-kinds.ps
 put_decimal_below t = and 1 put-decimal-kinds.ps (falls 1 put-decimal-kinds.ps ◌<◌ μ_put_decimal t) put-decimal.Pre
 
-pub +put-decimal-spec : {M : Type 1} → statement M
-+put-decimal-spec =
+pub +put_decimal_spec : {M : Type 1} → statement M
++put_decimal_spec =
     close μ_put_decimal λ t.
     put-decimal-lts.spec (put-byte-reads.Asked, put-byte-reads.Learnt, put_decimal_below t, put-decimal.Post) (put_decimal_at t) put-decimal.Post
     (λ c. omega arith)
     (λ c. omega arith)
     (λ c κs. omega arith)
-    (λ c. c.before.before.put_byte.ensures.same)
-    (λ c. wrote_within (wrote_as c.before.before.put_byte.ensures (sym (decimal_one _ (omega arith)))) (decimal_most _))
+    (λ c. c.put_byte.ensures.same)
+    (λ c. wrote_within (wrote_as c.put_byte.ensures (sym (decimal_one _ (omega arith)))) (decimal_most _))
     (λ c κs. (omega arith, omega arith))
     (λ c. omega arith)
     (λ c. omega arith)
-    (λ c κs. omega (arith, c.before.before.before.put-decimal.ensures.place, tenth_most c.before.before.before.before.before.before.before.args.n (omega arith) (omega arith)))
-    (λ c. c.before.before.put-byte2.ensures.same ∙ c.before.before.before.before.before.before.put-decimal.ensures.same)
-    (λ c. let byte : Wrote 1 _ _ _ _ ((48 + c.before.before.before.before.before.before.before.before.before.before.args.n % 10) ∷ []) = c.before.before.put-byte2.ensures in
-    wrote_within (wrote_as (wrote_then c.before.before.before.before.before.before.put-decimal.ensures byte) (sym (decimal_more _ (omega arith) (omega arith)))) (decimal_most _))
+    (λ c κs. omega (arith, c.put_decimal-last.ensures.place, tenth_most c.args.n (omega arith) (omega arith)))
+    (λ c. c.put_byte-2.ensures.same ∙ c.put_decimal-last.ensures.same)
+    (λ c. let byte : Wrote 1 _ _ _ _ ((48 + c.args.n % 10) ∷ []) = c.put_byte-2.ensures in
+    wrote_within (wrote_as (wrote_then c.put_decimal-last.ensures byte) (sym (decimal_more _ (omega arith) (omega arith)))) (decimal_most _))

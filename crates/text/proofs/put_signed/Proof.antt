@@ -26,7 +26,7 @@ returns c =
 
 returns_2 : tie.Need-returns
 returns_2 c =
-    let at = c.before in
+    let at = c.before.before.before.before.before.before.before.before.before.before.before in
     let z = at.args.z in
     let high : 2147483648 ≤ bits_of 32 z = rw (← bits at) c.if-bits-lt2147483648.false in
     let e : 45 ∷ decimal (4294967296 - at.bits32-bits.result) ≡ signed_decimal z =
