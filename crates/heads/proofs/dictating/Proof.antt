@@ -17,64 +17,62 @@ use borrow.Author.Rules.{rules}
 use Rattle.heads.proofs.dictating.Statement.{statement}
 use Rattle.heads.proofs.dictating.Tie as tie
 
-abbrev invariant-loop : tie.invariant-loop
+abbrev invariant-loop : tie.invariant-loop-i
 invariant-loop job losses count parents best₀ i₀ best i =
     (2 ≤ i) × (i ≤ count_of job + 1) × Best (reach_of job (λ j. get_or losses j 0)) (i - 1) best.reach best.section
 
-abbrev decreases-loop : tie.decreases-loop
+abbrev decreases-loop : tie.decreases-loop-i
 decreases-loop job losses count parents best₀ i₀ best i = count_of job + 1 - i
 
 -- where the table of parents has just been made
-abbrev made : tie.After-reach-at invariant-loop decreases-loop → tie.After-parents-of invariant-loop decreases-loop
+abbrev made : tie.After-reach_at invariant-loop decreases-loop → tie.After-parents_of-parents invariant-loop decreases-loop
 made c = c.before.before.before.before
 
 -- in the loop: the section has a place
-inside : (c : tie.In-loop invariant-loop decreases-loop) → c.before.loop.i < 64
+inside : (c : tie.In-loop-i invariant-loop decreases-loop) → c.loop-i.i < 64
 inside c = omega (arith, (given_rooted (made c.before.before).before.pre).few)
 
-loop_holds : tie.Need-loop-init invariant-loop decreases-loop
+loop_holds : tie.Need-loop-i-init invariant-loop decreases-loop
 loop_holds c =
     let g = (made c).before.requires in
     let some = (given_head g).sections.low in (
       omega arith,
       omega arith,
       rw (
-        to_z-of_z {w = w32} {z = c.reach-at.result} (record { sfits = c.reach-at.type-inv }),
-        walked_reach g _ (made c).parents-of.ensures 1 (omega arith) some c.reach-at.ensures,
+        to_z-of_z {w = w32} {z = c.reach_at.result} (record { sfits = c.reach_at.type_inv }),
+        walked_reach g _ (made c).parents-of.ensures 1 (omega arith) some c.reach_at.ensures,
       )
           best_start,
     )
 
-loop_again : tie.Need-loop-preserved invariant-loop decreases-loop
+loop_again : tie.Need-loop-i-preserved invariant-loop decreases-loop
 loop_again c =
     let at = c.before.before.before.before.before.before.before.before in
-    let i = at.loop.i in
-    let table = made at.before in
-    let r = c.before.before.before.reach-at2 in
-    let is = walked_reach table.before.pre _ table.parents-of.ensures i (omega arith) (omega arith) r.ensures in
-    let fit : SFits w32 r.result = record { sfits = r.type-inv } in
-    let old : SFits w32 at.loop.best.reach = record { sfits = c.before.struct_told.given.0.1 } in (
+    let i = at.loop-i.i in
+    let table = made c.before.before.before.before.before.before.before.before.before in
+    let r = c.reach_at-r in
+    let is = walked_reach table.pre _ table.parents_of-parents.ensures i (omega arith) (omega arith) r.ensures in
+    let fit : SFits w32 r.result = record { sfits = r.type_inv } in
+    let old : SFits w32 at.loop-i.best.reach = record { sfits = c.struct_told-1.given.0.1 } in (
       omega arith,
       omega arith,
       ⊎_elim
-          (λ w. rw (w.1, to_z-of_z fit) (best_more i at.loop.invariant.2 (omega arith) is (simp (to_z-of_z old, to_z-of_z fit) at w.0.taken)))
-          (λ w. rw w.1 (best_same i at.loop.invariant.2 (omega arith) is (simp (to_z-of_z old, to_z-of_z fit) at w.0.left)))
-          c.if1.branch,
+          (λ w. rw (w.1, to_z-of_z fit) (best_more i at.loop-i.invariant.2 (omega arith) is (simp (to_z-of_z old, to_z-of_z fit) at w.0.taken)))
+          (λ w. rw w.1 (best_same i at.loop-i.invariant.2 (omega arith) is (simp (to_z-of_z old, to_z-of_z fit) at w.0.left)))
+          c.if-best-r.branch-raw,
     )
 
 returns : tie.Need-returns invariant-loop decreases-loop
 returns c =
     let start = (made c.before.before).before in
-    let e : c.before.loop.i - 1 ≡ count_of start.args.t1 = omega arith in
-    best_end start.args.t1 (λ j. get_or start.args.t2 j 0) (rw e at c.before.loop.invariant.2)
+    let e : c.loop-i.i - 1 ≡ count_of start.args.job = omega arith in
+    best_end start.args.job (λ j. get_or start.args.losses j 0) (rw e at c.loop-i.invariant.2)
 
 pub dictating_spec : {M : Type 1} → statement M
 dictating_spec =
     tie.close
     (tie.spec invariant-loop decreases-loop (λ c. search rules) (λ c κs. (given_rooted c.requires).few) (λ c. search rules)
-    (λ c κs. let table = c.before.before.before in
-    let g = table.before.requires in walkable g _ table.parents-of.ensures 1 (omega arith) (given_head g).sections.low)
+    (λ c κs. let g = c.requires in walkable g _ c.parents_of-parents.ensures 1 (omega arith) (given_head g).sections.low)
     loop_holds (λ c. omega (arith, inside c)) inside
-    (λ c κs. let at = c.before.before.before.before in
-    let table = made at.before in walkable table.before.pre _ table.parents-of.ensures at.loop.i (omega arith) (omega arith))
+    (λ c κs. let table = made c.before.before.before.before.before in walkable table.pre _ table.parents_of-parents.ensures c.loop-i.i (omega arith) (omega arith))
     (λ c. search rules) (λ c. search rules) loop_again returns)

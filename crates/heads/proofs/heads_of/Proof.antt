@@ -19,31 +19,31 @@ use Rattle.heads.proofs.heads_of.Statement.{statement}
 use Rattle.heads.proofs.heads_of.Tie as tie
 
 -- from the greatest reach on: the sum and the difference as the code works them out, what they are, and that they fit
-module _ (c : tie.After-dictating) where
+module _ (c : tie.After-dictating-best) where
   abbrev job : Job
-  job = c.before.args.job
+  job = c.args.job
 
   abbrev loss : ℕ → ℕ
-  loss i = get_or c.before.args.losses i 0
+  loss i = get_or c.args.losses i 0
 
   abbrev sum : ℤ
-  sum = to_z w32 job.header.meter +ℤ to_z w32 (of_z w32 c.dictating.result.reach)
+  sum = to_z w32 job.header.meter +ℤ to_z w32 (of_z w32 c.dictating-best.result.reach)
 
   abbrev over : ℤ
   over = to_z w32 (of_z w32 sum) -ℤ to_z w32 job.header.guaranteed
 
-  reach_fits : SFits w32 c.dictating.result.reach
-  reach_fits = record { sfits = rw c.dictating.ensures.0 (omega (arith, greatest_small c.before.requires)) }
+  reach_fits : SFits w32 c.dictating-best.result.reach
+  reach_fits = record { sfits = rw c.dictating-best.ensures.0 (omega (arith, greatest_small c.requires)) }
 
-  reach_is : to_z w32 (of_z w32 c.dictating.result.reach) ≡ greatest_to (count_of job) (reach_of job loss)
-  reach_is = to_z-of_z reach_fits ∙ c.dictating.ensures.0
+  reach_is : to_z w32 (of_z w32 c.dictating-best.result.reach) ≡ greatest_to (count_of job) (reach_of job loss)
+  reach_is = to_z-of_z reach_fits ∙ c.dictating-best.ensures.0
 
   sum_is : sum ≡ required_of job loss
   unfolding required_of
   sum_is = rw (to_z_pos w32 {n = job.header.meter} (omega arith), reach_is)
 
   sum_fits : SFits w32 sum
-  sum_fits = rw sum_is (record { sfits = omega (arith, required_small c.before.requires) })
+  sum_fits = rw sum_is (record { sfits = omega (arith, required_small c.requires) })
 
   required_is : to_z w32 (of_z w32 sum) ≡ required_of job loss
   required_is = to_z-of_z sum_fits ∙ sum_is
@@ -53,7 +53,7 @@ module _ (c : tie.After-dictating) where
 
   over_fits : SFits w32 over
   over_fits =
-      let g = c.before.requires in
+      let g = c.requires in
       rw over_is
       (record { sfits = less_mag (required_of job loss) job.header.guaranteed _ (omega (arith, (given_head g).guaranteed, required_small g)) })
 
@@ -67,8 +67,8 @@ heads_of_spec =
     (tie.spec (λ c κs. c.requires) (λ c. search rules) (λ c. sum_fits c.before.before.before) (λ c. search rules)
     (λ c. over_fits c.before.before.before.before)
     (λ c. let d = c.before.before.before.before.before in
-    ((clamped_above (to_z w32 (of_z w32 (over d))) c.if1.true).0, rw (to_z-of_z (over_fits d)) (Fits-nat_abs tt (over_fits d))))
+    ((clamped_above (to_z w32 (of_z w32 (over d))) c.if-over-gt0.true).0, rw (to_z-of_z (over_fits d)) (Fits-nat_abs tt (over_fits d))))
     (λ c. let d = c.before.before.before.before.before in
-    (required_is d, (clamped_above (to_z w32 (of_z w32 (over d))) c.if1.true).1 ∙ pump_is d, d.dictating.ensures.1))
+    (required_is d, (clamped_above (to_z w32 (of_z w32 (over d))) c.if-over-gt0.true).1 ∙ pump_is d, d.dictating-best.ensures.1))
     (λ c. let d = c.before.before.before.before.before in
-    (required_is d, clamped_none (to_z w32 (of_z w32 (over d))) c.if1.false ∙ pump_is d, d.dictating.ensures.1)))
+    (required_is d, clamped_none (to_z w32 (of_z w32 (over d))) c.if-over-gt0.false ∙ pump_is d, d.dictating-best.ensures.1)))

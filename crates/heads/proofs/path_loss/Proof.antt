@@ -11,14 +11,14 @@ use Rattle.heads.proofs.Loss.{walk_within}
 use Rattle.heads.proofs.path_loss.Statement.{statement}
 use Rattle.heads.proofs.path_loss.Tie as tie
 
-abbrev invariant-loop : tie.invariant-loop
+abbrev invariant-loop : tie.invariant-loop-at
 invariant-loop parents losses section sum₀ at₀ sum at = (at ≤ section) × AtTurn (λ i. get_or parents i 0) (λ i. get_or losses i 0) section sum at
 
-abbrev decreases-loop : tie.decreases-loop
+abbrev decreases-loop : tie.decreases-loop-at
 decreases-loop parents losses section sum₀ at₀ sum at = at
 
 -- in the loop: the section that is reached has a place, its parent's number is less, and its loss is its part of the path loss
-module _ (c : tie.In-loop invariant-loop decreases-loop) where
+module _ (c : tie.In-loop-at invariant-loop decreases-loop) where
   abbrev start : tie.Start invariant-loop decreases-loop
   start = c.before.before
 
@@ -29,7 +29,7 @@ module _ (c : tie.In-loop invariant-loop decreases-loop) where
   loss i = get_or start.args.losses.now i 0
 
   abbrev at : ℕ
-  at = c.before.loop.at
+  at = c.loop-at.at
 
   inside : at < 64
   inside = omega (arith, start.pre.high)
@@ -43,15 +43,15 @@ module _ (c : tie.In-loop invariant-loop decreases-loop) where
   within : path_of parent loss start.args.section ≤ 268365825
   within = walk_within start.pre
 
-loop_holds : tie.Need-loop-init invariant-loop decreases-loop
+loop_holds : tie.Need-loop-at-init invariant-loop decreases-loop
 loop_holds c = (omega arith, omega arith)
 
-loop_again : tie.Need-loop-preserved invariant-loop decreases-loop
+loop_again : tie.Need-loop-at-preserved invariant-loop decreases-loop
 loop_again c = let turn = c.before.before in (omega (arith, lower turn), omega (arith, step turn))
 
 returns : tie.Need-returns invariant-loop decreases-loop
-returns c = let e : c.before.loop.at ≡ 0 = omega arith in
-    let said = rw (e, path_pump _ _) at c.before.loop.invariant.1 in omega arith
+returns c = let e : c.loop-at.at ≡ 0 = omega arith in
+    let said = rw (e, path_pump _ _) at c.loop-at.invariant.1 in omega arith
 
 pub path_loss_spec : {M : Type 1} → statement M
 path_loss_spec =

@@ -13,19 +13,19 @@ use Rattle.heads.proofs.reach.Statement.{statement}
 use Rattle.heads.proofs.reach.Tie as tie
 
 -- the elevation is of 16 bits, and so of 32
-low : (c : tie.After-struct-told) → SFits w16 c.before.before.args.s.elevation
-low c = record { sfits = c.struct_told.given.1.1.1.1.0.1 }
+low : (c : tie.After-struct_told-1) → SFits w16 c.args.s.elevation
+low c = record { sfits = c.struct_told-1.given.1.1.1.1.0.1 }
 
-wide : (c : tie.After-struct-told) → SFits w32 c.before.before.args.s.elevation
+wide : (c : tie.After-struct_told-1) → SFits w32 c.args.s.elevation
 wide c = sfits_widen tt (low c)
 
-module _ (c : tie.After-struct-known2) where
-  small : to_z w32 (c.before.before.before.args.s.free + c.before.before.before.args.more) ≡
-      pos (c.before.before.before.args.s.free + c.before.before.before.args.more)
+module _ (c : tie.After-struct_known-2-1) where
+  small : to_z w32 (c.args.s.free + c.args.more) ≡
+      pos (c.args.s.free + c.args.more)
   small = to_z_pos w32 (omega arith)
 
-  fits : SFits w32 (c.before.before.before.args.s.elevation +ℤ pos (c.before.before.before.args.s.free + c.before.before.before.args.more))
-  fits = record { sfits = add_mag c.before.before.before.args.s.elevation _ _ (omega (arith, (low c.before).sfits)) }
+  fits : SFits w32 (c.args.s.elevation +ℤ pos (c.args.s.free + c.args.more))
+  fits = record { sfits = add_mag c.args.s.elevation _ _ (omega (arith, (low c.before).sfits)) }
 
 pub reach_spec : {M : Type 1} → statement M
 reach_spec =

@@ -10,16 +10,10 @@ use Rattle.lines.proofs.put_head.Tie as tie
 returns : tie.Need-returns
 unfolding spaced head_line
 returns c =
-    let newline = c.before.before in
-    let three = newline.before.before.before.before in
-    let two = three.before.before.before.before in
-    let one = two.before.before.before.before in
-    let word = one.before.before.before.before in
-    let required = simp (to_z-of_z word.before.before.before.before.ranges.required) at one.put-signed.ensures in
-    wrote_then word.put_word.ensures (wrote_then required (wrote_then two.put-figure.ensures (wrote_then three.put-figure2.ensures newline.put_byte.ensures)))
+    let required = simp (to_z-of_z c.ranges.required) at c.put_signed-at.ensures in
+    wrote_then c.put_word-at.ensures (wrote_then required (wrote_then c.put_figure-at.ensures (wrote_then c.put_figure-at-2.ensures c.put_byte.ensures)))
 
 pub put_head_spec : {M : Type 1} → statement M
 put_head_spec =
     tie.close
-    (tie.spec (λ c. search rules) (λ c κs. search rules) (λ c κs. search rules) (λ c κs. search rules) (λ c κs. search rules)
-    (λ c κs. search rules) (λ c. search rules) returns)
+    (tie.spec (λ c κs. search rules) (λ c κs. search rules) (λ c κs. search rules) (λ c κs. search rules) (λ c κs. search rules) (λ c. search rules) returns)

@@ -9,15 +9,9 @@ use Rattle.lines.proofs.put_section.Tie as tie
 returns : tie.Need-returns
 unfolding spaced section_line
 returns c =
-    let newline = c.before.before in
-    let four = newline.before.before.before.before in
-    let three = four.before.before.before.before in
-    let two = three.before.before.before.before in
-    let one = two.before.before.before.before in
-    wrote_then one.before.before.before.before.put_word.ensures (wrote_then one.put-figure.ensures (wrote_then two.put-figure2.ensures (wrote_then three.put-figure3.ensures (wrote_then four.put-figure4.ensures newline.put_byte.ensures))))
+    wrote_then c.put_word-at.ensures (wrote_then c.put_figure-at.ensures (wrote_then c.put_figure-at-2.ensures (wrote_then c.put_figure-at-3.ensures (wrote_then c.put_figure-at-4.ensures c.put_byte.ensures))))
 
 pub put_section_spec : {M : Type 1} → statement M
 put_section_spec =
     tie.close
-    (tie.spec (λ c. search rules) (λ c κs. search rules) (λ c κs. search rules) (λ c κs. search rules) (λ c κs. search rules)
-    (λ c κs. search rules) (λ c κs. search rules) (λ c. search rules) returns)
+    (tie.spec (λ c κs. search rules) (λ c κs. search rules) (λ c κs. search rules) (λ c κs. search rules) (λ c κs. search rules) (λ c κs. search rules) (λ c. search rules) returns)

@@ -11,22 +11,22 @@ use borrow.Author.Rules.{rules}
 use Rattle.demand.proofs.hour.day_of.Statement.{statement}
 use Rattle.demand.proofs.hour.day_of.Tie as tie
 
-abbrev invariant-loop : tie.invariant-loop
+abbrev invariant-loop : tie.invariant-loop-kind
 invariant-loop job service day₀ kind₀ day kind = Within 1 13 kind × SoFar (λ k. (norm_at job k).day * residents_of job k) 26214000 kind day
 
-abbrev decreases-loop : tie.decreases-loop
+abbrev decreases-loop : tie.decreases-loop-kind
 decreases-loop job service day₀ kind₀ day kind = 13 - kind
 
-loop_again : tie.Need-loop-preserved invariant-loop decreases-loop
+loop_again : tie.Need-loop-kind-preserved invariant-loop decreases-loop
 loop_again c = (
   omega arith,
-  sum_turn c.before.before.before.before.loop.invariant.1 (omega arith)
-      (c.day-part.ensures.0 ∙ rw c.before.long16.ensures.0) c.day-part.ensures.1,
+  sum_turn c.loop-kind.invariant.1 (omega arith)
+      (c.day_part-day.ensures.0 ∙ rw c.long16.ensures.0) c.day_part-day.ensures.1,
 )
 
 returns : tie.Need-returns invariant-loop decreases-loop
 unfolding day_of
-returns c = sum_end c.before.loop.invariant.1 (omega arith) (omega arith)
+returns c = sum_end c.loop-kind.invariant.1 (omega arith) (omega arith)
 
 pub day_of_spec : {M : Type 1} → statement M
 day_of_spec =

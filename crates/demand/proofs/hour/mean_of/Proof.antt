@@ -12,13 +12,13 @@ use Rattle.demand.proofs.hour.mean_of.Tie as tie
 head : (c : tie.Start) → HeaderIn c.args.job.header
 head c = header_in c.args.job.header c.requires.valid.header
 
-top : (c : tie.After-divide-up) → c.divide-up.result ≤ c.before.before.day-of.result
+top : (c : tie.After-divide_up) → c.divide_up.result ≤ c.day_of-day.result
 top c =
-    let h = head c.before.before.before in rw c.divide-up.ensures (mean_top c.before.before.day-of.result (omega arith))
+    let h = head c.before.before.before in rw c.divide_up.ensures (mean_top c.day_of-day.result (omega arith))
 
 returns : tie.Need-returns
 unfolding mean_of
-returns c = rw (← c.before.before.day-of.ensures) c.divide-up.ensures
+returns c = rw (← c.day_of-day.ensures) c.divide_up.ensures
 
 pub mean_of_spec : {M : Type 1} → statement M
 mean_of_spec =

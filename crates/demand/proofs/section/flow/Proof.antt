@@ -10,23 +10,23 @@ use Rattle.demand.proofs.DesignFlows.{alpha_product, alpha_quotient}
 use Rattle.demand.proofs.section.flow.Statement.{statement}
 use Rattle.demand.proofs.section.flow.Tie as tie
 
-product : (c : tie.After-alpha) → c.before.args.s.weighted * c.alpha.result ≤ 30 * c.before.args.s.m * 91900000
-product c = rw c.alpha.ensures (alpha_product _ _ _ (omega arith))
+product : (c : tie.After-alpha-alpha) → c.args.s.weighted * c.alpha-alpha.result ≤ 30 * c.args.s.m * 91900000
+product c = rw c.alpha-alpha.ensures (alpha_product _ _ _ (omega arith))
 
-average : (c : tie.After-divide-up) →
-    let s = c.before.before.before.args.s in
-    c.divide-up.result ≡ up (s.weighted * alpha_of s.m) (20000 * s.m)
-average c = c.divide-up.ensures ∙ rw c.before.before.alpha.ensures
+average : (c : tie.After-divide_up-average) →
+    let s = c.args.s in
+    c.divide_up-average.result ≡ up (s.weighted * alpha_of s.m) (20000 * s.m)
+average c = c.divide_up-average.ensures ∙ rw c.alpha-alpha.ensures
 
-top : (c : tie.After-divide-up) → c.divide-up.result ≤ 137850
+top : (c : tie.After-divide_up-average) → c.divide_up-average.result ≤ 137850
 top c =
     rw (average c)
-    (alpha_quotient _ (30 * c.before.before.before.args.s.m) _ _ (omega arith) (omega arith) (omega arith))
+    (alpha_quotient _ (30 * c.args.s.m) _ _ (omega arith) (omega arith) (omega arith))
 
-returns : tie.Need-returns
+returns : tie.Need-returns-then-average-s
 returns c = omega (arith, average c.before.before.before)
 
-returns_2 : tie.Need-returns-2
+returns_2 : tie.Need-returns-else-average-s
 returns_2 c = omega (arith, average c.before.before)
 
 pub flow_spec : {M : Type 1} → statement M

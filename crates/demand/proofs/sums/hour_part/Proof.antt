@@ -13,27 +13,27 @@ use Rattle.demand.proofs.Tops.{norm_known, HourFits, hour_fits, hour_share_top, 
 use Rattle.demand.proofs.sums.hour_part.Statement.{statement}
 use Rattle.demand.proofs.sums.hour_part.Tie as tie
 
-known : (c : tie.After-norm-of) → NormIn c.norm-of.result
-known c = norm_known c.before.before.args.service c.norm-of.ensures (omega arith)
+known : (c : tie.After-norm_of-norm) → NormIn c.norm_of-norm.result
+known c = norm_known c.args.service c.norm_of-norm.ensures (omega arith)
 
-fits : (c : tie.After-norm-of) → HourFits c.norm-of.result c.before.before.args.residents
+fits : (c : tie.After-norm_of-norm) → HourFits c.norm_of-norm.result c.args.residents
 fits c = hour_fits (known c) (omega arith)
 
 -- what is divided, and by what
-is : (c : tie.After-divide-up) →
-    let norm = c.before.before.norm-of.result in
-    c.divide-up.result ≡ up (100000 * norm.hour * c.before.before.before.before.args.residents) norm.hourly
-is c = c.divide-up.ensures
+is : (c : tie.After-divide_up-share) →
+    let norm = c.norm_of-norm.result in
+    c.divide_up-share.result ≡ up (100000 * norm.hour * c.args.residents) norm.hourly
+is c = c.divide_up-share.ensures
 
-top : (c : tie.After-divide-up) → c.divide-up.result ≤ 32767500000
+top : (c : tie.After-divide_up-share) → c.divide_up-share.result ≤ 32767500000
 top c = rw (is c) (hour_share_top (fits c.before.before))
 
-weighted : (c : tie.After-divide-up) → c.divide-up.result * c.before.before.norm-of.result.hourly ≤ 9830250000000
+weighted : (c : tie.After-divide_up-share) → c.divide_up-share.result * c.norm_of-norm.result.hourly ≤ 9830250000000
 weighted c = hourly_top (known c.before.before) (top c)
 
-returns : tie.Need-returns
+returns : tie.Need-returns-then-residents-eq0
 returns c =
-    let a = c.before.args in
+    let a = c.args in
     let norm = norm_of a.service a.kind in
     let none : a.residents ≡ 0 = omega arith in
     record {
@@ -43,13 +43,13 @@ returns c =
       weighted_top = omega arith;
     }
 
-returns_2 : tie.Need-returns-2
+returns_2 : tie.Need-returns
 returns_2 c =
     let d = c.before in
     record {
-      share_is = rw (← d.before.before.norm-of.ensures) (is d);
+      share_is = rw (← d.norm_of-norm.ensures) (is c.before);
       share_top = top d;
-      weighted_is = rw d.before.before.norm-of.ensures;
+      weighted_is = rw d.norm_of-norm.ensures;
       weighted_top = weighted d;
     }
 

@@ -10,39 +10,36 @@ use borrow.Author.Rules.{rules}
 use Rattle.demand.proofs.sums.hour_sums.Statement.{statement}
 use Rattle.demand.proofs.sums.hour_sums.Tie as tie
 
-abbrev invariant-loop : tie.invariant-loop
+abbrev invariant-loop : tie.invariant-loop-kind
 invariant-loop job service shares₀ weighted₀ kind₀ shares weighted kind =
     Within 1 13 kind ×
     SoFar (λ k. hour_share_of job k) 32767500000 kind shares ×
     SoFar (λ k. hour_share_of job k * (norm_at job k).hourly) 9830250000000 kind weighted
 
-abbrev decreases-loop : tie.decreases-loop
+abbrev decreases-loop : tie.decreases-loop-kind
 decreases-loop job service shares₀ weighted₀ kind₀ shares weighted kind = 13 - kind
 
-is : (c : tie.After-hour-part invariant-loop decreases-loop) →
-    let d = c.before.before.before in
-    c.hour-part.result.share ≡ hour_share_of d.before.before.args.job d.before.loop.kind
+is : (c : tie.After-hour_part-part invariant-loop decreases-loop) →
+    c.hour_part-part.result.share ≡ hour_share_of c.args.job c.loop-kind.kind
 unfolding hour_share_of
-is c = rw (← c.before.long16.ensures.0) c.hour-part.ensures.share_is
+is c = rw (← c.long16.ensures.0) c.hour_part-part.ensures.share_is
 
-loop_holds : tie.Need-loop-init invariant-loop decreases-loop
+loop_holds : tie.Need-loop-kind-init invariant-loop decreases-loop
 loop_holds c = (omega arith, sum_start _ _, sum_start _ _)
 
-loop_again : tie.Need-loop-preserved invariant-loop decreases-loop
+loop_again : tie.Need-loop-kind-preserved invariant-loop decreases-loop
 loop_again c =
-    let part = c.before.before in
-    let d = part.before.before.before in
-    let adds = part.hour-part.ensures in (
+    let adds = c.hour_part-part.ensures in (
       omega arith,
-      sum_turn d.before.loop.invariant.1 (omega arith) (is part) adds.share_top,
-      sum_turn d.before.loop.invariant.2 (omega arith) (adds.weighted_is ∙ rw (is part)) adds.weighted_top,
+      sum_turn c.loop-kind.invariant.1 (omega arith) (is c.before.before) adds.share_top,
+      sum_turn c.loop-kind.invariant.2 (omega arith) (adds.weighted_is ∙ rw (is c.before.before)) adds.weighted_top,
     )
 
 returns : tie.Need-returns invariant-loop decreases-loop
 unfolding hour_sum_of hourly_sum_of
 returns c = (
-  sum_end c.before.loop.invariant.1 (omega arith) (omega arith),
-  sum_end c.before.loop.invariant.2 (omega arith) (omega arith),
+  sum_end c.loop-kind.invariant.1 (omega arith) (omega arith),
+  sum_end c.loop-kind.invariant.2 (omega arith) (omega arith),
 )
 
 pub hour_sums_spec : {M : Type 1} → statement M

@@ -14,30 +14,30 @@ use Rattle.demand.proofs.Tops.{norm_known, ShareFits, share_fits, share_top, fix
 use Rattle.demand.proofs.sums.part_of.Statement.{statement}
 use Rattle.demand.proofs.sums.part_of.Tie as tie
 
-known : (c : tie.After-norm-of) → NormIn c.norm-of.result
-known c = norm_known c.before.before.args.service c.norm-of.ensures (omega arith)
+known : (c : tie.After-norm_of-norm) → NormIn c.norm_of-norm.result
+known c = norm_known c.args.service c.norm_of-norm.ensures (omega arith)
 
-fits : (c : tie.After-norm-of) →
-    ShareFits c.norm-of.result c.before.before.args.residents c.before.before.args.n c.before.before.args.house
+fits : (c : tie.After-norm_of-norm) →
+    ShareFits c.norm_of-norm.result c.args.residents c.args.n c.args.house
 fits c = share_fits (known c) (omega arith) (omega arith) (omega arith) (omega arith)
 
 -- what is divided, and by what
-is : (c : tie.After-divide-up) →
-    let norm = c.before.before.before.norm-of.result in
-    let a = c.before.before.before.before.before.args in
-    c.divide-up.result ≡ up (25000 * norm.hour * a.residents * a.n) (9 * norm.fixture * a.house)
-is c = c.divide-up.ensures
+is : (c : tie.After-divide_up-share) →
+    let norm = c.norm_of-norm.result in
+    let a = c.args in
+    c.divide_up-share.result ≡ up (25000 * norm.hour * a.residents * a.n) (9 * norm.fixture * a.house)
+is c = c.divide_up-share.ensures
 
-top : (c : tie.After-divide-up) → c.divide-up.result ≤ 22547890181250000
+top : (c : tie.After-divide_up-share) → c.divide_up-share.result ≤ 22547890181250000
 top c = rw (is c) (share_top (fits c.before.before.before))
 
-weighted : (c : tie.After-divide-up) → c.divide-up.result * c.before.before.before.norm-of.result.fixture ≤ 676436705437500000
+weighted : (c : tie.After-divide_up-share) → c.divide_up-share.result * c.norm_of-norm.result.fixture ≤ 676436705437500000
 weighted c = fixture_top (known c.before.before.before) (top c)
 
-returns : tie.Need-returns
+returns : tie.Need-returns-then-n-eq0
 unfolding share_by
 returns c =
-    let a = c.before.args in
+    let a = c.args in
     let none : a.n ≡ 0 = omega arith in
     record {
       share_is = rw none (sym (by_zero (norm_of a.service a.kind) a.residents a.house));
@@ -48,21 +48,21 @@ returns c =
     }
 
 -- the house has some where a section has some
-some : (c : tie.Else1) → c.before.args.house ≡ 0 → ⊥
+some : (c : tie.Else-n-eq0) → c.args.house ≡ 0 → ⊥
 some c e = omega arith
 
-served : (c : tie.Else1) → 0 < c.before.args.n
+served : (c : tie.Else-n-eq0) → 0 < c.args.n
 served c = omega arith
 
-returns_2 : tie.Need-returns-2
+returns_2 : tie.Need-returns
 returns_2 c =
     let d = c.before in
     record {
-      share_is = rw (ne_eqb _ _ (some d.before.before.before.before), ← d.before.before.before.norm-of.ensures) (is d);
+      share_is = rw (ne_eqb _ _ (some c.before.before.before.before.before), ← d.norm_of-norm.ensures) (is c.before);
       share_top = top d;
-      weighted_is = rw d.before.before.before.norm-of.ensures;
+      weighted_is = rw d.norm_of-norm.ensures;
       weighted_top = weighted d;
-      z_is = rw (lt-ltb 0 _ (served d.before.before.before.before), d.before.before.before.norm-of.ensures);
+      z_is = rw (lt-ltb 0 _ (served c.before.before.before.before.before), d.norm_of-norm.ensures);
     }
 
 pub part_of_spec : {M : Type 1} → statement M

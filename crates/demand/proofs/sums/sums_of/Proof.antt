@@ -18,72 +18,66 @@ use borrow.Author.Rules.{rules}
 use Rattle.demand.proofs.sums.sums_of.Statement.{statement}
 use Rattle.demand.proofs.sums.sums_of.Tie as tie
 
-abbrev invariant-loop : tie.invariant-loop
+abbrev invariant-loop : tie.invariant-loop-kind
 invariant-loop job counts i service m₀ weighted₀ largest₀ kind₀ m weighted largest kind =
     Within 1 13 kind ×
     SoFar (λ k. share_of job (served_of job i) k) 22547890181250000 kind m ×
     SoFar (λ k. share_of job (served_of job i) k * (norm_at job k).fixture) 676436705437500000 kind weighted ×
     (largest ≡ most_to (kind - 1) (tap_of job (served_of job i)))
 
-abbrev decreases-loop : tie.decreases-loop
+abbrev decreases-loop : tie.decreases-loop-kind
 decreases-loop job counts i service m₀ weighted₀ largest₀ kind₀ m weighted largest kind = 13 - kind
 
-known : (c : tie.In-loop invariant-loop decreases-loop) →
-    KindCounts c.before.before.args.job c.before.before.args.counts.now c.before.before.args.i c.before.loop.kind
-known c = kind_counts c.before.before.requires.0 c.before.before.requires.1 (omega arith) (omega arith)
+known : (c : tie.In-loop-kind invariant-loop decreases-loop) →
+    KindCounts c.args.job c.args.counts.now c.args.i c.loop-kind.kind
+known c = kind_counts c.requires.0 c.requires.1 (omega arith) (omega arith)
 
-abbrev wanted : tie.In-loop invariant-loop decreases-loop → ℕ
-wanted c = share_of c.before.before.args.job (served_of c.before.before.args.job c.before.before.args.i) c.before.loop.kind
+abbrev wanted : tie.In-loop-kind invariant-loop decreases-loop → ℕ
+wanted c = share_of c.args.job (served_of c.args.job c.args.i) c.loop-kind.kind
 
-is : (c : tie.After-part-of invariant-loop decreases-loop) → c.part_of.result.share ≡ wanted c.before.before.before.before.before.before.before
+is : (c : tie.After-part_of-part invariant-loop decreases-loop) → c.part_of-part.result.share ≡ wanted c.before.before.before.before.before.before.before.before
 unfolding share_of
 is c =
-    let k = known c.before.before.before.before.before.before.before in
-    let house = c.before.before in
-    rw (← c.before.long16.ensures.0, ← k.served, ← k.house, ← house.before.before.long32.ensures.0, ← house.long322.ensures.0)
-    c.part_of.ensures.share_is
+    let k = known c.before.before.before.before.before.before.before.before in
+    rw (← c.long16.ensures.0, ← k.served, ← k.house, ← c.long32-n.ensures.0, ← c.long32-house.ensures.0)
+    c.part_of-part.ensures.share_is
 
 -- Z of this kind, where the section serves it
-tap_here : (c : tie.After-part-of invariant-loop decreases-loop) →
-    let d = c.before.before.before.before.before.before.before in
-    c.part_of.result.z ≡ tap_of d.before.before.args.job (served_of d.before.before.args.job d.before.before.args.i) d.before.loop.kind
+tap_here : (c : tie.After-part_of-part invariant-loop decreases-loop) →
+    c.part_of-part.result.z ≡ tap_of c.args.job (served_of c.args.job c.args.i) c.loop-kind.kind
 tap_here c =
-    let n = c.before.before.before.before in
-    let d = n.before.before.before in
-    c.part_of.ensures.z_is ∙
-    ap (λ x. cond (ltb 0 x) (norm_at d.before.before.args.job d.before.loop.kind).fixture 0) (n.long32.ensures.0 ∙ (known d).served) ∙
-    sym (tap_is d.before.before.args.job _ d.before.loop.kind)
+    c.part_of-part.ensures.z_is ∙
+    ap (λ x. cond (ltb 0 x) (norm_at c.args.job c.loop-kind.kind).fixture 0) (c.long32-n.ensures.0 ∙ (known c.before.before.before.before.before.before.before.before).served) ∙
+    sym (tap_is c.args.job _ c.loop-kind.kind)
 
-loop_holds : tie.Need-loop-init invariant-loop decreases-loop
+loop_holds : tie.Need-loop-kind-init invariant-loop decreases-loop
 loop_holds c = (omega arith, sum_start _ _, sum_start _ _, sym (most_none _))
 
-loop_again : tie.Need-loop-preserved invariant-loop decreases-loop
+loop_again : tie.Need-loop-kind-preserved invariant-loop decreases-loop
 loop_again c =
-    let part = c.before.before.before in
-    let d = part.before.before.before.before.before.before.before in
-    let adds = part.part_of.ensures in (
+    let adds = c.part_of-part.ensures in (
       omega arith,
-      sum_turn d.before.loop.invariant.1 (omega arith) (is part) adds.share_top,
-      sum_turn d.before.loop.invariant.2 (omega arith) (adds.weighted_is ∙ rw (is part)) adds.weighted_top,
-      c.greater.ensures ∙ most_turn _ (omega arith) d.before.loop.invariant.3 (tap_here part),
+      sum_turn c.loop-kind.invariant.1 (omega arith) (is c.before.before.before) adds.share_top,
+      sum_turn c.loop-kind.invariant.2 (omega arith) (adds.weighted_is ∙ rw (is c.before.before.before)) adds.weighted_top,
+      c.greater-largest.ensures ∙ most_turn _ (omega arith) c.loop-kind.invariant.3 (tap_here c.before.before.before),
     )
 
 -- after the twelfth kind
-largest : (c : tie.After-loop invariant-loop decreases-loop) →
-    let a = c.before.before.args in
-    c.before.loop.largest ≡ most_to 12 (tap_of a.job (served_of a.job a.i))
+largest : (c : tie.After-loop-kind invariant-loop decreases-loop) →
+    let a = c.args in
+    c.loop-kind.largest ≡ most_to 12 (tap_of a.job (served_of a.job a.i))
 largest c =
-    let last : c.before.loop.kind - 1 ≡ 12 = omega arith in
-    rw last at c.before.loop.invariant.3
+    let last : c.loop-kind.kind - 1 ≡ 12 = omega arith in
+    rw last at c.loop-kind.invariant.3
 
-small : (c : tie.After-loop invariant-loop decreases-loop) → c.before.loop.largest ≤ 30
-small c = rw (largest c) (most_tap_top c.before.before.args.job _)
+small : (c : tie.After-loop-kind invariant-loop decreases-loop) → c.loop-kind.largest ≤ 30
+small c = rw (largest c) (most_tap_top c.args.job _)
 
 returns : tie.Need-returns invariant-loop decreases-loop
 unfolding m_of fixture_sum_of
 returns c = (
-  sum_end c.before.loop.invariant.1 (omega arith) (omega arith),
-  sum_end c.before.loop.invariant.2 (omega arith) (omega arith),
+  sum_end c.loop-kind.invariant.1 (omega arith) (omega arith),
+  sum_end c.loop-kind.invariant.2 (omega arith) (omega arith),
   rw (largest c) (sym (one_tap_is _ _)),
 )
 
@@ -92,6 +86,6 @@ sums_of_spec =
     tie.close
     (tie.spec invariant-loop decreases-loop loop_holds (λ c. search rules) (λ c. search rules) (λ c. search rules) (λ c. search rules) (λ c. search rules)
     (λ c κs. search rules) (λ c. search rules) (λ c. search rules) (λ c κs. search rules) (λ c. search rules) (λ c. search rules)
-    (λ c κs. search rules) (λ c κs. let k = known c.before.before.before.before.before.before in omega arith)
+    (λ c κs. search rules) (λ c κs. let k = known c.before.before.before.before.before.before.before in omega arith)
     (λ c. omega arith) (λ c. omega arith) (λ c κs. search rules) (λ c. search rules) (λ c. search rules) loop_again (λ c. omega (arith, small c))
     returns)
