@@ -30,7 +30,7 @@ made c = c.before.before.before.before
 
 -- in the loop: the section has a place
 inside : (c : tie.In-loop-i invariant-loop decreases-loop) → c.loop-i.i < 64
-inside c = omega (arith, (given_rooted (made c.before.before).before.pre).few)
+inside c = omega (arith, (given_rooted (made c.before.before).before.requires).few)
 
 loop_holds : tie.Need-loop-i-init invariant-loop decreases-loop
 loop_holds c =
@@ -51,7 +51,7 @@ loop_again c =
     let i = at.loop-i.i in
     let table = made c.before.before.before.before.before.before.before.before.before in
     let r = c.reach_at-r in
-    let is = walked_reach table.pre _ table.parents_of-parents.ensures i (omega arith) (omega arith) r.ensures in
+    let is = walked_reach table.requires _ table.parents_of-parents.ensures i (omega arith) (omega arith) r.ensures in
     let fit : SFits w32 r.result = record { sfits = r.type_inv } in
     let old : SFits w32 at.loop-i.best.reach = record { sfits = c.struct_told-1.given.0.1 } in (
       omega arith,
@@ -74,5 +74,5 @@ dictating_spec =
     (tie.spec invariant-loop decreases-loop (λ c. search rules) (λ c κs. (given_rooted c.requires).few) (λ c. search rules)
     (λ c κs. let g = c.requires in walkable g _ c.parents_of-parents.ensures 1 (omega arith) (given_head g).sections.low)
     loop_holds (λ c. omega (arith, inside c)) inside
-    (λ c κs. let table = made c.before.before.before.before.before in walkable table.pre _ table.parents_of-parents.ensures c.loop-i.i (omega arith) (omega arith))
+    (λ c κs. let table = made c.before.before.before.before.before in walkable table.requires _ table.parents_of-parents.ensures c.loop-i.i (omega arith) (omega arith))
     (λ c. search rules) (λ c. search rules) loop_again returns)

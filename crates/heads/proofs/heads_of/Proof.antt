@@ -66,9 +66,6 @@ heads_of_spec =
     tie.close
     (tie.spec (λ c κs. c.requires) (λ c. search rules) (λ c. sum_fits c.before.before.before) (λ c. search rules)
     (λ c. over_fits c.before.before.before.before)
-    (λ c. let d = c.before.before.before.before.before in
-    ((clamped_above (to_z w32 (of_z w32 (over d))) c.if-over-gt0.true).0, rw (to_z-of_z (over_fits d)) (Fits-nat_abs tt (over_fits d))))
-    (λ c. let d = c.before.before.before.before.before in
-    (required_is d, (clamped_above (to_z w32 (of_z w32 (over d))) c.if-over-gt0.true).1 ∙ pump_is d, d.dictating-best.ensures.1))
-    (λ c. let d = c.before.before.before.before.before in
-    (required_is d, clamped_none (to_z w32 (of_z w32 (over d))) c.if-over-gt0.false ∙ pump_is d, d.dictating-best.ensures.1)))
+    (λ c. ((clamped_above (to_z w32 (of_z w32 (over c.before.before.before.before.before))) c.if-over-gt0.true).0, rw (to_z-of_z (over_fits c.before.before.before.before.before)) (Fits-nat_abs tt (over_fits c.before.before.before.before.before))))
+    (λ c. (required_is c.before.before.before.before.before, (clamped_above (to_z w32 (of_z w32 (over c.before.before.before.before.before))) c.if-over-gt0.true).1 ∙ pump_is c.before.before.before.before.before, c.dictating-best.ensures.1))
+    (λ c. (required_is c.before.before.before.before.before, clamped_none (to_z w32 (of_z w32 (over c.before.before.before.before.before))) c.if-over-gt0.false ∙ pump_is c.before.before.before.before.before, c.dictating-best.ensures.1)))

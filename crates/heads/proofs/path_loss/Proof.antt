@@ -19,35 +19,33 @@ decreases-loop parents losses section sum₀ at₀ sum at = at
 
 -- in the loop: the section that is reached has a place, its parent's number is less, and its loss is its part of the path loss
 module _ (c : tie.In-loop-at invariant-loop decreases-loop) where
-  abbrev start : tie.Start invariant-loop decreases-loop
-  start = c.before.before
 
   abbrev parent : ℕ → ℕ
-  parent i = get_or start.args.parents.now i 0
+  parent i = get_or c.args.parents.now i 0
 
   abbrev loss : ℕ → ℕ
-  loss i = get_or start.args.losses.now i 0
+  loss i = get_or c.args.losses.now i 0
 
   abbrev at : ℕ
   at = c.loop-at.at
 
   inside : at < 64
-  inside = omega (arith, start.pre.high)
+  inside = omega (arith, c.requires.high)
 
   lower : parent at < at
-  lower = start.pre.lower at (omega arith) (omega arith)
+  lower = c.requires.lower at (omega arith) (omega arith)
 
   step : path_of parent loss at ≡ loss at + path_of parent loss (parent at)
-  step = path_step start.pre.lower loss at (omega arith) (omega arith)
+  step = path_step c.requires.lower loss at (omega arith) (omega arith)
 
-  within : path_of parent loss start.args.section ≤ 268365825
-  within = walk_within start.pre
+  within : path_of parent loss c.args.section ≤ 268365825
+  within = walk_within c.requires
 
 loop_holds : tie.Need-loop-at-init invariant-loop decreases-loop
 loop_holds c = (omega arith, omega arith)
 
 loop_again : tie.Need-loop-at-preserved invariant-loop decreases-loop
-loop_again c = let turn = c.before.before in (omega (arith, lower turn), omega (arith, step turn))
+loop_again c = (omega (arith, lower c.before.before.before.before), omega (arith, step c.before.before.before.before))
 
 returns : tie.Need-returns invariant-loop decreases-loop
 returns c = let e : c.loop-at.at ≡ 0 = omega arith in
@@ -56,6 +54,6 @@ returns c = let e : c.loop-at.at ≡ 0 = omega arith in
 pub path_loss_spec : {M : Type 1} → statement M
 path_loss_spec =
     tie.close
-    (tie.spec invariant-loop decreases-loop loop_holds (λ c. omega (arith, inside c)) inside (λ c. omega (arith, step c.before, within c.before))
-    (λ c. inside c.before) (λ c. omega (arith, lower c.before.before, inside c.before.before)) (λ c. lower c.before.before)
+    (tie.spec invariant-loop decreases-loop loop_holds (λ c. omega (arith, inside c)) inside (λ c. omega (arith, step c.before.before, within c.before.before))
+    (λ c. inside c.before.before.before) (λ c. omega (arith, lower c.before.before.before.before, inside c.before.before.before.before)) (λ c. lower c.before.before.before.before)
     loop_again returns)

@@ -20,44 +20,38 @@ complete_requires c κs =
 
 -- its row is complete
 module _ (c : tie.After-complete) where
-  abbrev b : tie.Start
-  b = c.before.before.before.before
 
-  ready : let a = b.args in
+  ready : let a = c.args in
       Filling (net_of a.sections a.sizes a.parents.now a.needs.now a.losses.now a.costs.now) a.head (λ s. get_or a.highs.now s 0)
       c.complete.new.ws c.complete.new.begun a.s × (get_or c.complete.new.begun a.s false ≡ true)
-  ready = fill_settle b.pre.0 b.pre.1.0 c.complete.ensures.0 c.complete.ensures.1 b.pre.1.1.1
+  ready = fill_settle c.requires.0 c.requires.1.0 c.complete.ensures.0 c.complete.ensures.1 c.requires.1.1.1
 
 -- the parent's number is less, and its row within the workspace
 module _ (c : tie.After-wide8-p) where
-  abbrev k : tie.After-complete
-  k = c.before.before.before.before.before
 
   abbrev p : ℕ
   p = c.wide8-p.result
 
-  parent_low : (p < (b k).args.s) × (p < 64)
+  parent_low : (p < c.args.s) × (p < 64)
   parent_low =
-      let s = (b k).pre.1.1 in
-      let l = (b k).pre.0.sound.lower (b k).args.s s.0 s.1 in
-      (omega (arith, c.wide8-p.ensures.0, l), omega (arith, c.wide8-p.ensures.0, l, s, (b k).pre.0.sound.few))
+      let s = c.requires.1.1 in
+      let l = c.requires.0.sound.lower c.args.s s.0 s.1 in
+      (omega (arith, c.wide8-p.ensures.0, l), omega (arith, c.wide8-p.ensures.0, l, s, c.requires.0.sound.few))
 
-  up_fits : (p * ((b k).args.head + 1) + ((b k).args.head + 1) ≤ ((b k).args.sections + 1) * ((b k).args.head + 1)) × (get_or (b k).args.highs.now p 0 ≤ (b k).args.head)
+  up_fits : (p * (c.args.head + 1) + (c.args.head + 1) ≤ (c.args.sections + 1) * (c.args.head + 1)) × (get_or c.args.highs.now p 0 ≤ c.args.head)
   up_fits =
-      let l : p ≤ (b k).args.sections = omega (arith, parent_low, (b k).pre.1.1) in
-      (row_fits p (b k).args.sections ((b k).args.head + 1) l, (b k).pre.0.usable.most p l)
+      let l : p ≤ c.args.sections = omega (arith, parent_low, c.requires.1.1) in
+      (row_fits p c.args.sections (c.args.head + 1) l, c.requires.0.usable.most p l)
 
 raise_requires : tie.Need-raise-requires
 raise_requires c κs =
-    let w = c.before.before.before.before.before.before in
-    let d = k w in
-    let r = w.row_of-row in
-    let a = (b d).args in
-    let ok = (b d).pre.0 in
-    let t = (b d).pre.1.1 in
+    let r = c.row_of-row in
+    let a = c.args in
+    let ok = c.requires.0 in
+    let t = c.requires.1.1 in
     let m = c.wide32-start in
     let high = ok.usable.most a.s t.1 in
-    let long = d.complete.ensures.0.long in (
+    let long = c.complete.ensures.0.long in (
       (
         rw r.ensures.0
             (record {
@@ -65,34 +59,31 @@ raise_requires c κs =
               needs = r.ensures.1;
               highs = omega (arith, high, ok.narrow);
               starts = m.ensures.1;
-              narrow = omega (arith, up_fits w, ok.narrow);
+              narrow = omega (arith, up_fits c.before.before.before.before.before.before.before.before.before, ok.narrow);
               cells = omega (arith, row_fits a.s a.sections (a.head + 1) t.1, high, ok.rows, long);
-              moderate = fill_moderate ok (ready d).0 (ready d).1 t.0 t.1 (omega (arith, up_fits w));
+              moderate = fill_moderate ok (ready c.before.before.before.before.before.before.before.before.before.before.before.before.before.before.before).0 (ready c.before.before.before.before.before.before.before.before.before.before.before.before.before.before.before).1 t.0 t.1 (omega (arith, up_fits c.before.before.before.before.before.before.before.before.before));
             }),
         t.2,
-        omega (arith, long, up_fits w, ok.rows),
+        omega (arith, long, up_fits c.before.before.before.before.before.before.before.before.before, ok.rows),
       ),
-      λ e h x y. fill_most ok (ready d).0 (p w) (omega (arith, parent_low w, t)) e h (omega (arith, m.ensures.0)) (omega arith),
+      λ e h x y. fill_most ok (ready c.before.before.before.before.before.before.before.before.before.before.before.before.before.before.before).0 (p c.before.before.before.before.before.before.before.before.before) (omega (arith, parent_low c.before.before.before.before.before.before.before.before.before, t)) e h (omega (arith, m.ensures.0)) (omega arith),
     )
 
 returns : tie.Need-returns
 returns c =
-    let w = c.before in
-    let d = k w in
-    let t = (b d).pre.1.1 in
+    let t = c.requires.1.1 in
     let m = c.wide32-start in (
-      (omega (arith, c.raise.ensures.0.long, d.complete.ensures.0.long), c.raise.ensures.1),
-      fill_turn (b d).pre.0 (b d).args.s (ready d).0 (ready d).1 t.0 t.1 w.wide8-p.ensures.0 m.ensures.0
-          (rw w.row_of-row.ensures.0 at c.raise.ensures.0),
+      (omega (arith, c.raise.ensures.0.long, c.complete.ensures.0.long), c.raise.ensures.1),
+      fill_turn c.requires.0 c.args.s (ready c.before.before.before.before.before.before.before.before.before.before.before.before.before.before.before.before.before.before).0 (ready c.before.before.before.before.before.before.before.before.before.before.before.before.before.before.before.before.before.before).1 t.0 t.1 c.wide8-p.ensures.0 m.ensures.0
+          (rw c.row_of-row.ensures.0 at c.raise.ensures.0),
     )
 
 pub take_up_spec : {M : Type 1} → statement M
 take_up_spec =
     tie.close
     (tie.spec complete_requires (λ c κs. search rules) (λ c. search rules) (λ c κs. search rules) (λ c. search rules)
-    (λ c. omega (arith, parent_low c)) (λ c κs. search rules) (λ c. search rules) (λ c. omega (arith, parent_low c.before.before))
-    (λ c. omega (arith, up_fits c.before.before.before, (b (k c.before.before.before)).pre.0.narrow)) (λ c. search rules)
-    (λ c. let w = c.before.before.before in
-    omega (arith, row_small (p w) (b (k w)).args.head (parent_low w).1 (b (k w)).pre.0.narrow))
-    (λ c. omega (arith, parent_low c.before.before.before.before.before)) raise_requires
-    (λ c. omega (arith, parent_low c.before.before.before.before.before.before.before.before.before)) (λ c. search rules) returns)
+    (λ c. omega (arith, parent_low c.before)) (λ c κs. search rules) (λ c. search rules) (λ c. omega (arith, parent_low c.before.before.before.before))
+    (λ c. omega (arith, up_fits c.before.before.before.before.before, c.requires.0.narrow)) (λ c. search rules)
+    (λ c. omega (arith, row_small (p c.before.before.before.before.before) c.args.head (parent_low c.before.before.before.before.before).1 c.requires.0.narrow))
+    (λ c. omega (arith, parent_low c.before.before.before.before.before.before.before.before)) raise_requires
+    (λ c. omega (arith, parent_low c.before.before.before.before.before.before.before.before.before.before.before.before)) (λ c. search rules) returns)

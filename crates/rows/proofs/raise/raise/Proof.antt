@@ -25,7 +25,7 @@ raise_spec =
     (tie.spec (λ c κs. search rules) hand_up_requires (λ c. search rules)
     (λ c. let k = c.bests in
     let a = c.args in (
-      filled_same {f = λ h. min mark (standing a.begun a.ws.now a.up h + get_or k.new.1.0 h 0)} c.hand_up.ensures
+      filled_same {f = λ h. min mark (standing a.begun a.ws.now a.up h + get_or k.new.best h 0)} c.hand_up.ensures
           (λ h x y. rw (k.ensures.is h x y)),
       k.ensures.long,
     )))
