@@ -24,49 +24,42 @@ invariant-loop job losses count parents best₀ i₀ best i =
 abbrev decreases-loop : tie.decreases-loop-i
 decreases-loop job losses count parents best₀ i₀ best i = count_of job + 1 - i
 
--- where the table of parents has just been made
-abbrev made : tie.After-reach_at invariant-loop decreases-loop → tie.After-parents_of-parents invariant-loop decreases-loop
-made c = c.before.before.before.before
-
 -- in the loop: the section has a place
 inside : (c : tie.In-loop-i invariant-loop decreases-loop) → c.loop-i.i < 64
-inside c = omega (arith, (given_rooted (made c.before.before).before.requires).few)
+inside c = omega (arith, (given_rooted c.requires).few)
 
 loop_holds : tie.Need-loop-i-init invariant-loop decreases-loop
 loop_holds c =
-    let g = (made c).before.requires in
+    let g = c.requires in
     let some = (given_head g).sections.low in (
       omega arith,
       omega arith,
       rw (
         to_z-of_z {w = w32} {z = c.reach_at.result} (record { sfits = c.reach_at.type_inv }),
-        walked_reach g _ (made c).parents-of.ensures 1 (omega arith) some c.reach_at.ensures,
+        walked_reach g _ c.parents_of-parents.ensures 1 (omega arith) some c.reach_at.ensures,
       )
           best_start,
     )
 
 loop_again : tie.Need-loop-i-preserved invariant-loop decreases-loop
 loop_again c =
-    let at = c.before.before.before.before.before.before.before.before in
-    let i = at.loop-i.i in
-    let table = made c.before.before.before.before.before.before.before.before.before in
+    let i = c.loop-i.i in
     let r = c.reach_at-r in
-    let is = walked_reach table.requires _ table.parents_of-parents.ensures i (omega arith) (omega arith) r.ensures in
+    let is = walked_reach c.requires _ c.parents_of-parents.ensures i (omega arith) (omega arith) r.ensures in
     let fit : SFits w32 r.result = record { sfits = r.type_inv } in
-    let old : SFits w32 at.loop-i.best.reach = record { sfits = c.struct_told-1.given.0.1 } in (
+    let old : SFits w32 c.loop-i.best.reach = record { sfits = c.struct_told-1.given.0.1 } in (
       omega arith,
       omega arith,
       ⊎_elim
-          (λ w. rw (w.1, to_z-of_z fit) (best_more i at.loop-i.invariant.2 (omega arith) is (simp (to_z-of_z old, to_z-of_z fit) at w.0.taken)))
-          (λ w. rw w.1 (best_same i at.loop-i.invariant.2 (omega arith) is (simp (to_z-of_z old, to_z-of_z fit) at w.0.left)))
+          (λ w. rw (w.best-is, to_z-of_z fit) (best_more i c.loop-i.invariant.2 (omega arith) is (simp (to_z-of_z old, to_z-of_z fit) at w.if-best-r.true)))
+          (λ w. rw w.best-is (best_same i c.loop-i.invariant.2 (omega arith) is (simp (to_z-of_z old, to_z-of_z fit) at w.if-best-r.false)))
           c.if-best-r.branch-raw,
     )
 
 returns : tie.Need-returns invariant-loop decreases-loop
 returns c =
-    let start = (made c.before.before).before in
-    let e : c.loop-i.i - 1 ≡ count_of start.args.job = omega arith in
-    best_end start.args.job (λ j. get_or start.args.losses j 0) (rw e at c.loop-i.invariant.2)
+    let e : c.loop-i.i - 1 ≡ count_of c.args.job = omega arith in
+    best_end c.args.job (λ j. get_or c.args.losses j 0) (rw e at c.loop-i.invariant.2)
 
 pub dictating_spec : {M : Type 1} → statement M
 dictating_spec =
@@ -74,5 +67,5 @@ dictating_spec =
     (tie.spec invariant-loop decreases-loop (λ c. search rules) (λ c κs. (given_rooted c.requires).few) (λ c. search rules)
     (λ c κs. let g = c.requires in walkable g _ c.parents_of-parents.ensures 1 (omega arith) (given_head g).sections.low)
     loop_holds (λ c. omega (arith, inside c)) inside
-    (λ c κs. let table = made c.before.before.before.before.before in walkable table.requires _ table.parents_of-parents.ensures c.loop-i.i (omega arith) (omega arith))
+    (λ c κs. walkable c.requires _ c.parents_of-parents.ensures c.loop-i.i (omega arith) (omega arith))
     (λ c. search rules) (λ c. search rules) loop_again returns)

@@ -54,6 +54,6 @@ returns c = let e : c.loop-at.at ≡ 0 = omega arith in
 pub path_loss_spec : {M : Type 1} → statement M
 path_loss_spec =
     tie.close
-    (tie.spec invariant-loop decreases-loop loop_holds (λ c. omega (arith, inside c)) inside (λ c. omega (arith, step c.before.before, within c.before.before))
+    (tie.spec invariant-loop decreases-loop loop_holds (λ c. omega (arith, inside c)) (λ c. inside c.before) (λ c. omega (arith, step c.before.before, within c.before.before))
     (λ c. inside c.before.before.before) (λ c. omega (arith, lower c.before.before.before.before, inside c.before.before.before.before)) (λ c. lower c.before.before.before.before)
     loop_again returns)

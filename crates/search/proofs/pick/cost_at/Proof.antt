@@ -11,13 +11,10 @@ pub cost_at_spec : {M : Type 1} → statement M
 cost_at_spec =
     tie.close
     (tie.spec (λ c. search rules) (λ c. search rules) (λ c. search rules) (λ c κs. search rules) (λ c. search rules) (λ c. search rules)
-    (λ c. let w = c.before.before in
-    let a = w.before.before.before.before.args in
-    sym (option_short a.s a.losses.now a.costs.now a.ws.now a.h a.t w.wide32.ensures.0 c.if1.true))
+    (λ c. let a = c.args in
+    sym (option_short a.s a.losses.now a.costs.now a.ws.now a.h a.t c.wide32-loss.ensures.0 c.if-h-loss.true))
     (λ c. search rules) (λ c. search rules) (λ c. search rules) (λ c κs. search rules) (λ c. search rules) (λ c. search rules) (λ c. search rules)
     (λ c κs. search rules) (λ c κs. search rules) (λ c κs. search rules) (λ c. search rules)
-    (λ c. let d = c.before.before.before.before in
-    let w = d.before.before.before.before.before in
-    let a = w.before.before.before.before.args in
-    rw (c.before.before.wide322.ensures.0, c.wide323.ensures.0, c.before.get.ensures.0, d.lesser.ensures)
-    (sym (option_met a.s a.losses.now a.costs.now a.ws.now a.h a.t w.wide32.ensures.0 (omega arith)))))
+    (λ c. let a = c.args in
+    rw (c.wide32.ensures.0, c.wide32-2.ensures.0, c.get.ensures.0, c.lesser.ensures)
+    (sym (option_met a.s a.losses.now a.costs.now a.ws.now a.h a.t c.wide32-loss.ensures.0 (omega arith)))))
