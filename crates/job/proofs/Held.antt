@@ -1,26 +1,27 @@
 -- The bounds that the type of a job holds: twelve residents, and residents and fixtures of 16 bits.
 -- Assumes nothing.
 use mathlib.Core.Path.{sym, ◌∙◌}
-use mathlib.Core.List.{List, [], ◌∷◌, map}
+use mathlib.Core.List.{List, [], ◌∷◌}
 use Prim.Native.Nat.{ℕ, zero, suc, ◌<◌}
 use native.Mathlib.Omega.{arith}
-use lib.ListN.{get_or, length-map}
+use lib.ListN.{get_or}
 use mir.Val.{Val}
 use denote.Array.{each}
 use denote.Laws.{Is}
 use denote.Shadow.{shadow}
 use denote.Struct.Declared.{row}
-use denote.Struct.Field.{Field, u16-field}
+use denote.RattleType.{RattleType}
+use denote.Builtin.{u16}
 use Rattle.fields.specs.declared.Job.{Job}
 use Rattle.fields.specs.Fields.{blank_section}
 use Rattle.fields.specs.contracts.Job.{the_type}
-use Rattle.fields.specs.contracts.Section.{the_field}
+use Rattle.fields.specs.contracts.Section.{the_row}
 use Rattle.job.proofs.RoundTrip.{SixteenBits}
 
 -- what the elements' type tells of each of them holds at every place of an array, if it holds of what stands past its end
-module _ (F : Field) (P : F.Value → Type 0) (told : (x : F.Value) (vs : List Val) → Is F.row (F.into x) vs → P x) where
-  at_each : (l : List F.Value) (us : List Val) → shadow (each F.row.Denot F.row.own_val (map F.into l) us) →
-      (blank : F.Value) → P blank → (i : ℕ) → P (get_or l i blank)
+module _ (R : RattleType) (P : R.Denot → Type 0) (told : (x : R.Denot) (vs : List Val) → Is R x vs → P x) where
+  at_each : (l : List R.Denot) (us : List Val) → shadow (each R.Denot R.own_val l us) →
+      (blank : R.Denot) → P blank → (i : ℕ) → P (get_or l i blank)
   at_each [] us h blank p i = p
   at_each (x ∷ l) [] h blank p i = absurd h
   at_each (x ∷ l) (u ∷ us) h blank p zero = told x (u ∷ []) h.0
@@ -31,8 +32,8 @@ held {job} h =
     let residents = h.1.1.1.0.1 in
     let sections = h.1.1.1.1.0.1 in
     record {
-      kinds = sym (length-map job.residents _) ∙ residents.0.1;
-      residents = λ c b. at_each u16-field (λ v. v < 65536) (λ v us k. k.1) job.residents _ residents.1 0 (omega arith) c;
+      kinds = residents.0.1;
+      residents = λ c b. at_each u16 (λ v. v < 65536) (λ v us k. k.1) job.residents _ residents.1 0 (omega arith) c;
       fixtures = λ i a b.
-          at_each the_field (λ s. s.fixtures < 65536) (λ s us k. k.1.1.1.1.0.1) job.sections _ sections.1 blank_section (omega arith) i;
+          at_each the_row (λ s. s.fixtures < 65536) (λ s us k. k.1.1.1.1.0.1) job.sections _ sections.1 blank_section (omega arith) i;
     }

@@ -35,5 +35,5 @@ pub write_read_spec : {M : Type 1} → statement M
 write_read_spec =
     tie.close
     (tie.spec (λ c κs. search rules) (λ c κs. search rules) (λ c κs. search rules) (λ c. search rules) returns (λ c κs. search rules)
-    slice_reshare_prefix_read (λ c. sym (length-take-le _ _ (slice_reshare_prefix_read c.before))) (λ c κs. search rules)
+    slice_reshare_prefix_read (λ c. sym (length-take-le _ _ (slice_reshare_prefix_read c))) (λ c κs. search rules)
     (λ c. search rules) returns_2)

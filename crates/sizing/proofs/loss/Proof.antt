@@ -15,12 +15,12 @@ run c = run_top c.args.slope c.args.decimetres c.args.tenths c.requires.0 c.requ
 product : (c : tie.Start) → c.args.slope * c.args.decimetres * (10 + c.args.tenths) ≤ 4259775000
 product c = product_top c.args.slope c.args.decimetres c.args.tenths c.requires.0 c.requires.1 c.requires.2
 
-whole : (c : tie.After-divide-up) → c.divide-up.result ≡ loss_of c.before.args.slope c.before.args.decimetres c.before.args.tenths
+whole : (c : tie.After-divide_up) → c.divide_up.result ≡ loss_of c.args.slope c.args.decimetres c.args.tenths
 unfolding loss_of
-whole c = c.divide-up.ensures
+whole c = c.divide_up.ensures
 
-top : (c : tie.After-divide-up) → c.divide-up.result ≤ 4259775
-top c = rw (whole c) (loss_top _ _ _ c.before.requires.0 c.before.requires.1 c.before.requires.2)
+top : (c : tie.After-divide_up) → c.divide_up.result ≤ 4259775
+top c = rw (whole c) (loss_top _ _ _ c.requires.0 c.requires.1 c.requires.2)
 
 pub loss_spec : {M : Type 1} → statement M
 loss_spec =
