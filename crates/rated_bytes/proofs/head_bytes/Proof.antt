@@ -10,12 +10,12 @@ use Rattle.rated_bytes.proofs.head_bytes.Tie as tie
 returns : tie.Need-returns
 unfolding bytes_of
 returns c = rw (
-  c.before.before.bytes32.ensures,
-  c.before.before.before.bits32.ensures,
+  c.bytes32-required.ensures,
+  c.bits32.ensures,
   to_z-of_z
-      {w = w32} {z = c.before.before.before.before.before.args.h.required}
-      (record { sfits = c.before.before.before.before.struct_told.given.0.1 }),
-  c.before.bytes322.ensures,
+      {w = w32} {z = c.args.h.required}
+      (record { sfits = c.struct_told-1.given.0.1 }),
+  c.bytes32-pump.ensures,
 )
 
 pub head_bytes_spec : {M : Type 1} → statement M

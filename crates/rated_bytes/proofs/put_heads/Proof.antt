@@ -7,17 +7,14 @@ use Rattle.rated_bytes.specs.RatedBytes.{heads_bytes}
 use Rattle.rated_bytes.proofs.put_heads.Statement.{statement}
 use Rattle.rated_bytes.proofs.put_heads.Tie as tie
 
-head_bytes_requires : tie.Need-head-bytes-requires
-head_bytes_requires c κs = rw c.heads_of_lem.ensures.2 (dictating_small c.before.before.requires.0 _)
+head_bytes_requires : tie.Need-head_bytes-x-requires
+head_bytes_requires c κs = rw c.heads_of.ensures.2 (dictating_small c.requires.0 _)
 
 returns : tie.Need-returns
 unfolding heads_bytes
 returns c =
-    let put = c.before.before in
-    let head = put.before.before.before in
-    let found = head.before in
-    put.put.ensures ∙
-    rw (head.head_bytes.ensures, found.heads_of_lem.ensures.0, found.heads_of_lem.ensures.1, found.heads_of_lem.ensures.2)
+    c.put.ensures ∙
+    rw (c.head_bytes-x.ensures, c.heads_of.ensures.0, c.heads_of.ensures.1, c.heads_of.ensures.2)
 
 pub put_heads_spec : {M : Type 1} → statement M
 put_heads_spec =

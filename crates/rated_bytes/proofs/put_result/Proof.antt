@@ -10,20 +10,16 @@ use Rattle.rated_bytes.proofs.Written.{rest_flowless, result_stored}
 use Rattle.rated_bytes.proofs.put_result.Statement.{statement}
 use Rattle.rated_bytes.proofs.put_result.Tie as tie
 
-put_sections_requires : tie.Need-put-sections-requires
+put_sections_requires : tie.Need-put_sections-requires
 put_sections_requires c κs =
-    let start = c.before.before.before.before.before.before.before in
-    ((given_head start.requires.0).sections.high, omega arith, search rules, start.requires.2)
+    ((given_head c.requires.0).sections.high, omega arith, search rules, c.requires.2)
 
 returns : tie.Need-returns
 unfolding result_bytes
 returns c =
-    let sections = c.before.before in
-    let heads = sections.before.before.before.before.before in
-    let start = heads.before.before.before in
-    sections.put-sections.ensures ∙
-    rw (heads.put-heads.ensures, concat_ext _ _ _ (λ i h k. rest_flowless _ _ _))
-    (result_stored start.args.out.now start.args.job _ _ (omega arith))
+    c.put_sections.ensures ∙
+    rw (c.put_heads.ensures, concat_ext _ _ _ (λ i h k. rest_flowless _ _ _))
+    (result_stored c.args.out.now c.args.job _ _ (omega arith))
 
 pub put_result_spec : {M : Type 1} → statement M
 put_result_spec =

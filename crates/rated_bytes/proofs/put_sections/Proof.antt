@@ -13,60 +13,48 @@ use Rattle.rated_bytes.proofs.Written.{rest_length, rest_part}
 use Rattle.rated_bytes.proofs.put_sections.Statement.{statement}
 use Rattle.rated_bytes.proofs.put_sections.Tie as tie
 
-abbrev invariant-loop : tie.invariant-loop
+abbrev invariant-loop : tie.invariant-loop-i
 invariant-loop out₀ from skip count flows velocities losses width i₀ out i =
     (0 < i) × (i ≤ count + 1) ×
     Running (λ k. drop skip (bytes_of 4 (get_or flows k 0) ++ (bytes_of 2 (get_or velocities k 0) ++ bytes_of 4 (get_or losses k 0)))) out₀ from (i - 1) out
 
-abbrev decreases-loop : tie.decreases-loop
+abbrev decreases-loop : tie.decreases-loop-i
 decreases-loop out₀ from skip count flows velocities losses width i₀ out i = count + 1 - i
 
 -- section i has room, as all have
-room : (c : tie.In-loop invariant-loop decreases-loop) →
-    let at = c.before in
-    let start = at.before.before in
-    start.args.from + (10 - start.args.skip) * at.loop.i ≤ length start.args.out.now
+room : (c : tie.In-loop-i invariant-loop decreases-loop) →
+    c.args.from + (10 - c.args.skip) * c.loop-i.i ≤ length c.args.out.now
 room c =
-    let at = c.before in
-    let start = at.before.before in
-    let w : ℕ = 10 - start.args.skip in
+    let w : ℕ = 10 - c.args.skip in
     let same : w ≤ w = omega arith in
-    let below : at.loop.i ≤ start.args.count = omega arith in
-    let less : w * at.loop.i ≤ w * start.args.count = mul-le-mul {n₂ = w} {m₂ = start.args.count} same below in
-    omega (arith, start.requires)
+    let below : c.loop-i.i ≤ c.args.count = omega arith in
+    let less : w * c.loop-i.i ≤ w * c.args.count = mul-le-mul {n₂ = w} {m₂ = c.args.count} same below in
+    omega (arith, c.requires)
 
 -- and so its bytes have
-width : (c : tie.In-loop invariant-loop decreases-loop) →
-    let at = c.before in
-    let start = at.before.before in
-    start.args.from + (10 - start.args.skip) * (at.loop.i - 1) + (10 - start.args.skip) ≤ length at.loop.out
+width : (c : tie.In-loop-i invariant-loop decreases-loop) →
+    c.args.from + (10 - c.args.skip) * (c.loop-i.i - 1) + (10 - c.args.skip) ≤ length c.loop-i.out
 width c =
-    let at = c.before in
-    let start = at.before.before in
-    running_room (10 - start.args.skip) (λ i. rest_length _ _ _ _) at.loop.invariant.2 (omega arith) (room c)
+    running_room (10 - c.args.skip) (λ i. rest_length _ _ _ _) c.loop-i.invariant.2 (omega arith) (room c)
 
-section_bytes_requires : tie.Need-section-bytes-requires invariant-loop decreases-loop
-section_bytes_requires c κs = c.before.before.before.requires.3 c.before.loop.i (omega arith) (omega arith)
+section_bytes_requires : tie.Need-section_bytes-x-requires invariant-loop decreases-loop
+section_bytes_requires c κs = c.requires.3 c.loop-i.i (omega arith) (omega arith)
 
 put_requires : tie.Need-put-requires invariant-loop decreases-loop
 put_requires c κs =
-    let made = c.before.before.before in
-    rw (rest_part _ _ _ _ made.section-bytes.ensures, rest_length _ _ _ _) (width made.before)
+    rw (rest_part _ _ _ _ c.section_bytes-x.ensures, rest_length _ _ _ _) (width c.before.before.before)
 
-loop_again : tie.Need-loop-preserved invariant-loop decreases-loop
+loop_again : tie.Need-loop-i-preserved invariant-loop decreases-loop
 loop_again c =
-    let put = c.before.before in
-    let made = put.before.before.before.before in
-    let at = made.before.before in
-    let start = at.before.before in (
+    (
       omega arith,
       omega arith,
-      running_more (10 - start.args.skip) (λ i. rest_length _ _ _ _) at.loop.invariant.2 (omega arith) (room made.before)
-          (put.put.ensures ∙ rw (rest_part _ _ _ _ made.section-bytes.ensures) refl),
+      running_more (10 - c.args.skip) (λ i. rest_length _ _ _ _) c.loop-i.invariant.2 (omega arith) (room c.before.before.before.before.before.before)
+          (c.put.ensures ∙ rw (rest_part _ _ _ _ c.section_bytes-x.ensures) refl),
     )
 
 returns : tie.Need-returns invariant-loop decreases-loop
-returns c = let e : c.before.loop.i - 1 ≡ c.before.before.before.args.count = omega arith in rw e at c.before.loop.invariant.2.run
+returns c = let e : c.loop-i.i - 1 ≡ c.args.count = omega arith in rw e at c.loop-i.invariant.2.run
 
 pub put_sections_spec : {M : Type 1} → statement M
 put_sections_spec =
@@ -75,4 +63,4 @@ put_sections_spec =
     (λ c. search rules) (λ c. search rules) (λ c. search rules) (λ c. search rules) section_bytes_requires (λ c. omega arith)
     (λ c. omega (arith, width c.before.before))
     (λ c. omega (arith, width c.before.before)) (λ c. search rules) (λ c. search rules) (λ c. search rules) put_requires
-    (λ c. search rules) (λ c. search rules) loop_again (λ c. c.before.loop.invariant.2.same) returns)
+    (λ c. search rules) (λ c. search rules) loop_again (λ c. c.loop-i.invariant.2.same) returns)

@@ -7,7 +7,7 @@ use Rattle.rated_bytes.proofs.section_bytes.Tie as tie
 
 returns : tie.Need-returns
 unfolding bytes_of
-returns c = rw (c.before.before.bytes32.ensures, c.before.bytes16.ensures, c.bytes322.ensures)
+returns c = rw (c.bytes32-f.ensures, c.bytes16-v.ensures, c.bytes32-l.ensures)
 
 pub section_bytes_spec : {M : Type 1} → statement M
 section_bytes_spec =

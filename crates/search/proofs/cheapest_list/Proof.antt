@@ -17,16 +17,15 @@ use Rattle.search.proofs.cheapest_list.Statement.{statement}
 use Rattle.search.proofs.cheapest_list.Tie as tie
 
 -- the net of the arguments
-abbrev net : tie.Start → Net
-net b = net_of b.args.sections b.args.sizes b.args.parents.now b.args.needs.now b.args.losses.now b.args.costs.now
+abbrev net : tie.After-high_of-highs → Net
+net k = net_of k.args.sections k.args.sizes k.args.parents.now k.args.needs.now k.args.losses.now k.args.costs.now
 
 -- what its ends can use
 module _ (c : tie.After-high_of-highs) where
-
   abbrev high : ℕ → ℕ
   high s = get_or c.high_of-highs.result s 0
 
-  ready : (room : ℕ) → 4 * ((c.args.sections + 1) * (c.args.head + 1)) ≤ room → Fillable (net b) c.args.head high room
+  ready : (room : ℕ) → 4 * ((c.args.sections + 1) * (c.args.head + 1)) ≤ room → Fillable (net c) c.args.head high room
   ready room l =
       let e = c.high_of-highs.ensures in
       record { sound = c.requires.0.0; usable = record { most = e.most; own = e.own; below = e.below }; narrow = c.requires.1.0; rows = l }
@@ -37,34 +36,36 @@ module _ (c : tie.After-high_of-highs) where
 
 -- the rows are filled
 module _ (c : tie.After-fill) where
+  abbrev used : tie.After-high_of-highs
+  used = c.before.before.before
 
-  full : Fillable (net (b k)) k.args.head (high k) (length c.fill.new.ws)
-  full = ready k (length c.fill.new.ws) (omega (arith, c.fill.ensures.0, k.requires.1.1))
+  full : Fillable (net used) c.args.head (high used) (length c.fill.new.ws)
+  full = ready used (length c.fill.new.ws) (omega (arith, c.fill.ensures.0, c.requires.1.1))
 
 -- what is read is the pump's cell
-pump : (c : tie.After-get-cost) → let f = c.before.before.before.before in c.get-cost.result ≡ cell (plan_of (net (b (k f))) (high (k f))) 0 0 (high (k f) 0)
+pump : (c : tie.After-get-cost) → let k = used c.before.before.before in c.get-cost.result ≡ cell (plan_of (net k) (high k)) 0 0 (high k 0)
 pump c =
-    let f = c.before.before.before.before in
-    c.get-cost.ensures.0 ∙ pump_cell {N = net (b (k f))} f.fill.ensures.1 (pump_high (k f)).0
+    let k = used c.before.before.before in c.get-cost.ensures.0 ∙ pump_cell {N = net k} c.fill.ensures.1 (pump_high k).0
 
 get_requires : tie.Need-get-cost-requires
 get_requires c κs =
-    let f = c.before.before.before in
-    let a = (b (k f)).args in
-    omega (arith, pump_high (k f), (full c.before.before).rows, row_fits 0 a.sections (a.head + 1) (omega arith))
+    let f = c.before.before in
+    omega (arith, pump_high (used f), (full f).rows, row_fits 0 c.args.sections (c.args.head + 1) (omega arith))
 
 returns : tie.Need-returns-then-cost
 returns c =
-    let f = c.before in (
-      (λ e. none_suits (b (k f)).requires.0.0 (full c.before.before.before.before.before).usable (b (k f)).args.head (omega arith)
-          (rw (pump_most (full c.before.before.before.before.before).usable) (omega (arith, pump c.before.before, c.if-cost.true)))),
+    let d = c.before.before in
+    let f = d.before.before.before in (
+      (λ e. none_suits c.requires.0.0 (full f).usable c.args.head (omega arith)
+          (rw (pump_most (full f).usable) (omega (arith, pump d, c.if-cost.true)))),
       λ e. absurd (apart e c.nothing.ensures),
     )
 
 recover_requires : tie.Need-recover-list-requires
 recover_requires c κs =
-    let f = c.before in
-    (full c.before.before.before.before.before, (f.fill.ensures.1, omega (arith, pump c.before.before, c.if-cost.false, cell_most (plan_of (net (b (k f))) (high (k f))) 0 0 (high (k f) 0))))
+    let d = c.before.before in
+    let f = d.before.before.before in
+    (full f, (c.fill.ensures.1, omega (arith, pump d, c.if-cost.false, cell_most (plan_of (net (used f)) (high (used f))) 0 0 (high (used f) 0))))
 
 pub cheapest_list_spec : {M : Type 1} → statement M
 cheapest_list_spec =

@@ -16,13 +16,13 @@ module _ (c : tie.Else-not-pruned) where
   pruned :
       let a = c.args in
       Pruned a.sections a.sizes a.parents.now a.needs.now a.losses.now a.costs.now a.head c.prune-pruned.result.needs c.prune-pruned.result.losses
-  pruned = c.prune-pruned.ensures.1 (c.if-not-pruned.false)
+  pruned = c.prune-pruned.ensures.1 (not-false _ c.if-not-pruned.false)
 
 pub choose_spec : {M : Type 1} → statement M
 choose_spec =
     tie.close
     (tie.spec (λ c κs. (c.requires.0, c.requires.1.0)) (λ c κs. search rules)
-    (λ c. ((λ e. c.prune-pruned.ensures.0 (c.if-not-pruned.true)), λ e. absurd (apart e c.nothing.ensures)))
+    (λ c. ((λ e. c.prune-pruned.ensures.0 (not-true _ c.if-not-pruned.true)), λ e. absurd (apart e c.nothing.ensures)))
     (λ c κs. let d = c.before.before.before.before.before in
     ((sound_like d.requires.0 {need = λ s. get_or d.prune-pruned.result.needs s 0}, (pruned d).pump), d.requires.1))
     (λ c. search rules)

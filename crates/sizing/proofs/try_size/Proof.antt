@@ -18,12 +18,12 @@ two c =
 returns : tie.Need-returns-then-not-r
 returns c =
     let r = c.read_size-r in
-    (c.over.ensures ∙ rw (← r.ensures) (sym (tried_row r.result _ _ _ (c.if-not-r.true))), rw c.over.ensures (omega arith, omega arith))
+    (c.over.ensures ∙ rw (← r.ensures) (sym (tried_row r.result _ _ _ (not-true _ c.if-not-r.true))), rw c.over.ensures (omega arith, omega arith))
 
 returns_2 : tie.Need-returns-then-limit-r
 returns_2 c =
     let r = c.read_size-r in
-    (c.over-then-limit-r.ensures ∙ rw (← r.ensures) (sym (tried_limit r.result _ _ _ (c.if-not-r.false) c.if-limit-r.true)), rw c.over-then-limit-r.ensures (omega arith, omega arith))
+    (c.over-then-limit-r.ensures ∙ rw (← r.ensures) (sym (tried_limit r.result _ _ _ (not-false _ c.if-not-r.false) c.if-limit-r.true)), rw c.over-then-limit-r.ensures (omega arith, omega arith))
 
 loss_requires : tie.Need-loss-requires
 loss_requires c κs =
@@ -32,7 +32,7 @@ loss_requires c κs =
 returns_3 : tie.Need-returns
 returns_3 c =
     let r = c.read_size-r in
-    (rw (← r.ensures) (rw c.loss.ensures.0 (sym (tried_under r.result _ _ _ (c.if-not-r.false) (omega (arith, c.if-limit-r.false))))), ((two c.before.before.before.before.before).0, c.loss.ensures.1))
+    (rw (← r.ensures) (rw c.loss.ensures.0 (sym (tried_under r.result _ _ _ (not-false _ c.if-not-r.false) (omega (arith, c.if-limit-r.false))))), ((two c.before.before.before.before.before).0, c.loss.ensures.1))
 
 pub try_size_spec : {M : Type 1} → statement M
 try_size_spec =

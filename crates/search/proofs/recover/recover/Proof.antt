@@ -42,7 +42,7 @@ module _ (c : tie.After-cheapest-t invariant-loop decreases-loop) where
       Taken (net_of a.sections a.sizes a.parents.now a.needs.now a.losses.now a.costs.now) (λ s. get_or a.highs.now s 0)
       (c.loop-s.s + 1) (get_or c.loop-s.heads c.wide8.result 0) c.cheapest-t.result
   taken =
-      read_take c.requires.0 c.loop-s.inv.1 c.requires.1.0 more c.requires.1.1 c.wide8.ensures.0
+      read_take c.requires.0 c.loop-s.invariant.1 c.requires.1.0 more c.requires.1.1 c.wide8.ensures.0
       (rw c.row_of-row.ensures.0 at c.cheapest-t.ensures)
 
   size_low : c.cheapest-t.result ≤ 12
