@@ -18,44 +18,43 @@ use Rattle.flow.proofs.flow.Statement.{statement}
 use Rattle.flow.proofs.flow.Tie as tie
 
 -- the number tested is that of acceptance
-found : (c : tie.After-number) → c.number.result ≡ job_no c.before.before.before.before.args.b.now
-found c = c.number.ensures ∙ c.before.accept.ensures.0
+found : (c : tie.After-number) → c.number.result ≡ job_no c.args.b.now
+found c = c.number.ensures ∙ c.accept-accepted.ensures.0
 
-returns : tie.Need-returns
+returns : tie.Need-returns-then-number-ne0
 returns c = (
-  c.before.before.accept.ensures.0 ∙ sym (flow_refused _ _ (λ e. c.if1.true (found c.before ∙ e))),
-  rw (ne_eqb (number_of c.before.before.accept.result.answer) 0 (λ e. c.if1.true (c.before.number.ensures ∙ e))),
+  c.accept-accepted.ensures.0 ∙ sym (flow_refused _ _ (λ e. c.if-number-ne0.true (found c.before ∙ e))),
+  rw (ne_eqb (number_of c.accept-accepted.result.answer) 0 (λ e. c.if-number-ne0.true (c.number.ensures ∙ e))),
 )
 
 -- where the code goes on, the job is accepted
-passed : (c : tie.Else1) → job_no c.before.before.before.before.before.args.b.now ≡ 0
-passed c = sym (found c.before) ∙ c.if1.false
+passed : (c : tie.Else-number-ne0) → job_no c.args.b.now ≡ 0
+passed c = sym (found c.before) ∙ c.if-number-ne0.false
 
-fields : (c : tie.Else1) → c.before.before.accept.result.job ≡ decode c.before.before.before.before.before.args.b.now
-fields c = c.before.before.accept.ensures.1 ∙ accept_fields _ (passed c)
+fields : (c : tie.Else-number-ne0) → c.accept-accepted.result.job ≡ decode c.args.b.now
+fields c = c.accept-accepted.ensures.1 ∙ accept_fields _ (passed c)
 
-count : (c : tie.Else1) → count_of c.before.before.accept.result.job ≡ count_of (decode c.before.before.before.before.before.args.b.now)
+count : (c : tie.Else-number-ne0) → count_of c.accept-accepted.result.job ≡ count_of (decode c.args.b.now)
 count c = ap (λ (job : Job). job.header.sections) (fields c)
 
-returns_2 : tie.Need-returns-2
+returns_2 : tie.Need-returns-then-out-count
 returns_2 c =
-    let at = c.before.before in
-    (sym (flow_short _ _ (passed at) (rw (← count at) (omega arith))), refl)
+    (sym (flow_short _ _ (passed c.before.before) (rw (← count c.before.before) (omega arith))), refl)
 
-room : (c : tie.Else2) → flow_length (count_of (decode c.before.before.before.before.before.before.before.args.b.now)) ≤
-    length c.before.before.before.before.before.before.before.args.out.now
+room : (c : tie.Else-out-count) → flow_length (count_of (decode c.args.b.now)) ≤
+    length c.args.out.now
 room c = rw (← count c.before.before) (omega arith)
 
-put_result_requires : tie.Need-put-result-requires
+put_result_requires : tie.Need-put_result-requires
 put_result_requires c κs =
-    let at = c.before.before.before in rw (fields at) (accept_accepted _ (passed at), room c.before)
+    rw (fields c.before.before.before.before) (accept_accepted _ (passed c.before.before.before.before), room c.before.before)
 
-returns_3 : tie.Need-returns-3
+returns_3 : tie.Need-returns
 returns_3 c =
     let at = c.before.before.before.before.before.before in
-    let none = at.before.before.accept.ensures.0 ∙ passed at in (
-      none ∙ sym (flow_done _ _ (passed at) (room c.before.before.before.before)),
-      rw (fields at) at c.before.before.put-result.ensures ∙ rw (eq-eqb (number_of at.before.before.accept.result.answer) 0 none),
+    let none = at.accept-accepted.ensures.0 ∙ passed c.before.before.before.before.before.before.before in (
+      none ∙ sym (flow_done _ _ (passed c.before.before.before.before.before.before.before) (room c.before.before.before.before.before)),
+      rw (fields c.before.before.before.before.before.before.before) at c.put_result.ensures ∙ rw (eq-eqb (number_of at.accept-accepted.result.answer) 0 none),
     )
 
 pub flow_spec : {M : Type 1} → statement M

@@ -9,11 +9,8 @@ use Rattle.flow.proofs.put_house.Tie as tie
 
 returns : tie.Need-returns
 returns c =
-    let three = c.before.before in
-    let two = three.before.before.before.before in
-    let one = two.before.before.before.before in
-    three.put-be323.ensures ∙
-    rw (two.put-be322.ensures, one.put-be32.ensures) (house_stored one.before.before.before.args.out.now _ _ _ (omega arith))
+    c.put_be32-3.ensures ∙
+    rw (c.put_be32-2.ensures, c.put_be32.ensures) (house_stored c.args.out.now _ _ _ (omega arith))
 
 pub put_house_spec : {M : Type 1} → statement M
 put_house_spec = tie.close (tie.spec (λ c κs. search rules) (λ c κs. search rules) (λ c κs. search rules) (λ c. search rules) returns)

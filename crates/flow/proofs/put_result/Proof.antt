@@ -8,23 +8,17 @@ use Rattle.flow.proofs.Result.{flows_written, result_stored}
 use Rattle.flow.proofs.put_result.Statement.{statement}
 use Rattle.flow.proofs.put_result.Tie as tie
 
-put_flows_requires : tie.Need-put-flows-requires
+put_flows_requires : tie.Need-put_flows-requires
 put_flows_requires c κs =
-    let start = c.before.before.before.before.before.before.before.before.before.before.before in
-    ((valid_count start.requires.0.valid).high, search rules)
+    ((valid_count c.requires.0.valid).high, search rules)
 
 returns : tie.Need-returns
 returns c =
-    let flows = c.before.before in
-    let house = flows.before.before.before.before in
-    let mean = house.before in
-    let found = mean.before.before.before.before in
-    let start = found.before.before.before in
-    let few = (valid_count start.requires.0.valid).high in
-    flows.put-flows.ensures ∙
-    rw (found.flows.ensures, flows_written start.args.job few)
-    (rw (house.put-house.ensures, mean.mean-of.ensures, mean.before.day-of.ensures, mean.before.before.hour-of.ensures)
-    (result_stored start.args.out.now start.args.job (omega arith)))
+    let few = (valid_count c.requires.0.valid).high in
+    c.put_flows.ensures ∙
+    rw (c.flows-flows.ensures, flows_written c.args.job few)
+    (rw (c.put_house.ensures, c.mean_of.ensures, c.day_of.ensures, c.hour_of.ensures)
+    (result_stored c.args.out.now c.args.job (omega arith)))
 
 pub put_result_spec : {M : Type 1} → statement M
 put_result_spec =

@@ -14,35 +14,28 @@ use Rattle.heating.proofs.HeatBounds.{hot_mean_top}
 use Rattle.heating.proofs.put_result.Statement.{statement}
 use Rattle.heating.proofs.put_result.Tie as tie
 
-watts_requires : tie.Need-watts-requires
+watts_requires : tie.Need-watts-mean-requires
 watts_requires c κs =
-    let start = c.before.before in
-    let residents = (held {job = start.args.job} start.well_formed.1.0).residents in
-    rw c.mean-of.ensures
-    (hot_mean_top start.requires.0.valid start.requires.1 (λ kind p q. residents (kind - 1) (omega arith)), omega arith, omega arith)
+    let residents = (held {job = c.args.job} c.well_formed.1.0).residents in
+    rw c.mean_of.ensures
+    (hot_mean_top c.requires.0.valid c.requires.1 (λ kind p q. residents (kind - 1) (omega arith)), omega arith, omega arith)
 
-watts_requires_2 : tie.Need-watts-requires-2
+watts_requires_2 : tie.Need-watts-greatest-requires
 watts_requires_2 c κs =
-    let start = c.before.before.before.before in
-    rw c.hour-of.ensures (omega (arith, house_hour_top start.requires.0.valid), omega arith, omega arith)
+    rw c.hour_of.ensures (omega (arith, house_hour_top c.requires.0.valid), omega arith, omega arith)
 
 returns : tie.Need-returns
 unfolding heat_bytes
 returns c =
-    let two = c.before.before in
-    let one = two.before.before.before.before in
-    let greatest = one.before.before in
-    let mean = greatest.before.before in
-    let start = mean.before.before.before in
-    two.put-be322.ensures ∙
+    c.put_be32-2.ensures ∙
     rw (
-      one.put-be32.ensures,
-      greatest.watts2.ensures,
-      greatest.before.hour-of.ensures,
-      mean.watts.ensures,
-      mean.before.mean-of.ensures,
+      c.put_be32.ensures,
+      c.watts-greatest.ensures,
+      c.hour_of.ensures,
+      c.watts-mean.ensures,
+      c.mean_of.ensures,
     )
-    (stored_next start.args.out.now 0 (bytes_of 4 _) 4 (bytes_of 4 _) (rw (bytes_length 4 _)) (omega arith))
+    (stored_next c.args.out.now 0 (bytes_of 4 _) 4 (bytes_of 4 _) (rw (bytes_length 4 _)) (omega arith))
 
 pub put_result_spec : {M : Type 1} → statement M
 put_result_spec =

@@ -11,15 +11,13 @@ use Rattle.metering.proofs.put_result.Tie as tie
 
 returns : tie.Need-returns
 returns c =
-    let put = c.before.before in
-    let start = put.before.before.before.before in
-    put.put-edited.ensures ∙
-    rw (stored_one start.args.out.now 0 start.args.place (omega arith))
-    (stored_next start.args.out.now 0 (start.args.place ∷ []) 1 _ refl (omega arith))
+    c.put_edited.ensures ∙
+    rw (stored_one c.args.out.now 0 c.args.place (omega arith))
+    (stored_next c.args.out.now 0 (c.args.place ∷ []) 1 _ refl (omega arith))
 
-same_length : tie.Need-same-length
+same_length : tie.Need-shape_of-out
 same_length c =
-    let start = c.before.before.before.before.before.before in omega (arith, length-set start.args.out.now 0 start.args.place)
+    omega (arith, length-set c.args.out.now 0 c.args.place)
 
 pub put_result_spec : {M : Type 1} → statement M
 put_result_spec = tie.close (tie.spec (λ c. search rules) (λ c. search rules) (λ c. search rules) (λ c κs. search rules) same_length returns)

@@ -9,18 +9,17 @@ use Rattle.wire.specs.Wire.{bytes_of}
 use Rattle.choosing.proofs.call.put_result.Statement.{statement}
 use Rattle.choosing.proofs.call.put_result.Tie as tie
 
-array_share_prefix_sizes : tie.Need-array-share-prefix-sizes
+array_share_prefix_sizes : tie.Need-slice_bounds-sizes-end
 array_share_prefix_sizes c = search rules
 
-slice_aggregate_put : tie.Need-slice-aggregate-put
+slice_aggregate_put : tie.Need-slice_bounds-put-end
 slice_aggregate_put c = sym (length-take-le _ _ (array_share_prefix_sizes c.before))
 
 returns : tie.Need-returns
 unfolding bytes_of
 returns c =
-    let start = c.before.before.before.before.before.before.before.before.before.before in
-    c.before.before.put.ensures ∙
-    rw c.before.before.before.before.before.before.before.put-be32.ensures (stored_next start.args.out.now 0 (bytes_of 4 start.args.cost) 4 _ refl (omega arith))
+    c.put.ensures ∙
+    rw c.put_be32.ensures (stored_next c.args.out.now 0 (bytes_of 4 c.args.cost) 4 _ refl (omega arith))
 
 pub put_result_spec : {M : Type 1} → statement M
 put_result_spec =

@@ -21,42 +21,37 @@ use Rattle.choosing.proofs.cheapest.cheapest.Tie as tie
 head : (c : tie.Start) → HeaderIn c.args.job.header
 head c = header_in c.args.job.header c.requires.0.valid.header
 
-module _ (c : tie.After-put-options) where
-  abbrev start : tie.Start
-  start = c.before.before.before.before.before.before.before.before.before.before.before
+module _ (c : tie.After-put_options) where
 
-  bytes : (k : ℕ) → byte_at start.args.cat.now k < 256
-  bytes k = omega (arith, c.before.before.before.before.before.before.before.before.before.before.shared-slice-known.given k)
+  bytes : (k : ℕ) → byte_at c.args.cat.now k < 256
+  bytes k = omega (arith, c.shared_slice_known-1.given k)
 
-  abbrev read : tie.After-sizes-of
-  read = c.before.before.before.before.before.before.before
 
   -- the tables as a net of so many sizes
   abbrev net_with : ℕ → Net
   net_with sizes =
-      net_of (count_of start.args.job) sizes c.before.before.before.before.before.ends_of.result.parents c.before.before.before.before.before.ends_of.result.needs
-      c.put-options.new.1.1.0 c.put-options.new.1.1.1.0
+      net_of (count_of c.args.job) sizes c.ends_of-ends.result.parents c.ends_of-ends.result.needs
+      c.put_options.new.losses c.put_options.new.costs
 
   abbrev net : Net
-  net = net_with read.sizes-of.result
+  net = net_with c.sizes_of-sizes.result
 
-  tree : TreeOf start.args.job start.args.cat.now net
+  tree : TreeOf c.args.job c.args.cat.now net
   tree =
-      subst (λ (n : ℕ). TreeOf start.args.job start.args.cat.now (net_with n)) (sym read.sizes-of.ensures)
-      (tree_of start.pre.0 start.pre.1 bytes c.before.before.before.before.before.ends_of.ensures c.put-options.ensures.0 c.put-options.ensures.1)
+      subst (λ (n : ℕ). TreeOf c.args.job c.args.cat.now (net_with n)) (sym c.sizes_of-sizes.ensures)
+      (tree_of c.requires.0 c.requires.1 bytes c.ends_of-ends.ensures c.put_options.ensures.0 c.put_options.ensures.1)
 
   taken : Sound net
   taken =
-      subst (λ (n : ℕ). Sound (net_with n)) (sym read.sizes-of.ensures)
-      (sound start.pre.0 start.pre.1 bytes c.before.before.before.before.before.ends_of.ensures c.put-options.ensures.0 c.put-options.ensures.1)
+      subst (λ (n : ℕ). Sound (net_with n)) (sym c.sizes_of-sizes.ensures)
+      (sound c.requires.0 c.requires.1 bytes c.ends_of-ends.ensures c.put_options.ensures.0 c.put_options.ensures.1)
 
 choose_requires : tie.Need-choose-requires
 choose_requires c κs =
-    let options = c.before.before.before.before.before in
-    let p = (start options).requires in
-    let d = (start options).args.delivered in
-    let j = (start options).args.job in (
-      taken options,
+    let p = c.requires in
+    let d = c.args.delivered in
+    let j = c.args.job in (
+      taken c.before.before.before.before.before,
       (
         omega (arith, p.2),
         omega (arith, p.3, mul-le-mul {n₁ = count_of j + 1} {m₁ = head_for j d + 1} {n₂ = count_of j + 1} {m₂ = d + 1001} (omega arith) (omega arith)),
@@ -65,17 +60,16 @@ choose_requires c κs =
 
 returns : tie.Need-returns
 returns c =
-    let options = c.before.before.before.before.before.before.before.before in
-    let r = (start options).requires.0.valid in
-    let found = c.before.before.choose.ensures in
-    (λ e. none_suitable (tree options) r (found.0 e), λ e. least_suitable (tree options) r (found.1 e))
+    let r = c.requires.0.valid in
+    let found = c.choose.ensures in
+    (λ e. none_suitable (tree c.before.before.before.before.before.before.before.before) r (found.0 e), λ e. least_suitable (tree c.before.before.before.before.before.before.before.before) r (found.1 e))
 
 pub cheapest_spec : {M : Type 1} → statement M
 cheapest_spec =
     tie.close
-    (tie.spec (λ c. search rules) (λ c κs. omega (arith, (shape_in _ c.before.before.before.requires.1.shape).long))
-    (λ c. omega (arith, (cat_counts c.before.before.before.before.requires.1).0.high)) (λ c. search rules) (λ c κs. search rules)
-    (λ c κs. let p = c.before.before.before.before.before.before.before.before.before.before.requires in (p.0, p.1, (refl, refl)))
-    (λ c. omega (arith, c.before.before.before.before.before.before.before.before.before.before.before.before.before.before.before.before.requires.2))
+    (tie.spec (λ c. search rules) (λ c κs. omega (arith, (shape_in _ c.requires.1.shape).long))
+    (λ c. omega (arith, (cat_counts c.requires.1).0.high)) (λ c. search rules) (λ c κs. search rules)
+    (λ c κs. let p = c.requires in (p.0, p.1, (refl, refl)))
+    (λ c. omega (arith, c.requires.2))
     (λ c. omega (arith, (head c.before.before.before.before.before.before.before.before.before.before.before.before.before.before.before.before).meter))
     choose_requires (λ c. search rules) returns)

@@ -19,34 +19,33 @@ use Rattle.choosing.proofs.ends.ends_of.Tie as tie
 abbrev NeedAt : Job → ℕ → ℕ → Type 0
 NeedAt job i v = pos v ≡ (section_of job i).elevation +ℤ pos ((section_of job i).free + shift)
 
-abbrev invariant-loop : tie.invariant-loop
+abbrev invariant-loop : tie.invariant-loop-i
 invariant-loop job count parents needs₀ i₀ rules i = (0 < i) × (i ≤ count_of job + 1) × Placed (NeedAt job) i rules
 
-abbrev decreases-loop : tie.decreases-loop
+abbrev decreases-loop : tie.decreases-loop-i
 decreases-loop job count parents needs₀ i₀ rules i = count_of job + 1 - i
 
-few : (c : tie.Start invariant-loop decreases-loop) → count_of c.args.t1 ≤ 63
+few : (c : tie.Start invariant-loop decreases-loop) → count_of c.args.job ≤ 63
 few c = (valid_count c.requires).high
 
-place : (c : tie.In-loop invariant-loop decreases-loop) → c.before.loop.i < 64
+place : (c : tie.In-loop-i invariant-loop decreases-loop) → c.loop-i.i < 64
 place c = omega (arith, few c.before.before.before)
 
-loop_again : tie.Need-loop-preserved invariant-loop decreases-loop
+loop_again : tie.Need-loop-i-preserved invariant-loop decreases-loop
 loop_again c =
-    let at = c.before.before.before in (
+    (
       omega arith,
       omega arith,
-      placed_more (NeedAt at.before.before.args.t1) at.loop.i at.loop.needs _ (place c.before.before) at.loop.invariant.2
+      placed_more (NeedAt c.args.job) c.loop-i.i c.loop-i.needs _ (place c.before.before) c.loop-i.invariant.2
           c.need.ensures,
     )
 
 returns : tie.Need-returns invariant-loop decreases-loop
 returns c =
-    let table = c.before.before in
-    let job = table.before.args.t1 in
+    let job = c.args.job in
     record {
-      parent = λ i h k. parents_held job _ table.parents-of.ensures (few table.before) i h k ∙ parent_at job i h;
-      need = λ i h k. c.before.loop.invariant.2.at i h (omega arith);
+      parent = λ i h k. parents_held job _ c.parents_of-parents.ensures (few c.before.before.before) i h k ∙ parent_at job i h;
+      need = λ i h k. c.loop-i.invariant.2.at i h (omega arith);
     }
 
 pub ends_of_spec : {M : Type 1} → statement M
@@ -54,6 +53,5 @@ ends_of_spec =
     tie.close
     (tie.spec invariant-loop decreases-loop (λ c. search rules) (λ c κs. few c) (λ c. (omega arith, omega arith, placed_start _ _ refl))
     (λ c. omega (arith, place c)) place
-    (λ c κs. let at = c.before.before in
-    let start = at.before.before in (sections_in start.args.t1 (valid_sections start.requires) at.loop.i (omega arith) (omega arith)).elevation)
+    (λ c κs. (sections_in c.args.job (valid_sections c.requires) c.loop-i.i (omega arith) (omega arith)).elevation)
     (λ c. omega (arith, place c.before.before)) (λ c. place c.before.before) (λ c. search rules) (λ c. search rules) loop_again returns)

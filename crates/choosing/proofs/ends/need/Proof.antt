@@ -14,10 +14,10 @@ use Rattle.choosing.proofs.ends.need.Tie as tie
 
 module _ (c : tie.After-reach) where
   fits : SFits w32 c.reach.result
-  fits = record { sfits = c.reach.type-inv }
+  fits = record { sfits = c.reach.type_inv }
 
   above : T (non_neg c.reach.result)
-  above = rw c.reach.ensures (not_negative c.before.args.s.elevation _ c.before.requires (omega arith))
+  above = rw c.reach.ensures (not_negative c.args.s.elevation _ c.requires (omega arith))
 
 pub need_spec : {M : Type 1} → statement M
 need_spec =

@@ -14,36 +14,34 @@ use Rattle.flow.proofs.pump.duty.Statement.{statement}
 use Rattle.flow.proofs.pump.duty.Tie as tie
 
 -- the number tested is that of acceptance
-found : (c : tie.After-number) → c.number.result ≡ job_no c.before.before.before.before.args.b.now
-found c = c.number.ensures ∙ c.before.accept.ensures.0
+found : (c : tie.After-number) → c.number.result ≡ job_no c.args.b.now
+found c = c.number.ensures ∙ c.accept-accepted.ensures.0
 
-returns : tie.Need-returns
+returns : tie.Need-returns-then-number-ne0
 returns c = (
-  c.before.before.accept.ensures.0 ∙ sym (duty_refused _ _ (λ e. c.if1.true (found c.before ∙ e))),
-  rw (ne_eqb (number_of c.before.before.accept.result.answer) 0 (λ e. c.if1.true (c.before.number.ensures ∙ e))),
+  c.accept-accepted.ensures.0 ∙ sym (duty_refused _ _ (λ e. c.if-number-ne0.true (found c.before ∙ e))),
+  rw (ne_eqb (number_of c.accept-accepted.result.answer) 0 (λ e. c.if-number-ne0.true (c.number.ensures ∙ e))),
 )
 
 -- where the code goes on, the job is accepted
-passed : (c : tie.Else1) → job_no c.before.before.before.before.before.args.b.now ≡ 0
-passed c = sym (found c.before) ∙ c.if1.false
+passed : (c : tie.Else-number-ne0) → job_no c.args.b.now ≡ 0
+passed c = sym (found c.before) ∙ c.if-number-ne0.false
 
-fields : (c : tie.Else1) → c.before.before.accept.result.job ≡ decode c.before.before.before.before.before.args.b.now
-fields c = c.before.before.accept.ensures.1 ∙ accept_fields _ (passed c)
+fields : (c : tie.Else-number-ne0) → c.accept-accepted.result.job ≡ decode c.args.b.now
+fields c = c.accept-accepted.ensures.1 ∙ accept_fields _ (passed c)
 
-returns_2 : tie.Need-returns-2
+returns_2 : tie.Need-returns-then-out-lt4
 returns_2 c = (sym (duty_short _ _ (passed c.before) (omega arith)), refl)
 
-house_flow_requires : tie.Need-house-flow-requires
-house_flow_requires c κs = let at = c.before.before in rw (fields at) (accept_accepted _ (passed at))
+house_flow_requires : tie.Need-house_flow-requires
+house_flow_requires c κs = rw (fields c.before.before.before) (accept_accepted _ (passed c.before.before.before))
 
-returns_3 : tie.Need-returns-3
+returns_3 : tie.Need-returns
 unfolding duty_bytes
 returns_3 c =
-    let put = c.before.before in
-    let at = put.before.before.before.before in
-    let none = at.before.before.accept.ensures.0 ∙ passed at in (
-      none ∙ sym (duty_done _ _ (passed at) (omega arith)),
-      put.put-be32.ensures ∙ rw (eq-eqb (number_of at.before.before.accept.result.answer) 0 none, put.before.house_flow_lem.ensures, fields at),
+    let none = c.accept-accepted.ensures.0 ∙ passed c.before.before.before.before.before.before.before in (
+      none ∙ sym (duty_done _ _ (passed c.before.before.before.before.before.before.before) (omega arith)),
+      c.put_be32.ensures ∙ rw (eq-eqb (number_of c.accept-accepted.result.answer) 0 none, c.house_flow.ensures, fields c.before.before.before.before.before.before.before),
     )
 
 pub duty_spec : {M : Type 1} → statement M

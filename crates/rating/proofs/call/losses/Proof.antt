@@ -20,27 +20,24 @@ use Rattle.rating.proofs.call.losses.Tie as tie
 counted : (b cat list : List ℕ) (room : ℕ) → sized_no b cat list room (0 + 10 * count_of (decode b)) ≡ losses_no b cat list room
 counted b cat list room = ap (sized_no b cat list room) (zero-add (10 * count_of (decode b)))
 
-returns : tie.Need-returns
-returns c = refused _ _ (c.before.before.outcome.ensures.0 ∙ counted _ _ _ _) (λ e. c.if1.true (c.before.number.ensures ∙ e))
+returns : tie.Need-returns-then-number-ne0
+returns c = refused _ _ (c.outcome-found.ensures.0 ∙ counted _ _ _ _) (λ e. c.if-number-ne0.true (c.number.ensures ∙ e))
 
 -- where the code goes on, the number is 0, so the job is rated
-none : (c : tie.Else1) → number_of c.before.before.outcome.result.answer ≡ 0
-none c = sym c.before.number.ensures ∙ c.if1.false
+none : (c : tie.Else-number-ne0) → number_of c.outcome-found.result.answer ≡ 0
+none c = sym c.number.ensures ∙ c.if-number-ne0.false
 
-put_sections_requires : tie.Need-put-sections-requires
+put_sections_requires : tie.Need-put_sections-requires
 put_sections_requires c κs =
-    let one = c.before.before.before.before.before in
-    let r = one.before.before.outcome.ensures.1.0 (none one) in
+    let r = c.outcome-found.ensures.1.0 (none c.before.before.before.before.before) in
     ((rated_count r).high, omega arith, rated_room r 0 10 refl, velocity_thin _ _ _ r.at (rated_count r).high)
 
-returns_2 : tie.Need-returns-2
+returns_2 : tie.Need-returns
 unfolding figures_bytes
 returns_2 c =
-    let put = c.before.before in
-    let one = put.before.before.before.before.before.before in
-    let found = one.before.before.outcome in
-    let r = found.ensures.1.0 (none one) in
-    given _ _ (found.ensures.0 ∙ counted _ _ _ _) (none one) (put.put-sections.ensures ∙ rw (rated_sections r, r.fields))
+    let found = c.outcome-found in
+    let r = found.ensures.1.0 (none c.before.before.before.before.before.before.before.before) in
+    given _ _ (found.ensures.0 ∙ counted _ _ _ _) (none c.before.before.before.before.before.before.before.before) (c.put_sections.ensures ∙ rw (rated_sections r, r.fields))
 
 pub losses_spec : {M : Type 1} → statement M
 losses_spec =

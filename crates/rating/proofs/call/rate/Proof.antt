@@ -8,26 +8,23 @@ use Rattle.rating.proofs.Rated.{velocity_thin, rated_count, rated_given, rated_r
 use Rattle.rating.proofs.call.rate.Statement.{statement}
 use Rattle.rating.proofs.call.rate.Tie as tie
 
-returns : tie.Need-returns
-returns c = refused _ _ c.before.before.outcome.ensures.0 (λ e. c.if1.true (c.before.number.ensures ∙ e))
+returns : tie.Need-returns-then-number-ne0
+returns c = refused _ _ c.outcome-found.ensures.0 (λ e. c.if-number-ne0.true (c.number.ensures ∙ e))
 
 -- where the code goes on, the number is 0, so the job is rated
-none : (c : tie.Else1) → number_of c.before.before.outcome.result.answer ≡ 0
-none c = sym c.before.number.ensures ∙ c.if1.false
+none : (c : tie.Else-number-ne0) → number_of c.outcome-found.result.answer ≡ 0
+none c = sym c.number.ensures ∙ c.if-number-ne0.false
 
-put_result_requires : tie.Need-put-result-requires
+put_result_requires : tie.Need-put_result-requires
 put_result_requires c κs =
-    let one = c.before.before.before.before.before in
-    let r = one.before.before.outcome.ensures.1.0 (none one) in
+    let r = c.outcome-found.ensures.1.0 (none c.before.before.before.before.before) in
     (rated_given r, rated_room r 9 6 refl, velocity_thin _ _ _ r.at (rated_count r).high)
 
-returns_2 : tie.Need-returns-2
+returns_2 : tie.Need-returns
 returns_2 c =
-    let put = c.before.before in
-    let one = put.before.before.before.before.before.before in
-    let found = one.before.before.outcome in
-    let r = found.ensures.1.0 (none one) in
-    given _ _ found.ensures.0 (none one) (put.put-result.ensures ∙ rw (rated_result r, r.fields))
+    let found = c.outcome-found in
+    let r = found.ensures.1.0 (none c.before.before.before.before.before.before.before.before) in
+    given _ _ found.ensures.0 (none c.before.before.before.before.before.before.before.before) (c.put_result.ensures ∙ rw (rated_result r, r.fields))
 
 pub rate_spec : {M : Type 1} → statement M
 rate_spec =

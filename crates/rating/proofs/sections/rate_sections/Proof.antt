@@ -22,87 +22,76 @@ use Rattle.rating.proofs.Upto.{Upto, upto_start, upto_more, upto_over, upto_end}
 use Rattle.rating.proofs.sections.rate_sections.Statement.{statement}
 use Rattle.rating.proofs.sections.rate_sections.Tie as tie
 
-abbrev invariant-loop : tie.invariant-loop
+abbrev invariant-loop : tie.invariant-loop-i
 invariant-loop cat list job count limit tenths flows velocities₀ losses₀ i₀ velocities losses i =
     (0 < i) × (i ≤ count_of job + 1) × Upto job cat list i velocities losses
 
-abbrev decreases-loop : tie.decreases-loop
+abbrev decreases-loop : tie.decreases-loop-i
 decreases-loop cat list job count limit tenths flows velocities₀ losses₀ i₀ velocities losses i = count_of job + 1 - i
 
-few : (c : tie.Start invariant-loop decreases-loop) → count_of c.args.t1 ≤ 63
+few : (c : tie.Start invariant-loop decreases-loop) → count_of c.args.job ≤ 63
 few c = (valid_count c.requires.job.valid).high
 
-shared_slice_read_wide8 : tie.Need-shared-slice-read-wide8 invariant-loop decreases-loop
+shared_slice_read_wide8 : tie.Need-bounds-list-i invariant-loop decreases-loop
 shared_slice_read_wide8 c =
-    let start = c.before.before.before.before.before.before in
-    omega (arith, list_long start.args.t1 start.args.cat.now start.args.list.now start.requires.list)
+    omega (arith, list_long c.args.job c.args.cat.now c.args.list.now c.requires.list)
 
-try_size_requires : tie.Need-try-size-requires invariant-loop decreases-loop
+try_size_requires : tie.Need-try_size-t-requires invariant-loop decreases-loop
 try_size_requires c κs =
-    let at = c.before.before.before in
-    let start = at.before.before.before.before in
-    let i = at.loop.i in
-    let s = list_names start.args.t1 start.args.cat.now start.args.list.now start.requires.list i (omega arith) (omega arith) in
+    let i = c.loop-i.i in
+    let s = list_names c.args.job c.args.cat.now c.args.list.now c.requires.list i (omega arith) (omega arith) in
     rw c.wide8.ensures.0 (
-      start.requires.cat,
+      c.requires.cat,
       (s.low, s.high),
       (
-        (sections_in start.args.t1 (valid_sections start.requires.job.valid) i (omega arith) (omega arith)).decimetres.high,
-        (header_in start.args.t1.header start.requires.job.valid.header).tenths.high,
+        (sections_in c.args.job (valid_sections c.requires.job.valid) i (omega arith) (omega arith)).decimetres.high,
+        (header_in c.args.job.header c.requires.job.valid.header).tenths.high,
       ),
     )
 
 -- what was tried is the section with its size at its flow
-tried : (c : tie.After-try-size invariant-loop decreases-loop) →
-    let at = c.before.before.before.before in
-    let start = at.before.before.before.before in
-    c.try-size.result ≡ tried_at start.args.t1 start.args.cat.now (size_of start.args.list.now at.loop.i) at.loop.i
+tried : (c : tie.After-try_size-t invariant-loop decreases-loop) →
+    c.try_size-t.result ≡ tried_at c.args.job c.args.cat.now (size_of c.args.list.now c.loop-i.i) c.loop-i.i
 unfolding reading_of
 tried c =
     let at = c.before.before.before.before in
     let start = at.before.before.before.before in
-    let i = at.loop.i in
-    let n = few start in
-    let flow : get_or at.before.flows.result i 0 ≡ section_flow start.args.t1 i =
-    rw at.before.flows.ensures (slots_in 64 1 (count_of start.args.t1 + 1) 0 (section_flow start.args.t1) i 0 (omega arith) (omega arith) (omega arith)) in
-    rw (c.before.wide8.ensures.0, flow) at c.try-size.ensures.0
+    let i = at.loop-i.i in
+    let n = few c.before.before.before.before.before.before.before.before in
+    let flow : get_or at.flows-flows.result i 0 ≡ section_flow start.args.job i =
+    rw at.flows-flows.ensures (slots_in 64 1 (count_of start.args.job + 1) 0 (section_flow start.args.job) i 0 (omega arith) (omega arith) (omega arith)) in
+    rw (c.wide8.ensures.0, flow) at c.try_size-t.ensures.0
 
 -- the place of section i is within 64
-place : (c : tie.In-loop invariant-loop decreases-loop) → c.before.loop.i < 64
+place : (c : tie.In-loop-i invariant-loop decreases-loop) → c.loop-i.i < 64
 place c = omega (arith, few c.before.before.before.before.before)
 
 -- and it tells whether the section is over
-told : (c : tie.After-try-size invariant-loop decreases-loop) →
-    let at = c.before.before.before.before in
-    let start = at.before.before.before.before in
-    over_at start.args.t1 start.args.cat.now (size_of start.args.list.now at.loop.i) at.loop.i ≡ c.try-size.result.over
+told : (c : tie.After-try_size-t invariant-loop decreases-loop) →
+    over_at c.args.job c.args.cat.now (size_of c.args.list.now c.loop-i.i) c.loop-i.i ≡ c.try_size-t.result.over
 told c = sym (tried_tells _ _ _ _) ∙ ap (λ (t : Tried). t.over) (sym (tried c))
 
-returns : tie.Need-returns invariant-loop decreases-loop
+returns : tie.Need-returns-then-t invariant-loop decreases-loop
 returns c =
-    let size = c.before in
-    let at = size.before.before.before.before in
-    let start = at.before.before.before.before in
-    (sym (upto_over _ _ _ at.loop.invariant.2 (omega arith) (omega (arith, few start)) (omega arith) (told size ∙ c.if1.true)), λ z. absurd (apart refl z))
+    (sym (upto_over _ _ _ c.loop-i.invariant.2 (omega arith) (omega (arith, few c.before.before.before.before.before.before.before.before.before)) (omega arith) (told c.before ∙ c.if-t.true)), λ z. absurd (apart refl z))
 
-loop_again : tie.Need-loop-preserved invariant-loop decreases-loop
+loop_again : tie.Need-loop-i-preserved invariant-loop decreases-loop
 loop_again c =
-    let size = c.before in
-    let at = size.before.before.before.before in
+    let at = c.before in
     let start = at.before.before.before.before in
-    let under = told size ∙ c.if1.false in
-    let e = tried size ∙ tried_not _ _ _ _ under in
+    let under = told c.before ∙ c.if-t.false in
+    let e = tried c.before ∙ tried_not _ _ _ _ under in
     let v = ap (λ (t : Tried). t.velocity) e in
     let w = ap (λ (t : Tried). t.loss) e in
-    let small = size.try-size.ensures.1 in (
+    let small = c.try_size-t.ensures.1 in (
       omega arith,
       omega arith,
-      rw (v, w) (upto_more _ _ _ at.loop.invariant.2 (omega arith) (omega (arith, few start)) under (record { velocity = rw v at small.0; loss = rw w at small.1 })),
+      rw (v, w) (upto_more _ _ _ at.loop-i.invariant.2 (omega arith) (omega (arith, few c.before.before.before.before.before.before.before.before.before)) under (record { velocity = rw v at small.0; loss = rw w at small.1 })),
     )
 
-returns_2 : tie.Need-returns-2 invariant-loop decreases-loop
+returns_2 : tie.Need-returns invariant-loop decreases-loop
 returns_2 c =
-    let end = upto_end _ _ _ c.before.before.flows.ensures c.before.loop.invariant.2 (omega arith) in (sym end.0, λ z. end.1)
+    let end = upto_end _ _ _ c.flows-flows.ensures c.loop-i.invariant.2 (omega arith) in (sym end.0, λ z. end.1)
 
 pub rate_sections_spec : {M : Type 1} → statement M
 rate_sections_spec =
