@@ -49,8 +49,8 @@ listed : (c : tie.Else-number-ne0) → AcceptedCat c.args.cat.now
 listed c = input_listed _ _ (passed c)
 
 -- 12
-list-ok-requires : tie.Need-list_ok-requires
-list-ok-requires c κs = (shape_in _ (listed c.before).shape).long
+list_ok_requires : tie.Need-list_ok-requires
+list_ok_requires c κs = (shape_in _ (listed c.before).shape).long
 
 naming : (c : tie.After-list_ok) →
     c.list_ok.result ≡ list_ok (decode c.args.b.now) c.args.cat.now c.args.list.now
@@ -87,9 +87,9 @@ room : (c : tie.Else-room-front) →
 room c = rw (← count c.before.before.before.before.before) (omega arith)
 
 -- 13
-rate-sections-requires : tie.Need-rate_sections-rated-requires
-rate-sections-requires c κs =
-    let one = c.before in
+rate_sections_requires : tie.Need-rate_sections-rated-requires
+rate_sections_requires c κs =
+    let one = c.before.before.before.before.before in
     record { job = accepted one; cat = listed one; list = rw (fields c.before.before.before.before.before) (named c.before.before) }
 
 over : (c : tie.After-rate_sections-rated) →
@@ -105,25 +105,23 @@ returns_4 c =
 -- the result
 returns_5 : tie.Need-returns
 returns_5 c =
-    let three = c.before in
-    let two = three.before.before in
-    let one = two.before.before.before in
-    let none = one.accept_both-accepted.ensures.0 ∙ passed c.before.before.before.before.before.before.before.before.before.before in (
+    let one = c.before.before.before.before.before.before.before.before.before.before in
+    let none = c.accept_both-accepted.ensures.0 ∙ passed c.before.before.before.before.before.before.before.before.before.before in (
       none ∙ sym (sized_done _ _ _ _ _ (passed c.before.before.before.before.before.before.before.before.before.before) (named c.before.before.before.before.before.before.before) (room c.before.before.before.before.before) (sym (over c.before.before.before.before) ∙ c.if-rated.false)),
       (
         λ e. record {
           fields = fields one;
           accepted = accepted one;
-          fits = room three;
+          fits = room c.before.before.before.before.before;
           at = c.rate_sections-rated.ensures.1 c.if-rated.false;
         },
         λ h. absurd (h none),
       ),
     )
 
-pub outcome-spec : {M : Type 1} → statement M
-outcome-spec =
+pub outcome_spec : {M : Type 1} → statement M
+outcome_spec =
     tie.close
-    (tie.spec (λ c κs. search rules) (λ c κs. search rules) (λ c κs. search rules) returns list-ok-requires (λ c κs. search rules) returns_2
-    (λ c. search rules) (λ c. omega (arith, few_bytes c.before)) (λ c. omega (arith, few_bytes c.before)) (λ c κs. search rules) returns_3 rate-sections-requires (λ c κs. search rules)
+    (tie.spec (λ c κs. search rules) (λ c κs. search rules) (λ c κs. search rules) returns list_ok_requires (λ c κs. search rules) returns_2
+    (λ c. search rules) (λ c. omega (arith, few_bytes c.before)) (λ c. omega (arith, few_bytes c.before)) (λ c κs. search rules) returns_3 rate_sections_requires (λ c κs. search rules)
     returns_4 returns_5)
