@@ -9,4 +9,4 @@ pub order_losses_spec : {M : Type 1} → statement M
 order_losses_spec =
     tie.close
     (tie.spec (λ c κs. search rules) (λ c κs. search rules) (λ c. search rules)
-    (λ c. given c.number.ensures c.before.before.before.losses.ensures))
+    (λ c. given c.number.ensures c.losses.ensures))

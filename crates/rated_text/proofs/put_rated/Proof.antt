@@ -18,44 +18,33 @@ use Rattle.rated_text.proofs.put_rated.Tie as tie
 few : (c : tie.Start) → count_of c.args.job ≤ 63
 few c = (valid_count c.requires.0.valid).high
 
-put_sections_requires : tie.Need-put-sections-requires
+put_sections_requires : tie.Need-put_sections-at-requires
 put_sections_requires c κs =
-    let house = c.before.before.before in
-    let n = few house.before.before.before.before.before.before.before.before in (n, omega arith)
+    let n = few c.before.before.before.before.before.before.before.before.before.before.before in (n, omega arith)
 
-cast_put_head : tie.Need-overflow-cast-put-head
+cast_put_head : tie.Need-overflow_cast-heads
 cast_put_head c =
-    let found = c.before.before in
-    let start = found.before.before.before.before.before.before.before.before.before.before.before.before.before.before.before in
-    rw found.heads_of_lem.ensures.2 (omega (arith, dictating_small start.requires.1 (λ i. get_or start.args.losses i 0)))
+    rw c.heads_of-heads.ensures.2 (omega (arith, dictating_small c.requires.1 (λ i. get_or c.args.losses i 0)))
 
 -- the line of the heads has room after those of the sections
-room : (c : tie.After-put-sections) → c.put-sections.result + 39 ≤ length c.put-sections.new.0
+room : (c : tie.After-put_sections-at) → c.put_sections-at.result + 39 ≤ length c.put_sections-at.new.out
 room c = let n = few c.before.before.before.before.before.before.before.before.before.before.before.before in omega arith
 
 returns : tie.Need-returns
 unfolding lines_of
 returns c =
-    let head = c.before.before in
-    let told = head.before in
-    let found = told.before.before.before in
-    let sections = found.before.before.before in
-    let house = sections.before.before.before.before in
-    let mean = house.before in
-    let flows = mean.before.before.before.before in
-    let start = flows.before.before.before in
-    let first = rw (mean.mean-of.ensures, mean.before.day-of.ensures, mean.before.before.hour-of.ensures) at house.put-house.ensures in
-    let each = flows_at start.args.job (λ i. get_or start.args.velocities i 0) (λ i. get_or start.args.losses i 0) (few start) in
-    let lines = rw (flows.flows.ensures, each) at sections.put-sections.ensures in
+    let first = rw (c.mean_of.ensures, c.day_of.ensures, c.hour_of.ensures) at c.put_house-at.ensures in
+    let each = flows_at c.args.job (λ i. get_or c.args.velocities i 0) (λ i. get_or c.args.losses i 0) (few c.before.before.before.before.before.before.before.before.before.before.before.before.before.before.before.before.before.before.before.before.before) in
+    let lines = rw (c.flows-flows.ensures, each) at c.put_sections-at.ensures in
     let last =
     rw (
-      to_z-of_z {w = w32} {z = found.heads_of_lem.result.required} (record { sfits = told.struct_told.given.0.1 }),
-      found.heads_of_lem.ensures.0,
-      found.heads_of_lem.ensures.1,
-      found.heads_of_lem.ensures.2,
+      to_z-of_z {w = w32} {z = c.heads_of-heads.result.required} (record { sfits = c.struct_told-1.given.0.1 }),
+      c.heads_of-heads.ensures.0,
+      c.heads_of-heads.ensures.1,
+      c.heads_of-heads.ensures.2,
     ) at
-    head.put-head.ensures in
-    let whole = wrote_then first (wrote_then lines last) in let n = few start in wrote_within whole (omega (arith, whole.short))
+    c.put_head.ensures in
+    let whole = wrote_then first (wrote_then lines last) in let n = few c.before.before.before.before.before.before.before.before.before.before.before.before.before.before.before.before.before.before.before.before.before in wrote_within whole (omega (arith, whole.short))
 
 pub put_rated_spec : {M : Type 1} → statement M
 put_rated_spec =

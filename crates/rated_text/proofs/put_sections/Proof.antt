@@ -12,28 +12,26 @@ use Rattle.text.proofs.Pieces.{lines_start, lines_more}
 use Rattle.rated_text.proofs.put_sections.Statement.{statement}
 use Rattle.rated_text.proofs.put_sections.Tie as tie
 
-abbrev invariant-loop : tie.invariant-loop
+abbrev invariant-loop : tie.invariant-loop-i
 invariant-loop out₀ from count flows velocities losses at₀ i₀ out at i =
     (0 < i) × (i ≤ count + 1) × Wrote (52 * (i - 1)) out₀ out from at
     (concat_to (i - 1) (λ k. section_line k (get_or flows k 0) (get_or velocities k 0) (get_or losses k 0)))
 
-abbrev decreases-loop : tie.decreases-loop
+abbrev decreases-loop : tie.decreases-loop-i
 decreases-loop out₀ from count flows velocities losses at₀ i₀ out at i = count + 1 - i
 
 -- t4, t5 and t6 are the flows, velocities and losses
-loop_again : tie.Need-loop-preserved invariant-loop decreases-loop
+loop_again : tie.Need-loop-i-preserved invariant-loop decreases-loop
 loop_again c =
-    let put = c.before.before in
-    let at = put.before.before.before in
-    let given = at.before.before.args in
-    (omega arith, omega arith, lines_more 52 (λ k. section_line k (get_or given.t4 k 0) (get_or given.t5 k 0) (get_or given.t6 k 0)) (omega arith) at.loop.invariant.2 put.put-section.ensures)
+    let given = c.args in
+    (omega arith, omega arith, lines_more 52 (λ k. section_line k (get_or given.t4 k 0) (get_or given.t5 k 0) (get_or given.t6 k 0)) (omega arith) c.loop-i.invariant.2 c.put_section-at.ensures)
 
 returns : tie.Need-returns invariant-loop decreases-loop
-returns c = let e : c.before.loop.i - 1 ≡ c.before.before.before.args.count = omega arith in rw e at c.before.loop.invariant.2
+returns c = let e : c.loop-i.i - 1 ≡ c.args.count = omega arith in rw e at c.loop-i.invariant.2
 
 pub put_sections_spec : {M : Type 1} → statement M
 put_sections_spec =
     tie.close
     (tie.spec invariant-loop decreases-loop (λ c. (omega arith, omega arith, lines_start 52 _ _ _ (omega arith))) (λ c. search rules) (λ c. search rules)
     (λ c. search rules) (λ c. search rules) (λ c. search rules) (λ c. search rules) (λ c. search rules) (λ c κs. omega arith)
-    (λ c. search rules) (λ c. search rules) loop_again (λ c. c.before.loop.invariant.2.same) returns)
+    (λ c. search rules) (λ c. search rules) loop_again (λ c. c.loop-i.invariant.2.same) returns)

@@ -16,38 +16,33 @@ use Rattle.rated_text.proofs.put_text.Statement.{statement}
 use Rattle.rated_text.proofs.put_text.Tie as tie
 
 -- the number is that of the rating
-found : (c : tie.After-number) →
-    let start = c.before.before.before.before.before.before in
-    c.number.result ≡ rate_no start.args.b.now start.args.cat.now start.args.list.now 387
-found c = c.number.ensures ∙ c.before.outcome.ensures.0
+found : (c : tie.After-number-number) →
+    c.number-number.result ≡ rate_no c.args.b.now c.args.cat.now c.args.list.now 387
+found c = c.number-number.ensures ∙ c.outcome-found.ensures.0
 
-returns : tie.Need-returns
+returns : tie.Need-returns-then-number-ne0
 returns c =
-    let one = c.before.before.before.before in
-    let n = found one.before in
-    let p = wrote_as c.before.before.Put-refused.ensures (ap refused_line n ∙ text_refused _ _ _ (λ e. one.if1.true (n ∙ e))) in
+    let n = found c.before.before.before.before.before in
+    let p = wrote_as c.put_refused.ensures (ap refused_line n ∙ text_refused _ _ _ (λ e. c.if-number-ne0.true (n ∙ e))) in
     wrote_within p (omega (arith, p.short))
 
 -- where the code goes on, it is 0 and the job is rated
-none : (c : tie.Else1) →
-    let start = c.before.before.before.before.before.before.before in
-    rate_no start.args.b.now start.args.cat.now start.args.list.now 387 ≡ 0
-none c = sym (found c.before) ∙ c.if1.false
+none : (c : tie.Else-number-ne0) →
+    rate_no c.args.b.now c.args.cat.now c.args.list.now 387 ≡ 0
+none c = sym (found c.before) ∙ c.if-number-ne0.false
 
-done : (c : tie.Else1) →
-    let start = c.before.before.before.before.before.before.before in
-    let r = c.before.before.outcome.result in
-    RatedJob start.args.b.now start.args.cat.now start.args.list.now 387 (9 + 6 * count_of (decode start.args.b.now)) r.job
+done : (c : tie.Else-number-ne0) →
+    let r = c.outcome-found.result in
+    RatedJob c.args.b.now c.args.cat.now c.args.list.now 387 (9 + 6 * count_of (decode c.args.b.now)) r.job
     r.flows r.velocities r.losses
-done c = c.before.before.outcome.ensures.1.0 (c.before.before.outcome.ensures.0 ∙ none c)
+done c = c.outcome-found.ensures.1.0 (c.outcome-found.ensures.0 ∙ none c)
 
-put_rated_requires : tie.Need-put-rated-requires
+put_rated_requires : tie.Need-put_rated-requires
 put_rated_requires c κs = let r = done c.before.before.before.before in (r.accepted, rated_given r, omega arith)
 
-returns_2 : tie.Need-returns-2
+returns_2 : tie.Need-returns
 returns_2 c =
-    let one = c.before.before.before.before.before.before.before in
-    wrote_as c.before.before.put-rated.ensures (text_rated (done one) (none one))
+    wrote_as c.put_rated.ensures (text_rated (done c.before.before.before.before.before.before.before) (none c.before.before.before.before.before.before.before))
 
 pub put_text_spec : {M : Type 1} → statement M
 put_text_spec =
