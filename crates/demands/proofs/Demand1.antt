@@ -35,6 +35,7 @@ first_among ((true, n) ∷ l) = inr (inl refl)
 first_among ((false, n) ∷ l) = ⊎_elim inl (λ a. inr (inr a)) (first_among l)
 
 among_more : (n : ℕ) (l m : List ℕ) → Among n l → Among n (l ++ m)
+among_more n [] m a = elim a [ ]
 among_more n (x ∷ l) m a = ⊎_elim inl (λ b. inr (among_more n l m b)) a
 
 among_last : (n : ℕ) (l : List ℕ) → Among n (l ++ (n ∷ []))

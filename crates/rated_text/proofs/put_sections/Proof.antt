@@ -20,11 +20,10 @@ invariant-loop out₀ from count flows velocities losses at₀ i₀ out at i =
 abbrev decreases-loop : tie.decreases-loop-i
 decreases-loop out₀ from count flows velocities losses at₀ i₀ out at i = count + 1 - i
 
--- t4, t5 and t6 are the flows, velocities and losses
 loop_again : tie.Need-loop-i-preserved invariant-loop decreases-loop
 loop_again c =
     let given = c.args in
-    (omega arith, omega arith, lines_more 52 (λ k. section_line k (get_or given.t4 k 0) (get_or given.t5 k 0) (get_or given.t6 k 0)) (omega arith) c.loop-i.invariant.2 c.put_section-at.ensures)
+    (omega arith, omega arith, lines_more 52 (λ k. section_line k (get_or given.flows k 0) (get_or given.velocities k 0) (get_or given.losses k 0)) (omega arith) c.loop-i.invariant.2 c.put_section-at.ensures)
 
 returns : tie.Need-returns invariant-loop decreases-loop
 returns c = let e : c.loop-i.i - 1 ≡ c.args.count = omega arith in rw e at c.loop-i.invariant.2
