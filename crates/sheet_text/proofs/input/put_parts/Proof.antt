@@ -9,19 +9,16 @@ use Rattle.sheet_text.proofs.Cut.{parts_text}
 use Rattle.sheet_text.proofs.input.put_parts.Statement.{statement}
 use Rattle.sheet_text.proofs.input.put_parts.Tie as tie
 
-slice_aggregate_put_text : tie.Need-slice-aggregate-put-text
-slice_aggregate_put_text c = sym (length-take-le _ _ (omega (arith, c.before.before.before.record-end.ensures.1)))
+slice_aggregate_put_text : tie.Need-slice_bounds-put_text-end
+slice_aggregate_put_text c = sym (length-take-le _ _ (omega (arith, c.record_end-first.ensures.1)))
 
-slice_aggregate_put_text_2 : tie.Need-slice-aggregate-put-text-2
-slice_aggregate_put_text_2 c = sym (length-take-le _ _ (omega (arith, c.before.before.record-end2.ensures.1)))
+slice_aggregate_put_text_2 : tie.Need-slice_bounds-put_text-end-2
+slice_aggregate_put_text_2 c = sym (length-take-le _ _ (omega (arith, c.record_end-second.ensures.1)))
 
 returns : tie.Need-returns
 returns c =
-    let put = c.before.before in
-    let second = put.before.before.before.before.before in
-    let first = second.before.before in
-    wrote_as put.put-text.ensures
-    (parts_text first.before.before.before.args.read.now first.record-end.result second.record-end2.result first.record-end.ensures.0 second.record-end2.ensures.0)
+    wrote_as c.put_text.ensures
+    (parts_text c.args.read.now c.record_end-first.result c.record_end-second.result c.record_end-first.ensures.0 c.record_end-second.ensures.0)
 
 pub put_parts_spec : {M : Type 1} → statement M
 put_parts_spec =

@@ -7,13 +7,13 @@ use Rattle.sheet_text.proofs.Cut.{end_none, end_stated}
 use Rattle.sheet_text.proofs.input.record_end.Statement.{statement}
 use Rattle.sheet_text.proofs.input.record_end.Tie as tie
 
-returns : tie.Need-returns
-returns c = (sym (end_none _ c.if1.true), omega arith)
+returns : tie.Need-returns-then-s-lt4
+returns c = (sym (end_none _ c.if-s-lt4.true), omega arith)
 
-returns_2 : tie.Need-returns-2
+returns_2 : tie.Need-returns
 returns_2 c = (
   c.lesser.ensures ∙
-      rw (c.before.wide32.ensures.0, c.before.before.be32.ensures) (sym (end_stated _ c.before.before.before.if1.false)),
+      rw (c.wide32-stated.ensures.0, c.be32.ensures) (sym (end_stated _ c.if-s-lt4.false)),
   omega (arith, c.lesser.ensures),
 )
 

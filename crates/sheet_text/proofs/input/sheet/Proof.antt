@@ -11,20 +11,17 @@ use Rattle.sheet_text.proofs.Cut.{parts_sheet, written_short, written_long}
 use Rattle.sheet_text.proofs.input.sheet.Statement.{statement}
 use Rattle.sheet_text.proofs.input.sheet.Tie as tie
 
-returns : tie.Need-returns
-returns c = rw (written_short _ _ c.if1.true) (refl, sym (stored_none _ 0))
+returns : tie.Need-returns-then-out-lt4096
+returns c = rw (written_short _ _ c.if-out-lt4096.true) (refl, sym (stored_none _ 0))
 
-slice_aggregate_put_parts : tie.Need-slice-aggregate-put-parts
-slice_aggregate_put_parts c = sym (length-take-le _ _ (omega (arith, c.before.lesser.ensures)))
+slice_aggregate_put_parts : tie.Need-slice_bounds-put_parts-end
+slice_aggregate_put_parts c = sym (length-take-le _ _ (omega (arith, c.lesser-n.ensures)))
 
-returns_2 : tie.Need-returns-2
+returns_2 : tie.Need-returns
 returns_2 c =
-    let put = c.before.before in
-    let cut = put.before.before.before in
-    let start = cut.before.before.before.before in
-    let n : cut.lesser.result ≡ min (length start.args.input.now) 65536 = cut.lesser.ensures in
-    let p = rw (n, parts_sheet start.args.input.now) at put.put-parts.ensures in
-    rw (written_long (length start.args.out.now) start.args.input.now (omega arith)) (omega (arith, p.place), p.text)
+    let n : c.lesser-n.result ≡ min (length c.args.input.now) 65536 = c.lesser-n.ensures in
+    let p = rw (n, parts_sheet c.args.input.now) at c.put_parts.ensures in
+    rw (written_long (length c.args.out.now) c.args.input.now (omega arith)) (omega (arith, p.place), p.text)
 
 pub sheet_spec : {M : Type 1} → statement M
 sheet_spec =
