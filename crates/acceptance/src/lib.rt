@@ -1,4 +1,6 @@
 // What "accepted" means: of a job, and of a job with a catalogue, as every call that takes them looks at them first.
+#![tactic(auto)]
+
 ghost use Rattle.std.specs.Prelude.{◌≡◌};
 ghost use Rattle.answer.specs.Answer.{number_of};
 ghost use Rattle.acceptance.specs.Acceptance.{job_no, accepted_job, input_no, input_job};

@@ -1,4 +1,6 @@
 // The table of refused orders: what a call gives back, and its number.
+#![tactic(auto)]
+
 ghost use Rattle.std.specs.Prelude.{◌≡◌};
 ghost use Rattle.answer.specs.Answer.{number_of};
 

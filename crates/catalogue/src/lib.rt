@@ -1,4 +1,6 @@
 // The catalogue of sizes: its acceptance, and a size read at a flow.
+#![tactic(auto)]
+
 mod accept;
 mod layout;
 mod reading;

@@ -1,4 +1,6 @@
 // The workspace as cells of four bytes each, and a row of best costs that is offered to and written to them.
+#![tactic(auto)]
+
 mod best;
 mod cell;
 mod write;

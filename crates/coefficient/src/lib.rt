@@ -1,4 +1,6 @@
 // Coefficient α of a sum of shares: 200,000 under the first key of Table 2, and otherwise read from it.
+#![tactic(auto)]
+
 mod table;
 
 ghost use Rattle.std.specs.Prelude.{◌≡◌, ◌+◌, ◌<◌, ◌≤◌};

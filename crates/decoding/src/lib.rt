@@ -1,4 +1,6 @@
 // The fields of a record, whatever they hold.
+#![tactic(auto)]
+
 ghost use Rattle.std.specs.Prelude.{◌≡◌, ◌+◌, ◌≤◌, length};
 ghost use Rattle.basis.specs.Slots.{tabulate, slots};
 ghost use Rattle.wire.specs.Wire.{byte_at};

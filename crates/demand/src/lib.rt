@@ -1,4 +1,6 @@
 // Design flows and demands of a job whose fields keep their rules.
+#![tactic(auto)]
+
 mod hour;
 mod section;
 mod sums;

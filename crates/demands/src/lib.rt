@@ -1,1 +1,2 @@
 // What the customer asked for, as theorems over the promises of the calls. No code of its own.
+#![tactic(auto)]

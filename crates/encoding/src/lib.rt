@@ -1,4 +1,6 @@
 // The bytes of a job's fields, written from the front of a buffer, and a record's bytes with one field replaced.
+#![tactic(auto)]
+
 ghost use Rattle.std.specs.Prelude.{◌≡◌, ◌+◌, ◌-◌, ◌≤◌, length, get_or};
 ghost use Rattle.basis.specs.Range.{concat_to};
 ghost use Rattle.basis.specs.Stored.{stored};

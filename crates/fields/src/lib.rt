@@ -1,4 +1,6 @@
 // The fields of a job, by value.
+#![tactic(auto)]
+
 ghost use Rattle.std.specs.Prelude.{◌≡◌};
 ghost use Rattle.fields.specs.Fields.{blank_section, blank_job};
 

@@ -1,4 +1,6 @@
 // The flow call, and the duty call.
+#![tactic(auto)]
+
 mod pump;
 
 ghost use Rattle.std.specs.Prelude.{◌≡◌, ◌≤◌, length, get_or};

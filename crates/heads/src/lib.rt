@@ -1,4 +1,6 @@
 // Path losses, required head, pump head and dictating section, over losses whoever worked them out.
+#![tactic(auto)]
+
 ghost use Rattle.std.specs.Prelude.{◌≡◌, ◌+◌, ◌≤◌, get_or, pos, ◌+ℤ◌};
 ghost use Rattle.basis.specs.Sections.{path_of};
 ghost use Rattle.fields.specs.Fields.{count_of};

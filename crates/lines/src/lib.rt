@@ -1,4 +1,6 @@
 // The lines of the sheet: a word, figures after a space each, and a newline.
+#![tactic(auto)]
+
 ghost use Rattle.std.specs.Prelude.{◌+◌, ◌≤◌, length};
 ghost use Rattle.text.specs.Pieces.{Wrote};
 ghost use Rattle.lines.specs.Lines.{house_line, section_line, head_line, refused_line};

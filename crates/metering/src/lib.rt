@@ -1,4 +1,6 @@
 // The meter call: the meter of least loss from a list, put into the job.
+#![tactic(auto)]
+
 ghost use Rattle.std.specs.Prelude.{◌≡◌, ◌∷◌, ◌+◌, ◌≤◌, length};
 ghost use Rattle.basis.specs.Stored.{stored};
 ghost use Rattle.answer.specs.Answer.{number_of};

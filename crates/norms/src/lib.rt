@@ -1,4 +1,6 @@
 // The norms of the twelve kinds: appendix 3, for total, cold and hot water.
+#![tactic(auto)]
+
 ghost use Rattle.std.specs.Prelude.{◌≡◌, ◌≤◌};
 ghost use Rattle.norms.specs.Norms.{norm_of};
 

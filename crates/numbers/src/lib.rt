@@ -1,4 +1,6 @@
 // Numbers as wider ones, each with its range: `wide` as a place in a list, `word` in 32 bits, `long` in 64. And the lesser and the greater of two.
+#![tactic(auto)]
+
 ghost use Rattle.std.specs.Prelude.{◌≡◌, ◌≤◌, ◌<◌, min, max};
 
 pub fn wide8(x: u8) -> usize

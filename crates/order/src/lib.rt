@@ -1,5 +1,7 @@
 // The exported calls, for the order office's Rust program: numbers and byte slices, each slice a pointer and then a length.
 // A result gives back 0, a refusal its number.
+#![tactic(auto)]
+
 ghost use Rattle.choosing.specs.Calls.{Chosen};
 ghost use Rattle.order.specs.Promises.{Copied, FlowGiven, DutyGiven, HeatGiven, MeterGiven, Rated, LossesGiven, HeadsGiven};
 

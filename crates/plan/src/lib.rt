@@ -1,4 +1,5 @@
 // The dynamic programme that finds the least cost: definitions and laws, and the mark of a cost that nothing has.
+#![tactic(auto)]
 
 // Stands for a cost where nothing fits.
 pub const MARK: u32 = 4244967295;

@@ -1,4 +1,6 @@
 // Sizes that no cheapest list needs are taken out, and the needs are raised to what the sections below ask at least.
+#![tactic(auto)]
+
 mod sizes;
 
 ghost use Rattle.std.specs.Prelude.{◌≡◌, true, false, ◌≤◌};

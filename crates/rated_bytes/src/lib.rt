@@ -1,4 +1,6 @@
 // The bytes of a rating result, and of the losses and heads results.
+#![tactic(auto)]
+
 ghost use Rattle.std.specs.Prelude.{◌≡◌, [], ◌∷◌, ◌++◌, ℕ, ◌+◌, ◌-◌, ◌*◌, ◌≤◌, ◌<◌, length, drop, get_or};
 ghost use Rattle.basis.specs.Range.{concat_to};
 ghost use Rattle.basis.specs.Stored.{stored};

@@ -1,4 +1,6 @@
 // The text for a job, a catalogue and a size list: the lines of the rating, or the line of a refusal.
+#![tactic(auto)]
+
 ghost use Rattle.std.specs.Prelude.{◌+◌, ◌*◌, ◌≤◌, length, get_or};
 ghost use Rattle.basis.specs.Range.{concat_to};
 ghost use Rattle.demand.specs.Demand.{Accepted};

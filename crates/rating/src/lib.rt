@@ -1,4 +1,6 @@
 // Rating: what a list of sizes gives an accepted job with an accepted catalogue.
+#![tactic(auto)]
+
 mod call;
 mod refusal;
 mod sections;

@@ -1,4 +1,6 @@
 // The layout of the job record: where the sections stand.
+#![tactic(auto)]
+
 ghost use Rattle.std.specs.Prelude.{◌≡◌, ◌≤◌, ◌<◌};
 ghost use Rattle.record.specs.Record.{sections_from, length_of, place_of};
 

@@ -1,4 +1,6 @@
 // Division rounded up, and the straight line between two points.
+#![tactic(auto)]
+
 ghost use Rattle.std.specs.Prelude.{◌≡◌, ◌+◌, ◌^◌, ◌≤◌, ◌<◌};
 ghost use Rattle.basis.specs.Round.{up, line};
 ghost use Rattle.round.specs.Piece.{Piece};

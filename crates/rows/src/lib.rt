@@ -1,4 +1,6 @@
 // The rows of the workspace: for the pump and for each section the least cost of all that hangs below its end, at each head there.
+#![tactic(auto)]
+
 mod filling;
 mod raise;
 

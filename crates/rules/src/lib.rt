@@ -1,4 +1,6 @@
 // Refusals 2, 3, 5, 6 and 7: the rules that the fields of a job keep.
+#![tactic(auto)]
+
 ghost use Rattle.std.specs.Prelude.{◌≡◌, ◌≤◌};
 ghost use Rattle.answer.specs.Answer.{number_of};
 ghost use Rattle.answer.specs.Checks.{first_no};

@@ -1,4 +1,6 @@
 // The cheapest sizes for the sections of a tree, over a lent workspace.
+#![tactic(auto)]
+
 mod pick;
 mod recover;
 mod usable;

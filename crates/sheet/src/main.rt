@@ -1,4 +1,6 @@
 // Prints the sheet of the job, catalogue and size list on standard input.
+#![tactic(auto)]
+
 use libc::{STDIN_FILENO, STDOUT_FILENO};
 
 fn main() {

@@ -1,4 +1,6 @@
 // The text of the sheet.
+#![tactic(auto)]
+
 mod input;
 
 pub use input::sheet;

@@ -1,4 +1,6 @@
 // A section with a size: the size read at the section's flow, the test of 13, and the loss.
+#![tactic(auto)]
+
 ghost use Rattle.std.specs.Prelude.{◌≡◌, true, ◌≤◌, ◌<◌};
 ghost use Rattle.catalogue.specs.Layout.{sizes_of, rows_of, part_of};
 ghost use Rattle.catalogue.specs.Reading.{read_rows};

@@ -1,4 +1,6 @@
 // Text in a buffer: a byte, a word, and figures in decimal. Each writer gives back the place after its piece.
+#![tactic(auto)]
+
 ghost use Rattle.std.specs.Prelude.{[], ◌∷◌, ◌+◌, ◌≤◌, length};
 ghost use Rattle.text.specs.Figures.{decimal, signed_decimal};
 ghost use Rattle.text.specs.Pieces.{Wrote};

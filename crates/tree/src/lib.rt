@@ -1,4 +1,6 @@
 // Where each section hangs, and what it serves: the set of the sections at or below it, and their fixtures of each kind.
+#![tactic(auto)]
+
 ghost use Rattle.std.specs.Prelude.{◌≡◌, ℕ, ◌+◌, ◌*◌, ◌≤◌, ◌<◌, get_or};
 ghost use Rattle.basis.specs.Slots.{slots};
 ghost use Rattle.fields.specs.Fields.{count_of};

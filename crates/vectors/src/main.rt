@@ -1,6 +1,8 @@
 // Feeds the test vectors of standard input to the calls that read, write and copy a job, find α, its flows, its duty and its heat
 // flows, pick its meter, rate it in one call and in two, make a sheet and choose sizes, and prints in bytes what they give. model/vectors.py says what
 // stands in the lines.
+#![tactic(auto)]
+
 mod calls;
 mod jobs;
 mod lines;

@@ -1,4 +1,6 @@
 // Big-endian fields of byte slices, and two's complement.
+#![tactic(auto)]
+
 ghost use Rattle.std.specs.Prelude.{◌≡◌, ◌+◌, ◌≤◌, ◌<◌, length};
 ghost use Rattle.basis.specs.Stored.{stored};
 ghost use Rattle.wire.specs.Wire.{be_at, bytes_of, signed_of, bits_of};
