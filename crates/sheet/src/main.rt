@@ -1,12 +1,30 @@
 // Prints the sheet of the job, catalogue and size list on standard input.
 #![tactic(auto)]
 
-use libc::{STDIN_FILENO, STDOUT_FILENO};
+ghost use Rattle.std.specs.Prelude.{◌≤◌, length};
 
-fn main() {
-    let mut input = io::large_buffer();
-    let n = io::read_full(STDIN_FILENO, &mut input);
+use std::io::{Read, Write};
+
+// A text that cannot be written is let go, and the program ends as ever.
+fn main(rt: HostRuntime) {
+    let mut input = [0u8; 65536];
+    let n = read_full(&mut rt.stdin(), &mut input);
     let mut text = [0u8; 4096];
     let length = sheet_text::sheet(&input[..n], &mut text);
-    io::write_all(STDOUT_FILENO, &text[..length]);
+    let _ = rt.stdout().write_all(&text[..length]);
+}
+
+// Reads until the buffer is full, the input ends or a read fails; how many bytes came. The input may come in pieces.
+fn read_full(input: &mut impl Read, buffer: &mut [u8]) -> usize
+    ensures { result ≤ length buffer.new }
+{
+    let mut done: usize = 0;
+    while done < buffer.len() {
+        let n = input.read(&mut buffer[done..]).unwrap_or(0);
+        if n == 0 {
+            break;
+        }
+        done += n;
+    }
+    done
 }

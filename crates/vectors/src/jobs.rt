@@ -2,29 +2,30 @@
 ghost use Rattle.std.specs.Prelude.{◌≤◌, length};
 
 use crate::print;
+use crate::print::Output;
 use answer::Answer;
 use fields::{Header, Job, Section};
 
 // A record is read. The fields that it gives are printed, and written again.
-pub fn read(record: &[u8], out: &mut [u8]) {
+pub fn read(to: &mut Output, record: &[u8], out: &mut [u8]) {
     let reading = job::read(record);
     let answer = reading.answer;
-    print::four(answer::number(answer));
+    print::four(to, answer::number(answer));
     match answer {
         Answer::Done => {
-            print::byte(b' ');
-            fields(reading.job);
-            print::byte(b' ');
-            written(reading.job, out);
+            print::byte(to, b' ');
+            fields(to, reading.job);
+            print::byte(to, b' ');
+            written(to, reading.job, out);
         }
         _ => {}
     }
 }
 
 // Fields are written.
-pub fn write(raw: &[u8], out: &mut [u8]) {
+pub fn write(to: &mut Output, raw: &[u8], out: &mut [u8]) {
     if 2 <= raw.len() && raw.len() <= 667 {
-        written(job_of(raw), out);
+        written(to, job_of(raw), out);
     }
 }
 
@@ -58,55 +59,55 @@ fn job_of(raw: &[u8]) -> Job
     }
 }
 
-fn written(job: Job, out: &mut [u8]) {
+fn written(to: &mut Output, job: Job, out: &mut [u8]) {
     let answer = job::write(job, out);
-    print::given(answer, out);
+    print::given(to, answer, out);
 }
 
-fn fields(job: Job) {
+fn fields(to: &mut Output, job: Job) {
     let count = job.header.sections;
     let by_kind = job.residents;
     let by_number = job.sections;
-    head(job.header);
-    residents(by_kind);
-    sections(by_number, count as usize);
+    head(to, job.header);
+    residents(to, by_kind);
+    sections(to, by_number, count as usize);
 }
 
-fn head(h: Header) {
-    print::one(h.version);
-    print::one(h.service);
-    print::one(h.tenths);
-    print::one(h.sections);
-    print::one(h.hours);
-    print::two(h.meter);
-    print::two(h.guaranteed);
-    print::two(h.delivered);
-    print::two(h.limit);
+fn head(to: &mut Output, h: Header) {
+    print::one(to, h.version);
+    print::one(to, h.service);
+    print::one(to, h.tenths);
+    print::one(to, h.sections);
+    print::one(to, h.hours);
+    print::two(to, h.meter);
+    print::two(to, h.guaranteed);
+    print::two(to, h.delivered);
+    print::two(to, h.limit);
 }
 
-fn residents(residents: [u16; 12]) {
+fn residents(to: &mut Output, residents: [u16; 12]) {
     let mut c: usize = 0;
     while c < 12 {
-        print::two(residents[c]);
+        print::two(to, residents[c]);
         c += 1;
     }
 }
 
-fn section(s: Section) {
-    print::one(s.parent);
-    print::one(s.kind);
-    print::two(s.fixtures);
-    print::two(s.decimetres);
-    print::two(wire::bits16(s.elevation));
-    print::two(s.free);
+fn section(to: &mut Output, s: Section) {
+    print::one(to, s.parent);
+    print::one(to, s.kind);
+    print::two(to, s.fixtures);
+    print::two(to, s.decimetres);
+    print::two(to, wire::bits16(s.elevation));
+    print::two(to, s.free);
 }
 
 // Sections 1 to count.
-fn sections(sections: [Section; 64], count: usize) {
+fn sections(to: &mut Output, sections: [Section; 64], count: usize) {
     let mut i: usize = 1;
     while i < 64 {
         if i <= count {
-            section(sections[i]);
+            section(to, sections[i]);
         }
         i += 1;
     }

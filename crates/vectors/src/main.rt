@@ -8,15 +8,20 @@ mod jobs;
 mod lines;
 mod print;
 
+use print::Output;
+
 // Nothing says that the input ends, so the chunks are counted: at most 256 MiB are read.
-fn main() {
+fn main(rt: HostRuntime) {
+    let mut input = rt.stdin();
+    let mut to = Output::new(rt.stdout());
     let mut line = [0u8; 8192];
     let mut used: usize = 0;
     let mut chunks: usize = 4096;
     while 0 < chunks {
         chunks -= 1;
-        if !lines::take_chunk(&mut line, &mut used) {
+        if !lines::take_chunk(&mut input, &mut to, &mut line, &mut used) {
             chunks = 0;
         }
     }
+    print::flush(&mut to);
 }
