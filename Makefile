@@ -27,17 +27,18 @@ if [ "$$missing" = 1 ]; then exit 1; fi
 endef
 
 # The stored vectors are the model's; every crate is proved, the must-fail edits are tried and the programs run; then the archive
-# is made of what was proved, and the Rust side is built and tested with it and the sheet program that ran. An edit that no longer
-# fits the text fails too. The last line is rt's verdict.
+# is made of what was proved (tools/archive.sh), and the Rust side is built and tested with it and the sheet program that ran. An
+# edit that no longer fits the text fails too. The last line is rt's verdict.
 test:
 	@$(call need,rt cargo cc python3)
 	verdict=$$(mktemp)
 	trap 'rm -f "$$verdict"' EXIT
 	sh model/check.sh
+	own=$$(find crates -path '*/out/rlib' -prune -print -quit)
 	rt ci | tee "$$verdict"
 	grep -q '^rt: ok' "$$verdict" || { echo "make: rt ci ended without its line 'rt: ok'" >&2; exit 1; }
 	if grep -Eq '^rt: ok.*, [1-9][0-9]* bad' "$$verdict"; then echo "make: some must-fail edits no longer fit the text" >&2; exit 1; fi
-	bash tools/archive.sh proved
+	bash tools/archive.sh $${own:+anew}
 	mkdir -p target/bin
 	cp crates/sheet/out/sheet target/bin/sheet
 	cargo test --release --offline --manifest-path office/Cargo.toml
@@ -85,7 +86,7 @@ target/staticlib/liborder.a: $(crates) tools/archive.sh
 	@$(call need,rt)
 	mkdir -p target
 	echo "proving the library, which takes minutes the first time: target/archive.log"
-	bash tools/archive.sh > target/archive.log 2>&1 || { tail -n 40 target/archive.log; exit 1; }
+	bash tools/archive.sh anew > target/archive.log 2>&1 || { tail -n 40 target/archive.log; exit 1; }
 
 # Document 01's own case: flows, and the cheapest sizes with their rating.
 example: target/built
