@@ -5,6 +5,8 @@ SHELL := /bin/bash
 .PHONY: test run bench example sheet
 
 office := office/target/release/office
+# What the crates are made of, without what rt leaves in their out/.
+crates := crates.txt $(shell find crates -name out -prune -o -type f -print)
 
 # Names each of the given tools that is not on the path, with what it is for, and ends the recipe where one is missing.
 define need
@@ -24,15 +26,21 @@ done
 if [ "$$missing" = 1 ]; then exit 1; fi
 endef
 
-# The stored vectors are the model's; every crate is proved from nothing, the must-fail edits are tried and the programs run;
-# then the archive is made of what was proved, and the Rust side is built and tested with it. The last line is rt's verdict.
+# The stored vectors are the model's; every crate is proved, the must-fail edits are tried and the programs run; then the archive
+# is made of what was proved (tools/archive.sh), and the Rust side is built and tested with it and the sheet program that ran. An
+# edit that no longer fits the text fails too. The last line is rt's verdict.
 test:
 	@$(call need,rt cargo cc python3)
 	verdict=$$(mktemp)
 	trap 'rm -f "$$verdict"' EXIT
 	sh model/check.sh
+	own=$$(find crates -path '*/out/rlib' -prune -print -quit)
 	rt ci | tee "$$verdict"
-	rt staticlib order
+	grep -q '^rt: ok' "$$verdict" || { echo "make: rt ci ended without its line 'rt: ok'" >&2; exit 1; }
+	if grep -Eq '^rt: ok.*, [1-9][0-9]* bad' "$$verdict"; then echo "make: some must-fail edits no longer fit the text" >&2; exit 1; fi
+	bash tools/archive.sh $${own:+anew}
+	mkdir -p target/bin
+	cp crates/sheet/out/sheet target/bin/sheet
 	cargo test --release --offline --manifest-path office/Cargo.toml
 	tail -n 1 "$$verdict"
 
@@ -61,12 +69,24 @@ bench: target/built
 	@$(office) bench
 
 # The proved sheet program, the proved archive and the command over it.
-target/built: $(shell find crates office/src office/Cargo.toml -type f)
+target/built: target/bin/sheet target/staticlib/liborder.a $(shell find office/src office/build.rs office/Cargo.toml -type f)
 	@$(call need,rt cargo cc)
-	mkdir -p target
-	echo "proving and building, which takes minutes the first time: target/built.log"
-	{ rt check sheet && rt staticlib order && cargo build --release --offline --manifest-path office/Cargo.toml; } > target/built.log 2>&1 || { tail -n 40 target/built.log; exit 1; }
+	cargo build --release --offline --manifest-path office/Cargo.toml > target/built.log 2>&1 || { tail -n 40 target/built.log; exit 1; }
 	touch target/built
+
+# rt leaves a program in its crate's out/ once it has run it, here on no input.
+target/bin/sheet: $(crates)
+	@$(call need,rt)
+	mkdir -p target/bin
+	echo "proving the sheet program, which takes minutes the first time: target/sheet.log"
+	(cd crates/sheet && rt run < /dev/null) > target/sheet.log 2>&1 || { tail -n 40 target/sheet.log; exit 1; }
+	cp crates/sheet/out/sheet target/bin/sheet
+
+target/staticlib/liborder.a: $(crates) tools/archive.sh
+	@$(call need,rt)
+	mkdir -p target
+	echo "proving the library, which takes minutes the first time: target/archive.log"
+	bash tools/archive.sh anew > target/archive.log 2>&1 || { tail -n 40 target/archive.log; exit 1; }
 
 # Document 01's own case: flows, and the cheapest sizes with their rating.
 example: target/built
@@ -75,8 +95,5 @@ example: target/built
 	$(office) choose examples/own-case.txt examples/own-case.csv
 
 # Prints the sheet of document 01's own case.
-sheet:
-	@$(call need,rt)
-	mkdir -p target
-	rt check sheet > target/sheet.log 2>&1 || { cat target/sheet.log; exit 1; }
-	target/bin/sheet < examples/own-case.sheet
+sheet: target/bin/sheet
+	@target/bin/sheet < examples/own-case.sheet

@@ -1,4 +1,4 @@
-//! Links the proved library. It is not built here: `rt staticlib order` at the top of the repository makes it.
+//! Links the proved library. It is not built here: `make target/staticlib/liborder.a` at the top of the repository makes it.
 
 use std::env;
 use std::path::PathBuf;
@@ -15,7 +15,7 @@ fn main() {
     println!("cargo::rerun-if-changed={}", library.display());
     if !library.is_file() {
         println!("cargo::error=there is no liborder.a in {}", folder.display());
-        println!("cargo::error=make it with `rt staticlib order` at the top of the repository,");
+        println!("cargo::error=make it with `make target/staticlib/liborder.a` at the top of the repository,");
         println!("cargo::error=or name the folder that holds it in the environment variable ORDER_LIB");
         return;
     }

@@ -1,7 +1,7 @@
 /* The proved pipe sizing library: design flows, the meter, rating in one call or in two, and choosing of a branched house
  * network, for all its water or for its cold or its hot line; and the heat flow of a hot line.
  *
- * Build: `rt staticlib order` makes target/staticlib/liborder.a; link it with the C library (it uses memcpy and memset).
+ * Build: `make target/staticlib/liborder.a` makes it; link it with the C library (it uses memcpy and memset).
  *
  * Every slice is a pointer and then its length in bytes. For every call:
  *   - pointers are not null, also those of empty slices (length 0); lengths are below 2^63;

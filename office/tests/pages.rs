@@ -1,5 +1,5 @@
-//! What the repository's pages show is so. The pages are `README.md`, `CONTRIBUTING.md`, `docs/*.md` and `office/README.md`; a
-//! test for each rule, in the forms that the pages keep to:
+//! What the repository's pages show is so. The pages are `README.md`, `CONTRIBUTING.md`, `docs/*.md` and `office/README.md`, but not
+//! `docs/PORT.md`, which has the text of another commit beside today's; a test for each rule, in the forms that the pages keep to:
 //!
 //! - Paths. A word in backquotes that begins with a folder of `FOLDERS` is a path from the top, in `office/README.md` one that
 //!   begins with a folder of `OWN` from `office/`. It is there. Left aside are what the build makes (`target/`) and words with
@@ -32,7 +32,7 @@ use std::collections::{BTreeMap, BTreeSet};
 use std::path::Path;
 use std::process::Command;
 
-const FOLDERS: [&str; 5] = ["crates/", "docs/", "examples/", "office/", "model/"];
+const FOLDERS: [&str; 6] = ["crates/", "docs/", "examples/", "office/", "model/", "tools/"];
 /// From the folder of `office/README.md`.
 const OWN: [&str; 4] = ["src/", "tests/", "include/", "../"];
 
@@ -44,7 +44,7 @@ struct Page {
 fn pages() -> Vec<Page> {
     let docs = std::fs::read_dir(top().join("docs")).expect("the pages are there");
     let docs = docs.map(|file| format!("docs/{}", file.expect("a file").file_name().to_string_lossy()));
-    let mut names: Vec<String> = docs.filter(|name| name.ends_with(".md")).collect();
+    let mut names: Vec<String> = docs.filter(|name| name.ends_with(".md") && name != "docs/PORT.md").collect();
     names.sort();
     names.extend(["README.md", "CONTRIBUTING.md", "office/README.md"].map(String::from));
     let there = names.into_iter().filter(|name| top().join(name).exists());
@@ -204,7 +204,8 @@ fn names_are_declared_in_the_file_beside_them() {
 fn crates() -> BTreeMap<String, BTreeSet<String>> {
     let list = read("crates.txt");
     let lines = list.lines().filter(|line| !line.starts_with('#')).filter_map(|line| line.split_once(':'));
-    let all: Vec<(&str, &str)> = lines.collect();
+    // A static library has the word `staticlib` behind its name.
+    let all: Vec<(&str, &str)> = lines.map(|(name, uses)| (name.trim_end_matches(" staticlib"), uses)).collect();
     let own = |uses: &str| -> BTreeSet<String> {
         uses.split_whitespace().filter(|used| all.iter().any(|(name, _)| name == used)).map(String::from).collect()
     };

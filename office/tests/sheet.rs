@@ -29,7 +29,10 @@ fn text(name: &str) -> String {
 
 fn program(output: Stdio) -> Child {
     let path = Path::new(TOP).join("target/bin/sheet");
-    assert!(path.is_file(), "there is no target/bin/sheet; `rt check sheet` at the top of the repository makes it");
+    assert!(
+        path.is_file(),
+        "there is no target/bin/sheet; `make target/bin/sheet` at the top of the repository makes it"
+    );
     Command::new(path).stdin(Stdio::piped()).stdout(output).stderr(Stdio::piped()).spawn().expect("the program starts")
 }
 
