@@ -1,6 +1,5 @@
 -- The bounds that the type of a job holds: twelve residents, and residents and fixtures of 16 bits.
 -- Assumes nothing.
-use mathlib.Core.Path.{sym, ◌∙◌}
 use mathlib.Core.List.{List, [], ◌∷◌}
 use Prim.Native.Nat.{ℕ, zero, suc, ◌<◌}
 use native.Mathlib.Omega.{arith}

@@ -25,8 +25,7 @@ put_section_requires c κs =
 
 loop_again : tie.Need-loop-i-preserved invariant-loop decreases-loop
 loop_again c =
-    let r = c.loop-i.invariant.2 in
-    (
+    let r = c.loop-i.invariant.2 in (
       omega arith,
       omega arith,
       running_more 10 (λ i. section_length _) r (omega arith) (omega arith)

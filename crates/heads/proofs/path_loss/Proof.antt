@@ -19,7 +19,6 @@ decreases-loop parents losses section sum₀ at₀ sum at = at
 
 -- in the loop: the section that is reached has a place, its parent's number is less, and its loss is its part of the path loss
 module _ (c : tie.In-loop-at invariant-loop decreases-loop) where
-
   abbrev parent : ℕ → ℕ
   parent i = get_or c.args.parents.now i 0
 

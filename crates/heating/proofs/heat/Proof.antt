@@ -6,7 +6,6 @@ use mathlib.Core.List.{List}
 use Prim.Native.Nat.{ℕ}
 use native.Mathlib.Omega.{arith}
 use borrow.Author.Rules.{rules}
-use borrow.Author.Tests.{not-true, not-false}
 use Rattle.answer.proofs.Buffers.{refused, given}
 use Rattle.fields.specs.Fields.{service_of}
 use Rattle.record.specs.Record.{decode}

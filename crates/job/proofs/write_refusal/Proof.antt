@@ -4,7 +4,6 @@ use mathlib.Core.Path.{◌≡◌, sym, ◌∙◌}
 use mathlib.Core.Bool.{true}
 use native.Mathlib.Omega.{arith}
 use borrow.Author.Rules.{rules}
-use borrow.Author.Tests.{not-true, not-false}
 use Rattle.answer.specs.Checks.{first_no}
 use Rattle.rules.specs.Rules.{version_ok, header_ok, field_checks}
 use Rattle.rules.proofs.HeaderBounds.{header_in}

@@ -32,13 +32,12 @@ no_need : (c : tie.Start invariant-loop decreases-loop) → let a = c.args in
 no_need c = keeps_pump c.requires.0 c.args.head 0 (λ j i. get_or-set_other c.args.asked 0 j 0 0 i) refl
 
 returns : tie.Need-returns-then-least invariant-loop decreases-loop
-returns c =
-    (
-      (λ e. keeps_none c.args.head (no_need c.before.before.before.before.before.before)
-          (pruned_stop c.loop-s.invariant.1 (sound_like c.requires.0) c.trim-least.new.losses c.loop-s.s c.trim-least.result (omega arith) c.loop-s.invariant.0
-          c.trim-least.ensures.1.0 c.trim-least.ensures.1.1 c.if-least.true)),
-      λ e. absurd (apart e refl),
-    )
+returns c = (
+  (λ e. keeps_none c.args.head (no_need c.before.before.before.before.before.before)
+      (pruned_stop c.loop-s.invariant.1 (sound_like c.requires.0) c.trim-least.new.losses c.loop-s.s c.trim-least.result (omega arith) c.loop-s.invariant.0
+      c.trim-least.ensures.1.0 c.trim-least.ensures.1.1 c.if-least.true)),
+  λ e. absurd (apart e refl),
+)
 
 -- the parent's number is less
 parent_low : (c : tie.After-wide8-p invariant-loop decreases-loop) → c.wide8-p.result < c.loop-s.s
@@ -46,12 +45,11 @@ parent_low c =
     omega (arith, c.wide8-p.ensures.0, c.requires.0.lower c.loop-s.s (omega arith) c.loop-s.invariant.0)
 
 loop_again : tie.Need-loop-s-preserved invariant-loop decreases-loop
-loop_again c =
-    (
-      omega arith,
-      pruned_more c.loop-s.invariant.1 (sound_like c.requires.0) c.trim-least.new.losses c.loop-s.s c.trim-least.result (omega arith) c.loop-s.invariant.0
-          c.trim-least.ensures.1.0 c.trim-least.ensures.1.1 c.wide8-p.result c.trim-least.ensures.0 c.if-least.false c.wide8-p.ensures.0 (omega arith),
-    )
+loop_again c = (
+  omega arith,
+  pruned_more c.loop-s.invariant.1 (sound_like c.requires.0) c.trim-least.new.losses c.loop-s.s c.trim-least.result (omega arith) c.loop-s.invariant.0
+      c.trim-least.ensures.1.0 c.trim-least.ensures.1.1 c.wide8-p.result c.trim-least.ensures.0 c.if-least.false c.wide8-p.ensures.0 (omega arith),
+)
 
 pub prune_spec : {M : Type 1} → statement M
 prune_spec =

@@ -45,13 +45,12 @@ put_requires c κs =
     rw (rest_part _ _ _ _ c.section_bytes-x.ensures, rest_length _ _ _ _) (width c.before.before.before)
 
 loop_again : tie.Need-loop-i-preserved invariant-loop decreases-loop
-loop_again c =
-    (
-      omega arith,
-      omega arith,
-      running_more (10 - c.args.skip) (λ i. rest_length _ _ _ _) c.loop-i.invariant.2 (omega arith) (room c.before.before.before.before.before.before)
-          (c.put.ensures ∙ rw (rest_part _ _ _ _ c.section_bytes-x.ensures) refl),
-    )
+loop_again c = (
+  omega arith,
+  omega arith,
+  running_more (10 - c.args.skip) (λ i. rest_length _ _ _ _) c.loop-i.invariant.2 (omega arith) (room c.before.before.before.before.before.before)
+      (c.put.ensures ∙ rw (rest_part _ _ _ _ c.section_bytes-x.ensures) refl),
+)
 
 returns : tie.Need-returns invariant-loop decreases-loop
 returns c = let e : c.loop-i.i - 1 ≡ c.args.count = omega arith in rw e at c.loop-i.invariant.2.run

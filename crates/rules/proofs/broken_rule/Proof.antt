@@ -2,7 +2,6 @@
 -- Assumes nothing.
 use mathlib.Core.Path.{◌≡◌, sym, ◌∙◌}
 use mathlib.Core.Bool.{true, false}
-use borrow.Author.Tests.{not-false}
 use Rattle.answer.specs.Checks.{first_no}
 use Rattle.rules.specs.Rules.{sections_ok, childless_zero, field_checks}
 use Rattle.rules.proofs.Kept.{rooted_of, kinds_of}

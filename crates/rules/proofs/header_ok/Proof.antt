@@ -3,7 +3,6 @@
 use mathlib.Core.Path.{sym, ◌∙◌}
 use native.Mathlib.Omega.{arith}
 use borrow.Author.Rules.{rules}
-use borrow.Author.Tests.{not-true, not-false}
 use Rattle.rules.proofs.HeaderBounds.{ServiceIn, service_in, service_refused, in_head, head_refused}
 use Rattle.rules.proofs.header_ok.Statement.{statement}
 use Rattle.rules.proofs.header_ok.Tie as tie

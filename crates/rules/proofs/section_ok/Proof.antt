@@ -5,7 +5,6 @@ use native.Mathlib.Omega.{arith}
 use mir.Syntax.{w16}
 use mir.Facts.{to_z-of_z}
 use borrow.Author.Rules.{rules}
-use borrow.Author.Tests.{not-true, not-false}
 use Rattle.basis.proofs.Bools.{apart}
 use Rattle.rules.specs.Rules.{elevation_ok}
 use Rattle.rules.proofs.SectionBounds.{kind_in, in_kind, in_section, section_refused}

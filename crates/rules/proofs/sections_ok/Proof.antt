@@ -6,7 +6,6 @@ use Prim.Native.Nat.{◌+◌, ◌-◌, ◌≤◌}
 use native.Mathlib.Nat.{add-sub_cancel}
 use native.Mathlib.Omega.{arith}
 use borrow.Author.Rules.{rules}
-use borrow.Author.Tests.{not-true, not-false}
 use Rattle.basis.specs.Range.{all_to}
 use Rattle.basis.proofs.Each.{all_none, all_more, all_false}
 use Rattle.fields.specs.Fields.{count_of, section_of}

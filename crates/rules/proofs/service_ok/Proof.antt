@@ -1,6 +1,6 @@
 -- `rules::service_ok` meets its contract, by the service.
 -- Assumes nothing.
-use mathlib.Core.Path.{sym, ◌∙◌}
+use mathlib.Core.Path.{sym}
 use native.Mathlib.Omega.{arith}
 use borrow.Author.Rules.{rules}
 use Rattle.rules.proofs.HeaderBounds.{in_service, service_line, service_out}

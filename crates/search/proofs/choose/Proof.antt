@@ -11,8 +11,6 @@ use Rattle.search.proofs.choose.Tie as tie
 
 -- the pruned tables
 module _ (c : tie.Else-not-pruned) where
-
-
   pruned :
       let a = c.args in
       Pruned a.sections a.sizes a.parents.now a.needs.now a.losses.now a.costs.now a.head c.prune-pruned.result.needs c.prune-pruned.result.losses

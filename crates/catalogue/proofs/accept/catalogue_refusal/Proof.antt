@@ -2,7 +2,6 @@
 -- Assumes nothing.
 use mathlib.Core.Path.{◌≡◌, sym, ◌∙◌}
 use mathlib.Core.Bool.{true}
-use borrow.Author.Tests.{not-false}
 use Rattle.answer.specs.Checks.{first_no}
 use Rattle.catalogue.specs.Rules.{shape_ok, cat_checks, cat_no}
 use Rattle.catalogue.proofs.accept.catalogue_refusal.Statement.{statement}

@@ -3,7 +3,6 @@
 use mathlib.Core.Path.{◌≡◌, sym, ◌∙◌}
 use Prim.Native.Nat.{◌-◌, ◌≤◌}
 use native.Mathlib.Omega.{arith}
-use borrow.Author.Tests.{not-true, not-false}
 use Rattle.catalogue.proofs.RowBounds.{Seen, seen_first, seen_more, seen_rows, own_refused, rises_refused}
 use Rattle.catalogue.proofs.accept.rows_ok.Statement.{statement}
 use Rattle.catalogue.proofs.accept.rows_ok.Tie as tie
@@ -15,14 +14,13 @@ abbrev decreases-loop : tie.decreases-loop-k
 decreases-loop rows n k₀ k = n - k
 
 loop_again : tie.Need-loop-k-preserved invariant-loop decreases-loop
-loop_again c =
-    (
-      omega arith,
-      omega arith,
-      seen_more _ c.loop-k.k (omega arith) c.loop-k.invariant.2
-          (sym c.row_ok-in-loop-k.ensures ∙ c.if-not-row_ok-2.false)
-          (sym c.rises_at.ensures ∙ c.if-not-rises_at.false),
-    )
+loop_again c = (
+  omega arith,
+  omega arith,
+  seen_more _ c.loop-k.k (omega arith) c.loop-k.invariant.2
+      (sym c.row_ok-in-loop-k.ensures ∙ c.if-not-row_ok-2.false)
+      (sym c.rises_at.ensures ∙ c.if-not-rises_at.false),
+)
 
 pub rows_ok_spec : {M : Type 1} → statement M
 rows_ok_spec =

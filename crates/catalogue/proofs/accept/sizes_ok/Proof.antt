@@ -5,7 +5,6 @@ use mathlib.Core.Bool.{true}
 use Prim.Native.Nat.{◌+◌, ◌-◌, ◌≤◌}
 use native.Mathlib.Nat.{add-sub_cancel}
 use native.Mathlib.Omega.{arith}
-use borrow.Author.Tests.{not-true, not-false}
 use Rattle.basis.specs.Range.{all_to}
 use Rattle.basis.proofs.Each.{all_none, all_more, all_false}
 use Rattle.catalogue.specs.Layout.{sizes_of}

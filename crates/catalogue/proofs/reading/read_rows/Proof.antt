@@ -23,7 +23,7 @@ drawn c =
     let above = c.row_above-k.ensures in
     ⊎_elim
     (λ t. drawn_next pre above (omega arith) (t.x0-is ∙ t.row_flow-x0.ensures) (t.velocity-is ∙ t.row_velocity-velocity.ensures)
-        (t.slope-is ∙ t.row_slope-slope.ensures))
+    (t.slope-is ∙ t.row_slope-slope.ensures))
     (λ t. drawn_first pre above (omega arith) t.x0-is t.velocity-is t.slope-is)
     c.if-k-gt0.branch-raw
 

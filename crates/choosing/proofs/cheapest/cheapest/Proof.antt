@@ -22,10 +22,8 @@ head : (c : tie.Start) → HeaderIn c.args.job.header
 head c = header_in c.args.job.header c.requires.0.valid.header
 
 module _ (c : tie.After-put_options) where
-
   bytes : (k : ℕ) → byte_at c.args.cat.now k < 256
   bytes k = omega (arith, c.shared_slice_known-1.given k)
-
 
   -- the tables as a net of so many sizes
   abbrev net_with : ℕ → Net

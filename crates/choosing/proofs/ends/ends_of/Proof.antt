@@ -32,13 +32,12 @@ place : (c : tie.In-loop-i invariant-loop decreases-loop) → c.loop-i.i < 64
 place c = omega (arith, few c.before.before.before)
 
 loop_again : tie.Need-loop-i-preserved invariant-loop decreases-loop
-loop_again c =
-    (
-      omega arith,
-      omega arith,
-      placed_more (NeedAt c.args.job) c.loop-i.i c.loop-i.needs _ (place c.before.before) c.loop-i.invariant.2
-          c.need.ensures,
-    )
+loop_again c = (
+  omega arith,
+  omega arith,
+  placed_more (NeedAt c.args.job) c.loop-i.i c.loop-i.needs _ (place c.before.before) c.loop-i.invariant.2
+      c.need.ensures,
+)
 
 returns : tie.Need-returns invariant-loop decreases-loop
 returns c =

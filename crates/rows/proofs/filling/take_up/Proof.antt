@@ -20,7 +20,6 @@ complete_requires c κs =
 
 -- its row is complete
 module _ (c : tie.After-complete) where
-
   ready : let a = c.args in
       Filling (net_of a.sections a.sizes a.parents.now a.needs.now a.losses.now a.costs.now) a.head (λ s. get_or a.highs.now s 0)
       c.complete.new.ws c.complete.new.begun a.s × (get_or c.complete.new.begun a.s false ≡ true)
@@ -28,7 +27,6 @@ module _ (c : tie.After-complete) where
 
 -- the parent's number is less, and its row within the workspace
 module _ (c : tie.After-wide8-p) where
-
   abbrev p : ℕ
   p = c.wide8-p.result
 

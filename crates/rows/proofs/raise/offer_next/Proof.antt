@@ -11,8 +11,6 @@ use Rattle.rows.proofs.raise.offer_next.Tie as tie
 
 -- the last cell of the row has been read
 module _ (c : tie.After-get) where
-
-
   abbrev loss : ℕ
   loss = c.wide32-loss.result
 

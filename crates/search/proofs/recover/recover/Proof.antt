@@ -33,8 +33,6 @@ cheapest_requires c κs =
 
 -- the size picked
 module _ (c : tie.After-cheapest-t invariant-loop decreases-loop) where
-
-
   more : c.loop-s.s < c.args.sections
   more = c.loop-s-test.true
 
@@ -49,11 +47,10 @@ module _ (c : tie.After-cheapest-t invariant-loop decreases-loop) where
   size_low = omega (arith, taken.few, c.requires.0.sound.sizes)
 
 loop_again : tie.Need-loop-s-preserved invariant-loop decreases-loop
-loop_again c =
-    (
-      omega (arith, more c.before.before.before.before.before.before),
-      read_turn c.requires.0 c.loop-s.invariant.1 (taken c.before.before.before.before.before.before) (more c.before.before.before.before.before.before) c.requires.1.1 c.wide8.ensures.0 c.wide32.ensures.0 c.lesser.ensures,
-    )
+loop_again c = (
+  omega (arith, more c.before.before.before.before.before.before),
+  read_turn c.requires.0 c.loop-s.invariant.1 (taken c.before.before.before.before.before.before) (more c.before.before.before.before.before.before) c.requires.1.1 c.wide8.ensures.0 c.wide32.ensures.0 c.lesser.ensures,
+)
 
 pub recover_spec : {M : Type 1} → statement M
 recover_spec =

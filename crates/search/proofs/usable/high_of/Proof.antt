@@ -28,13 +28,12 @@ high_most c =
     omega (arith, c.loop-s.invariant.1.most c.loop-s.s c.loop-s.invariant.0, c.greater-high.ensures, c.lesser.ensures)
 
 loop_again : tie.Need-loop-s-preserved invariant-loop decreases-loop
-loop_again c =
-    (
-      omega arith,
-      usable_more c.requires.0 c.requires.3 c.loop-s.invariant.1 (λ s t. refl) c.greatest_loss-most.result (omega arith) c.loop-s.invariant.0
-          (c.greater-high.ensures ∙ rw (c.lesser.ensures, c.wide32.ensures.0)) c.wide8-p.ensures.0 c.greatest_loss-most.ensures.1
-          (c.greater.ensures ∙ rw c.lesser-in-loop-s.ensures),
-    )
+loop_again c = (
+  omega arith,
+  usable_more c.requires.0 c.requires.3 c.loop-s.invariant.1 (λ s t. refl) c.greatest_loss-most.result (omega arith) c.loop-s.invariant.0
+      (c.greater-high.ensures ∙ rw (c.lesser.ensures, c.wide32.ensures.0)) c.wide8-p.ensures.0 c.greatest_loss-most.ensures.1
+      (c.greater.ensures ∙ rw c.lesser-in-loop-s.ensures),
+)
 
 returns : tie.Need-returns invariant-loop decreases-loop
 returns c =
