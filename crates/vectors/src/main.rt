@@ -5,8 +5,8 @@
 
 mod calls;
 mod jobs;
-mod lines;
 mod print;
+mod vector_lines;
 
 use print::Output;
 
@@ -19,7 +19,7 @@ fn main(rt: HostRuntime) {
     let mut chunks: usize = 4096;
     while 0 < chunks {
         chunks -= 1;
-        if !lines::take_chunk(&mut input, &mut to, &mut line, &mut used) {
+        if !vector_lines::take_chunk(&mut input, &mut to, &mut line, &mut used) {
             chunks = 0;
         }
     }

@@ -1,7 +1,7 @@
--- `vectors::lines::take_bytes` is safe and ends.
+-- `vectors::vector_lines::take_bytes` is safe and ends.
 -- Assumes nothing.
 use Rattle.std.proofs.Common.{◌≤◌, ◌-◌, length}
-use Rattle.vectors.proofs.lines.take_bytes.Given as goal
+use Rattle.vectors.proofs.vector_lines.take_bytes.Given as goal
 
 abbrev pub invariant-loop-i : goal.invariant-loop-i
 invariant-loop-i l = l.i ≤ length l.bytes

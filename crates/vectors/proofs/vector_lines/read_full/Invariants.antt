@@ -1,7 +1,7 @@
--- `vectors::lines::read_full` ends, since each turn leaves less to fill.
+-- `vectors::vector_lines::read_full` ends, since each turn leaves less to fill.
 -- Assumes nothing.
 use Rattle.std.proofs.Common.{◌≡◌, ◌<◌, ◌≤◌, ◌-◌, ◌^◌, length}
-use Rattle.vectors.proofs.lines.read_full.Given as goal
+use Rattle.vectors.proofs.vector_lines.read_full.Given as goal
 
 abbrev pub invariant-loop-done : goal.invariant-loop-done
 invariant-loop-done g l = (length l.buffer ≡ length l.initial.buffer) × (l.done ≤ length l.buffer) × (length l.buffer < 2 ^ 64)
