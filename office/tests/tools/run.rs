@@ -1,6 +1,7 @@
 //! The built command, run at the top of the repository. Not every test needs all of it.
 #![allow(dead_code)]
 
+use std::hash::{DefaultHasher, Hash, Hasher};
 use std::io::Write;
 use std::path::PathBuf;
 use std::process::{Command, Stdio};
@@ -47,8 +48,12 @@ pub fn office_with(words: &[&str], input: &[u8]) -> Ran {
     Ran { status: done.status.code().expect("no signal ended it"), output: done.stdout, error }
 }
 
-/// A file of this test's own, away from the repository's.
+/// A file of this test's own, outside the checkout: some tests make links, and `rt ci` refuses a checkout with a link in it. Each
+/// checkout has a folder of its own.
 pub fn scratch(name: &str) -> String {
-    let folder = PathBuf::from(env!("CARGO_TARGET_TMPDIR"));
+    let mut checkout = DefaultHasher::new();
+    env!("CARGO_MANIFEST_DIR").hash(&mut checkout);
+    let folder = std::env::temp_dir().join(format!("office-tests-{:016x}", checkout.finish()));
+    std::fs::create_dir_all(&folder).expect("a folder for what the tests write");
     folder.join(name).to_str().expect("the folder's name is text").to_string()
 }
