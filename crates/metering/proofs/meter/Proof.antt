@@ -12,7 +12,7 @@ use Rattle.demand.specs.Demand.{house_flow, mean_of}
 use Rattle.demand.proofs.DesignFlows.{house_flow_top}
 use Rattle.acceptance.specs.Acceptance.{job_no}
 use Rattle.acceptance.proofs.Accepting.{accept_fields, accept_accepted, accept_long}
-use Rattle.meters.specs.Meters.{meters_ok, none_qualifies}
+use Rattle.meters.specs.Meters.{meters_ok, winner_of, none_qualifies}
 use Rattle.meters.proofs.Bounds.{list_in}
 use Rattle.meters.proofs.Qualifying.{loss_top}
 use Rattle.meters.proofs.Least.{winner_zero, winner_some, winner_first}
@@ -73,7 +73,10 @@ mean : (c : tie.After-mean_of) → c.mean_of.result ≡ mean_of (decode (job_of 
 mean c = c.mean_of.ensures ∙ ap mean_of (fields (accepted_of c.before.before))
 
 place : (c : tie.After-winner-place) → c.winner-place.result ≡ place_for (decode (job_of c.before.before.before)) (meters_lent c.before.before.before)
-place c = cc (c.winner-place.ensures, mean c.before, flow c.before.before.before)
+place c =
+    let k = c.before.before.before in
+    c.winner-place.ensures ∙ ap (λ (q : ℕ). winner_of (meters_lent k) q c.mean_of.result) (flow k) ∙
+    ap (winner_of (meters_lent k) (house_flow (decode (job_of k)))) (mean c.before)
 
 returns_4 : tie.Need-returns-then-place-eq0
 returns_4 c =
