@@ -1,19 +1,19 @@
 -- A sum over the sections of a set, bit by bit from a section's own up.
 -- Assumes nothing.
-use mathlib.Core.Path.{◌≡◌, refl, sym, ap, ◌∙◌}
+use mathlib.Core.Path.{◌≡◌, sym, ap, ◌∙◌}
 use mathlib.Core.Logic.{⊎_elim}
 use mathlib.Core.Bool.{Bool, true, false, cond}
 use Prim.Native.Nat.{ℕ, zero, suc, ◌+◌, ◌-◌, ◌*◌, ◌^◌, ◌/◌, ◌%◌, ◌≤◌, ◌<◌}
 use native.Mathlib.Omega.{arith}
-use native.Mathlib.Nat.{mul-le-mul_right, add-mul-div_left, div-eq_of_lt, div-lt_iff_lt-mul}
+use native.Mathlib.Nat.{add-mul-div_left, div-eq_of_lt}
 use lib.Dec.{ltb}
 use borrow.Author.Tests.{lt-ltb}
 use Rattle.std.proofs.lemmas.Nat.{and_mask, and_le_r}
 use Rattle.std.specs.Int.Bits.{bit_and}
-use lib.Pow.{pow_pos, pow-add, pow_mono, shr-shr}
+use lib.Pow.{pow_pos, pow-add}
 use Rattle.basis.specs.Range.{sum_to}
-use Rattle.basis.proofs.Split.{eq_or_ne, lt_or_ge, either}
-use Rattle.basis.proofs.Sum.{sum_none, sum_more, sum_some, sum_pow, sum_at, sum_nothing}
+use Rattle.basis.proofs.Split.{eq_or_ne}
+use Rattle.basis.proofs.Sum.{sum_none, sum_more, sum_some, sum_pow, sum_nothing}
 
 -- a power of 2 added or not: what it does to its own bit, and to a lower one
 own_bit : (x n : ℕ) → x < 2 ^ n → (t : Bool) → (x + cond t (2 ^ n) 0) / 2 ^ n % 2 ≡ cond t 1 0

@@ -16,10 +16,10 @@ pub parents_start : (job : Job) → replicate 64 0 ≡ slots 64 1 1 0 (parent_of
 parents_start job = slots_none 64 1 0 (parent_of job)
 
 -- one section more
-pub parents_more : (job : Job) (parents : List ℕ) (i : ℕ) → parents ≡ slots 64 1 i 0 (parent_of job) → 0 < i → i < 64 →
-    set parents i (section_of job i).parent ≡ slots 64 1 (i + 1) 0 (parent_of job)
-parents_more job parents i e p h =
-    rw (e, ← parent_at job i p) (slots_more 64 1 i 0 (parent_of job) p h)
+pub parents_more : (job : Job) (parents : List ℕ) (i k x : ℕ) → parents ≡ slots 64 1 i 0 (parent_of job) → x ≡ (section_of job i).parent →
+    0 < i → i < 64 → k ≡ i + 1 → set parents i x ≡ slots 64 1 k 0 (parent_of job)
+parents_more job parents i k x e v p h z =
+    rw (z, v, e, ← parent_at job i p) (slots_more 64 1 i 0 (parent_of job) p h)
 
 pub parents_held : (job : Job) (parents : List ℕ) → parents ≡ slots 64 1 (count_of job + 1) 0 (parent_of job) → count_of job ≤ 63 →
     (i : ℕ) → 0 < i → i ≤ count_of job → get_or parents i 0 ≡ parent_of job i

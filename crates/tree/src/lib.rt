@@ -10,6 +10,7 @@ ghost use Rattle.tree.specs.Rows.{Kinds, RowsFit, RowAdded, Zeros, Owned, Counte
 use fields::{Job, Section};
 
 // Each section's parent, at the section's place.
+#[tactic(auto, using(crate::proofs::Parents::parents_start, crate::proofs::Parents::parents_more))]
 pub fn parents_of(job: Job) -> [u8; 64]
     requires { count_of job ≤ 63 }
     ensures { result ≡ slots 64 1 (count_of job + 1) 0 (parent_of job) }
@@ -22,13 +23,14 @@ pub fn parents_of(job: Job) -> [u8; 64]
 }
 
 // Section j's own bit at place j.
+#[tactic(auto, using(crate::proofs::Filled::singles_start))]
 fn singles(count: usize) -> [u64; 64]
     requires { count ≤ 63 }
     ensures { Singles count result }
 {
     let mut sets = [0u64; 64];
     for j in 1..=count {
-        sets[j] = 1u64 << j;
+        sets[j] = 1 << j;
     }
     sets
 }
@@ -55,7 +57,7 @@ pub fn fixtures_below(job: Job, set: u64, i: usize) -> u64
 {
     let mut sum = 0;
     for j in i..=usize::from(job.header.sections) {
-        if set >> j & 1 == 1 {
+        if (set >> j) & 1 == 1 {
             sum += u64::from(job.sections[j].fixtures);
         }
     }
@@ -96,6 +98,8 @@ fn gather(job: Job, n: &mut [u32; 768])
 }
 
 // The fixtures of each kind at a section's end or at any end below it: kind c + 1 of section i at place i * 12 + c. Row 0 is the house.
+// One list, no array of rows: the contracts here and above speak of one list, and each of rows would say the length of every row too.
+#[tactic(auto, using(crate::proofs::Filled::zeros))]
 pub fn counts(job: Job) -> [u32; 768]
     requires { Rooted job × Kinds job }
     ensures { Counted job result }
