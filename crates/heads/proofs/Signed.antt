@@ -5,10 +5,11 @@ use mathlib.Core.Logic.{⊎_elim}
 use mathlib.Core.Bool.{true, false, not}
 use Prim.Native.Nat.{ℕ, zero, suc, ◌+◌, ◌≤◌, ◌<◌}
 use native.Mathlib.Omega.{arith}
-use lib.Dec.{T, leb, ltb}
+use lib.Dec.{leb, ltb}
 use lib.IntN.{ℤ, pos, negsuc, nat_abs, sub_ℕ, ◌+ℤ◌, ◌-ℤ◌}
-use lib.Signed.{mag, lt_z, le_z, non_neg}
+use lib.Signed.{mag, lt_z, le_z}
 use borrow.Author.Tests.{ltb-true, ltb-false, le-leb, lt-leb, leb-true, lt-ltb, le-ltb, not-true, not-false}
+use Rattle.std.specs.Int.{int_max}
 use Rattle.basis.proofs.Split.{lt_or_ge, either}
 use Rattle.basis.proofs.Bools.{apart}
 use Rattle.heads.specs.Signed.{greater, clamped}
@@ -91,13 +92,9 @@ pub less_mag : (z : ℤ) (n k : ℕ) → mag z + n + 1 < k → mag (z -ℤ pos n
 less_mag z zero k h = add_mag z (pos zero) k (omega arith)
 less_mag z (suc n) k h = add_mag z (negsuc n) k (omega arith)
 
--- above 0 a number is its size, and from 0 down it counts as 0
-pub clamped_above : (z : ℤ) → lt_z (pos 0) z ≡ true → T (non_neg z) × (nat_abs z ≡ clamped z)
+-- the greater of a number and 0 is the number, or 0 if less
+pub clamped_max : (z m : ℤ) → m ≡ int_max z (pos 0) → nat_abs m ≡ clamped z
 unfolding clamped
-clamped_above (pos n) e = (tt, refl)
-clamped_above (negsuc n) e = absurd (apart e refl)
-
-pub clamped_none : (z : ℤ) → lt_z (pos 0) z ≡ false → 0 ≡ clamped z
-unfolding clamped
-clamped_none (pos n) e = omega (arith, ltb-false 0 n e)
-clamped_none (negsuc n) e = refl
+clamped_max (pos zero) m e = ap nat_abs e
+clamped_max (pos (suc n)) m e = rw (e, lt-ltb 0 (suc n) (omega arith))
+clamped_max (negsuc n) m e = ap nat_abs e
