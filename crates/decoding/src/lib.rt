@@ -10,6 +10,7 @@ ghost use Rattle.record.specs.Record.{length_of, version_at, service_at, header_
 use fields::{Header, Job, Section};
 use record::place_of;
 use std::array;
+use wire::Field;
 
 // The service: version 1 means total, and a record that ends before its service byte has none.
 #[tactic(auto, unfolding(record::specs::Record::service_at))]
@@ -35,10 +36,10 @@ pub fn header_of(b: &[u8]) -> Header
         tenths: b[5],
         sections: b[6],
         hours: b[7],
-        meter: wire::be16(b, 8),
-        guaranteed: wire::be16(b, 10),
-        delivered: wire::be16(b, 12),
-        limit: wire::be16(b, 14),
+        meter: u16::at(b, 8),
+        guaranteed: u16::at(b, 10),
+        delivered: u16::at(b, 12),
+        limit: u16::at(b, 14),
     }
 }
 
@@ -47,7 +48,7 @@ fn residents_of(b: &[u8]) -> [u16; 12]
     requires { 40 ≤ length b.now }
     ensures { result ≡ tabulate 12 (residents_at b.now) }
 {
-    array::from_fn(|c| wire::be16(b, 16 + 2 * c))
+    array::from_fn(|c| u16::at(b, 16 + 2 * c))
 }
 
 // The section whose ten bytes begin at a place.
@@ -59,10 +60,10 @@ fn section_from(b: &[u8], at: usize) -> Section
     Section {
         parent: b[at],
         kind: b[at + 1],
-        fixtures: wire::be16(b, at + 2),
-        decimetres: wire::be16(b, at + 4),
-        elevation: wire::signed16(wire::be16(b, at + 6)),
-        free: wire::be16(b, at + 8),
+        fixtures: u16::at(b, at + 2),
+        decimetres: u16::at(b, at + 4),
+        elevation: i16::at(b, at + 6),
+        free: u16::at(b, at + 8),
     }
 }
 
