@@ -1,6 +1,7 @@
 -- Rows that keep their rules read at a flow: whether they serve it, the line from zero, the line between two rows, and the largest and the least reading.
 -- Assumes nothing.
-use mathlib.Core.Path.{◌≡◌, ◌∙◌}
+use Rattle.std.proofs.Common.{Some, None}
+use mathlib.Core.Path.{◌≡◌, sym, ◌∙◌}
 use mathlib.Core.Bool.{true, false, cond}
 use mathlib.Core.List.{List}
 use mathlib.Core.Logic.{⊎_elim}
@@ -13,7 +14,8 @@ use Rattle.basis.proofs.Split.{either, eq_or_ne}
 use Rattle.wire.specs.Wire.{byte_at}
 use Rattle.wire.proofs.Fields.{be_lt}
 use Rattle.catalogue.specs.Layout.{flow_at, velocity_at, slope_at}
-use Rattle.catalogue.specs.Reading.{SizeAtFlow, between, serves_at, read_rows}
+use Rattle.catalogue.specs.Reading.{SizeAtFlow, between, serves_at, read_rows, served_of}
+use Rattle.catalogue.specs.declared.reading.Reading.{Reading}
 use Rattle.catalogue.specs.declared.layout.Row.{Row}
 use Rattle.catalogue.specs.Steps.{Rows, Above, row_before}
 use Rattle.catalogue.proofs.RowBounds.{RowIn, Rises, row_in, rows_own}
@@ -32,6 +34,27 @@ module _ (rows : List ℕ) (n q : ℕ) where
   pub reading_over : flow_at rows (n - 1) < q → read_rows rows n q ≡ record { serves = false; velocity = 0; slope = 0 }
   unfolding read_rows serves_at
   reading_over h = rw (lt-leb q (flow_at rows (n - 1)) h)
+
+-- what a reading gives, by whether it serves
+module _ (r : SizeAtFlow) where
+  given : r.serves ≡ true → served_of r ≡ Some (record { velocity = r.velocity; slope = r.slope })
+  unfolding served_of
+  given e = rw e
+
+  kept : r.serves ≡ false → served_of r ≡ None
+  unfolding served_of
+  kept e = rw e
+
+  pub served_none : served_of r ≡ None → r.serves ≡ false
+  served_none e =
+      ⊎_elim (λ (o : r.serves ≡ true). absurd (let f = sym (given o) ∙ e in cc)) (λ o. o) (either r.serves)
+
+  pub served_some : (x : Reading) → served_of r ≡ Some x → (r.serves ≡ true) × (x.velocity ≡ r.velocity) × (x.slope ≡ r.slope)
+  served_some x e =
+      ⊎_elim
+      (λ (o : r.serves ≡ true). let f = sym (given o) ∙ e in (o, cc, cc))
+      (λ (o : r.serves ≡ false). absurd (let f = sym (kept o) ∙ e in cc))
+      (either r.serves)
 
 -- a point of flow x and row k, with the straight lines between them at q
 abbrev pub on_line : List ℕ → ℕ → ℕ → ℕ → ℕ → ℕ → SizeAtFlow
