@@ -6,12 +6,11 @@ use mathlib.Core.Bool.{false}
 use mathlib.Core.List.{List}
 use Prim.Native.Nat.{ℕ, ◌+◌, ◌-◌, ◌*◌, ◌^◌, ◌%◌, ◌≤◌, ◌<◌}
 use native.Mathlib.Omega.{arith}
-use native.Mathlib.Nat.{one-mul, mod-eq_of_lt}
 use lib.Dec.{leb}
-use lib.Pow.{pow-lt}
 use lib.ListN.{get_or, set, replicate, length-set, get_or-replicate}
 use lib.Seq.{get_or-set_same, get_or-set_other}
 use borrow.Author.Tests.{le-leb, lt-leb, eq-eqb, ne_eqb}
+use Rattle.std.proofs.lemmas.Nat.{one_shl}
 use Rattle.basis.specs.Range.{within}
 use Rattle.basis.proofs.Split.{lt_or_ge, eq_or_ne}
 use Rattle.fields.specs.declared.Job.{Job}
@@ -48,19 +47,11 @@ rest {f} {v} {j} done p h = done.at j h ∙ rw (le-leb 1 j p, lt-leb j (j - 1) (
 
 -- a shift of one
 pub shifted : (j : ℕ) → j < 64 → (1 * 2 ^ j) % 2 ^ 64 ≡ 2 ^ j
-shifted j h = rw (one-mul (2 ^ j)) (mod-eq_of_lt (pow-lt h))
+shifted j h = one_shl j 64 h
 
 pub singles_start : Singles 0 (replicate 64 0)
 singles_start =
     record { long = refl; own = filled_start (λ j. 2 ^ j) (λ i. get_or (replicate 64 0) i 0) (λ i h. get_or-replicate 64 i 0 0 h) }
-
-pub singles_more : {l : List ℕ} {j : ℕ} → Singles (j - 1) l → 0 < j → j < 64 → Singles (j + 1 - 1) (set l j (2 ^ j))
-singles_more {l} {j} s p h =
-    record {
-      long = length-set l _ _ ∙ s.long;
-      own = filled_more s.own p (λ i. get_or (set l j (2 ^ j)) i 0) (get_or-set_same l j (2 ^ j) 0 (omega (arith, s.long)))
-          (λ i ne. get_or-set_other l j i (2 ^ j) 0 ne);
-    }
 
 own_at : (job : Job) (kind j : ℕ) → (section_of job j).kind ≡ kind → own_of job kind j ≡ (section_of job j).fixtures
 unfolding own_of
