@@ -2,12 +2,13 @@
 -- Assumes nothing.
 use Rattle.std.proofs.Common.{arith, sym, ◌∙◌}
 use Rattle.answer.proofs.Some.{number_at_exit}
-use Rattle.acceptance.proofs.Accepting.{accept_accepted}
-use Rattle.flow.proofs.Ordering.{flow_refused}
+use Rattle.acceptance.proofs.Accepting.{job_refused, accept_accepted}
+use Rattle.flow.specs.Calls.{flow_no}
 use Rattle.flow.proofs.flow.Goals as goal
 
 pub returns-in_err-job-clause-number : goal.returns-in_err-job-clause-number
-returns-in_err-job-clause-number c = number_at_exit _ _ c.from_residual.ensures.1 ∙ flow_refused _ _ _ c.in_err-job.ensures.number
+unfolding flow_no
+returns-in_err-job-clause-number c = number_at_exit _ _ c.from_residual.ensures.1 ∙ job_refused _ _ _ c.in_err-job.ensures.number
 
 pub put_result-requires : goal.put_result-requires
 put_result-requires c =
