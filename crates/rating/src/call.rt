@@ -4,6 +4,7 @@ ghost use Rattle.answer.specs.Answer.{number_of};
 ghost use Rattle.answer.specs.Checks.{buffer_after};
 ghost use Rattle.fields.specs.Fields.{count_of};
 ghost use Rattle.record.specs.Record.{decode};
+ghost use Rattle.rated_bytes.specs.Figures.{flows_of, velocities_of, losses_of};
 ghost use Rattle.rating.specs.Calls.{sized_no, rate_no, rate_bytes, losses_no, losses_bytes};
 ghost use Rattle.rating.specs.Steps.{RatedJob, Blank};
 
@@ -19,8 +20,8 @@ pub fn outcome(b: &[u8], cat: &[u8], list: &[u8], room: usize, front: usize, eac
     ensures number { number_of result.answer ≡ sized_no b.now cat.now list.now room
         (front + each * count_of (decode b.now)) }
     ensures rated { number_of result.answer ≡ 0 → RatedJob b.now cat.now list.now room
-        (front + each * count_of (decode b.now)) result.job result.flows result.velocities result.losses }
-    ensures refused { (number_of result.answer ≡ 0 → ⊥) → Blank result.job result.flows result.velocities result.losses }
+        (front + each * count_of (decode b.now)) result.job (flows_of result.figures) (velocities_of result.figures) (losses_of result.figures) }
+    ensures refused { (number_of result.answer ≡ 0 → ⊥) → Blank result.job (flows_of result.figures) (velocities_of result.figures) (losses_of result.figures) }
 {
     let accepted = accept_both(b, cat);
     let answer = accepted.answer;
@@ -35,19 +36,13 @@ pub fn outcome(b: &[u8], cat: &[u8], list: &[u8], room: usize, front: usize, eac
     if room < front + each * count {
         return refused(Answer::ResultShort);
     }
-    let rated = rate_sections(job, cat, list);
-    if rated.over {
+    let Some(figures) = rate_sections(job, cat, list) else {
         return refused(Answer::SizeTooSmall);
-    }
-    let flows = rated.flows;
-    let velocities = rated.velocities;
-    let losses = rated.losses;
+    };
     Outcome {
         answer,
         job,
-        flows,
-        velocities,
-        losses,
+        figures,
     }
 }
 
@@ -62,11 +57,7 @@ pub fn rate(b: &[u8], cat: &[u8], list: &[u8], out: &mut [u8]) -> Answer
     if answer::number(answer) != 0 {
         return answer;
     }
-    let job = found.job;
-    let flows = found.flows;
-    let velocities = found.velocities;
-    let losses = found.losses;
-    put_result(out, job, flows, velocities, losses);
+    put_result(out, found.job, &found.figures);
     answer
 }
 
@@ -81,10 +72,7 @@ pub fn losses(b: &[u8], cat: &[u8], list: &[u8], out: &mut [u8]) -> Answer
     if answer::number(answer) != 0 {
         return answer;
     }
-    let count = found.job.header.sections as usize;
-    let flows = found.flows;
-    let velocities = found.velocities;
-    let losses = found.losses;
-    put_sections(out, 0, 0, count, flows, velocities, losses);
+    let count = usize::from(found.job.header.sections);
+    put_sections(out, 0, 0, count, &found.figures);
     answer
 }
