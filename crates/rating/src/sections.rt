@@ -14,7 +14,8 @@ pub fn list_ok(job: Job, cat: &[u8], list: &[u8]) -> bool
     ensures { result ≡ list_ok job cat.now list.now }
 {
     let sizes = catalogue::sizes_of(cat);
-    list.len() == usize::from(job.header.sections) && list.iter().all(|&size| 1 <= size && size <= sizes)
+    list.len() == usize::from(job.header.sections)
+        && list.iter().all(|size| (1..=sizes).contains(size))
 }
 
 // The figures of each section with its size, at the sections' places, where no section is over its last row or the limit.
@@ -22,7 +23,7 @@ pub fn rate_sections(job: Job, cat: &[u8], list: &[u8]) -> Option<[Figure; 64]>
     requires { Rateable job cat.now list.now }
     ensures { MatchOption result (over_any job cat.now list.now ≡ true)
         (λ figures. (over_any job cat.now list.now ≡ false)
-            × RatedAt job cat.now list.now (flows_of figures) (velocities_of figures) (losses_of figures)) }
+        × RatedAt job cat.now list.now (flows_of figures) (velocities_of figures) (losses_of figures)) }
 {
     let flows = demand::flows(job);
     let mut figures = [Figure::default(); 64];

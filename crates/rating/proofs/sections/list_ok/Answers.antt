@@ -4,7 +4,6 @@ use Rattle.std.proofs.Common.{◌≡◌, length, sym, ◌∙◌, rules, tests, a
 use Rattle.std.specs.List.{list_all}
 use Rattle.std.proofs.lemmas.Iterator.{YieldsList-from_slice}
 use Rattle.std.proofs.lemmas.Iterator.Search.{all_from_yields_List}
-use borrow.Author.Tests.{ne_eqb}
 use Rattle.basis.specs.Range.{within}
 use Rattle.fields.specs.Fields.{count_of}
 use Rattle.catalogue.specs.Layout.{sizes_of}
@@ -22,4 +21,4 @@ returns-then-list-from c =
 
 pub returns-else-list-from : goal.returns-else-list-from
 returns-else-list-from c =
-    ne_eqb _ _ c.if-list-from.false ∙ sym (named.other_length c.args.job c.args.cat.now c.args.list.now (λ e. c.if-list-from.false (omega arith)))
+    rw (named.other_length c.args.job c.args.cat.now c.args.list.now (λ e. omega arith)) (search (rules, tests))

@@ -25,8 +25,7 @@ loop-i-init c =
 pub try_size-requires : goal.try_size-requires
 try_size-requires c =
     let i = c.loop-i.i in
-    let s = list_names c.args.job c.args.cat.now c.args.list.now c.requires.list i (omega arith) (omega arith) in
-    (
+    let s = list_names c.args.job c.args.cat.now c.args.list.now c.requires.list i (omega arith) (omega arith) in (
       c.requires.cat,
       (omega arith, omega arith),
       (
