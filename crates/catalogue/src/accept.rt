@@ -6,7 +6,8 @@ ghost use Rattle.catalogue.specs.Rules.{shape_ok, row_ok, rises_at, rows_ok, siz
 ghost use Rattle.catalogue.specs.Steps.{Sized};
 
 use crate::layout::{bore, price, row_at, rows_of, size_from, sizes_of};
-use answer::Answer;
+use answer::Refusal;
+use wire::Field;
 
 // 10: length, version and counts.
 #[tactic(auto, unfolding(crate::specs::Rules::shape_ok))]
@@ -21,7 +22,7 @@ fn shape_ok(cat: &[u8]) -> bool
     cat[4] == 1
         && (1..=12).contains(&sizes)
         && (2..=64).contains(&rows)
-        && wire::be32(cat, 0) as usize == cat.len()
+        && u32::at(cat, 0) as usize == cat.len()
         && cat.len() == 7 + sizes * (4 + 8 * rows)
 }
 
@@ -89,15 +90,15 @@ fn sizes_ok(cat: &[u8]) -> bool
     true
 }
 
-// Any bytes are accepted or get 10 or 11.
-pub fn catalogue_refusal(cat: &[u8]) -> Answer
+/// Any bytes are accepted or get 10 or 11.
+pub fn catalogue_refusal(cat: &[u8]) -> Result<(), Refusal>
     ensures { number_of result ≡ cat_no cat.now }
 {
     if !shape_ok(cat) {
-        return Answer::CatalogueShape;
+        return Err(Refusal::CatalogueShape);
     }
     if !sizes_ok(cat) {
-        return Answer::CatalogueRules;
+        return Err(Refusal::CatalogueRules);
     }
-    Answer::Done
+    Ok(())
 }

@@ -3,6 +3,8 @@ ghost use Rattle.std.specs.Prelude.{◌≡◌, ◌+◌, ◌*◌, ◌≤◌, ◌<
 ghost use Rattle.catalogue.specs.Layout.{sizes_of, rows_of, size_from, bore_of, price_of, flow_at, velocity_at, slope_at};
 ghost use Rattle.catalogue.specs.Steps.{Sized, row_at, row_before};
 
+use wire::Field;
+
 // The number of sizes, and of rows of each size.
 pub fn sizes_of(cat: &[u8]) -> u8
     requires { 7 ≤ length cat.now }
@@ -32,7 +34,7 @@ pub fn bore(cat: &[u8], s: usize) -> u16
     requires { Sized cat.now s }
     ensures { result ≡ bore_of cat.now s }
 {
-    wire::be16(cat, size_from(cat, s))
+    u16::at(cat, size_from(cat, s))
 }
 
 // The price of size s per metre.
@@ -41,7 +43,7 @@ pub fn price(cat: &[u8], s: usize) -> u16
     requires { Sized cat.now s }
     ensures { result ≡ price_of cat.now s }
 {
-    wire::be16(cat, size_from(cat, s) + 2)
+    u16::at(cat, size_from(cat, s) + 2)
 }
 
 // Flow in ml/s, velocity in mm/s and slope in mm per metre.
@@ -58,7 +60,7 @@ pub fn row_flow(rows: &[u8], k: usize) -> u32
     requires { 8 * k + 8 ≤ length rows.now }
     ensures { result ≡ flow_at rows.now k }
 {
-    wire::be32(rows, 8 * k)
+    u32::at(rows, 8 * k)
 }
 
 // Row k of a part.
@@ -69,8 +71,8 @@ pub fn row_at(rows: &[u8], k: usize) -> Row
 {
     Row {
         flow: row_flow(rows, k),
-        velocity: u32::from(wire::be16(rows, 8 * k + 4)),
-        slope: u32::from(wire::be16(rows, 8 * k + 6)),
+        velocity: u32::from(u16::at(rows, 8 * k + 4)),
+        slope: u32::from(u16::at(rows, 8 * k + 6)),
     }
 }
 

@@ -5,6 +5,7 @@ ghost use Rattle.catalogue.specs.Reading.{read_rows, served_of};
 ghost use Rattle.catalogue.specs.Steps.{Rows, AcceptedCat, Above};
 
 use crate::layout::{row_at, row_before, row_flow, rows_of, size_from};
+use round::Point;
 
 // Velocity in mm/s and slope in mm per metre.
 #[derive(Clone, Copy)]
@@ -43,8 +44,28 @@ fn read_rows(rows: &[u8], n: usize, q: u32) -> Option<Reading>
     let from = row_before(rows, k);
     let to = row_at(rows, k);
     Some(Reading {
-        velocity: round::line_at(from.flow, from.velocity, to.flow, to.velocity, q),
-        slope: round::line_at(from.flow, from.slope, to.flow, to.slope, q),
+        velocity: round::line_at(
+            Point {
+                x: from.flow,
+                y: from.velocity,
+            },
+            Point {
+                x: to.flow,
+                y: to.velocity,
+            },
+            q,
+        ),
+        slope: round::line_at(
+            Point {
+                x: from.flow,
+                y: from.slope,
+            },
+            Point {
+                x: to.flow,
+                y: to.slope,
+            },
+            q,
+        ),
     })
 }
 

@@ -9,7 +9,7 @@ ghost use Rattle.tree.specs.Tree.{Rooted};
 ghost use Rattle.tree.specs.Rows.{Kinds};
 ghost use Rattle.rules.specs.Rules.{version_ok, service_ok, header_ok, kind_ok, elevation_ok, section_ok, sections_ok, childless_zero, unmatched, field_checks};
 
-use answer::Answer;
+use answer::Refusal;
 use fields::{Header, Job, Section};
 use tree::{counts, sets};
 
@@ -177,19 +177,19 @@ fn unmatched_kind(job: Job) -> bool
     false
 }
 
-// The first of 5, 6 and 7 that the job breaks; `Done` where it breaks none.
-pub fn broken_rule(job: Job) -> Answer
+/// The first of 5, 6 and 7 that the job breaks, if it breaks one.
+pub fn broken_rule(job: Job) -> Result<(), Refusal>
     requires { count_of job ≤ 63 }
     ensures { number_of result ≡ first_no (field_checks job) }
 {
     if !sections_ok(job) {
-        return Answer::SectionRules;
+        return Err(Refusal::SectionRules);
     }
     if childless_zero(job) {
-        return Answer::ChildlessKind;
+        return Err(Refusal::ChildlessKind);
     }
     if unmatched_kind(job) {
-        return Answer::Residents;
+        return Err(Refusal::Residents);
     }
-    Answer::Done
+    Ok(())
 }
