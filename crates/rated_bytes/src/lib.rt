@@ -11,6 +11,7 @@ ghost use Rattle.rated_bytes.specs.Figures.{flows_of, velocities_of, losses_of};
 ghost use Rattle.rated_bytes.specs.RatedBytes.{rate_length, heads_length, heads_bytes, result_bytes};
 
 use fields::Job;
+use wire::Field;
 
 // Flow, velocity in mm/s and loss in cm of a section.
 #[derive(Clone, Copy, Default)]
@@ -26,9 +27,9 @@ impl Figure {
         ensures { result ≡ bytes_of 4 self.flow ++ (bytes_of 2 self.velocity ++ bytes_of 4 self.loss) }
     {
         let mut bytes = [0; 10];
-        wire::put_be32(&mut bytes, 0, self.flow);
-        wire::put_be16(&mut bytes, 4, self.velocity);
-        wire::put_be32(&mut bytes, 6, self.loss);
+        self.flow.put_at(&mut bytes, 0);
+        self.velocity.put_at(&mut bytes, 4);
+        self.loss.put_at(&mut bytes, 6);
         bytes
     }
 }
@@ -46,8 +47,8 @@ pub fn put_heads(out: &mut [u8], job: Job, losses: [u32; 64])
     ensures { out.new ≡ stored out.old 0 (heads_bytes job (λ i. get_or losses i 0)) }
 {
     let heads = heads::heads_of(job, losses);
-    wire::put_be32(out, 0, wire::bits32(heads.required));
-    wire::put_be32(out, 4, heads.pump);
+    heads.required.put_at(out, 0);
+    heads.pump.put_at(out, 4);
     out[8] = heads.dictating as u8;
 }
 

@@ -2,7 +2,8 @@
 -- Assumes nothing.
 use Rattle.std.proofs.Common.{◌≡◌, ◌≤◌, refl, ◌∙◌, arith, rules}
 use Rattle.heads.proofs.Bounds.{dictating_small}
-use Rattle.wire.specs.Wire.{bits_of}
+use Rattle.basis.specs.Stored.{stored}
+use Rattle.wire.specs.Wire.{bytes_of, bits_of}
 use Rattle.rated_bytes.specs.RatedBytes.{heads_bytes}
 use Rattle.rated_bytes.proofs.Written.{heads_stored}
 use Rattle.rated_bytes.proofs.put_heads.Goals as goal
@@ -14,6 +15,6 @@ overflow_cast-out c =
 pub returns : goal.returns
 unfolding heads_bytes
 returns c =
-    let bits : c.bits32.result ≡ bits_of 32 c.heads_of-heads.result.required = search rules in
-    rw (c.put_be32-2.ensures, c.put_be32.ensures, bits)
+    let first : c.put_at.new.s ≡ stored c.args.out.now 0 (bytes_of 4 (bits_of 32 c.heads_of-heads.result.required)) = search rules in
+    rw (c.put_at-2.ensures, first)
     (heads_stored _ _ _ _ (omega arith) ∙ rw (c.heads_of-heads.ensures.0, c.heads_of-heads.ensures.1, c.heads_of-heads.ensures.2) refl)

@@ -6,4 +6,4 @@ use Rattle.rated_bytes.proofs.Figure.bytes.Goals as goal
 
 pub returns : goal.returns
 unfolding stored bytes_of
-returns c = rw (c.put_be32-2.ensures, c.put_be16.ensures, c.put_be32.ensures)
+returns c = rw (c.put_at-3.ensures, c.put_at-2.ensures, c.put_at.ensures)
