@@ -10,8 +10,9 @@ ghost use Rattle.lent_losses.specs.LentLosses.{loss_in, losses_ok};
 ghost use Rattle.lent_losses.specs.Calls.{heads_no, lent_bytes};
 
 use acceptance::accept;
-use answer::Answer;
+use answer::Refusal;
 use rated_bytes::put_heads;
+use wire::Field;
 
 // The most that a section loses, in cm.
 const MOST_LOSS: u32 = 4259775;
@@ -30,7 +31,7 @@ fn read_losses(given: &[u8], count: usize) -> Option<[u32; 64]>
     }
     let mut at = [0; 64];
     for i in 1..=count {
-        let loss = wire::be32(given, 4 * (i - 1));
+        let loss = u32::at(given, 4 * (i - 1));
         if MOST_LOSS < loss {
             return None;
         }
@@ -40,23 +41,17 @@ fn read_losses(given: &[u8], count: usize) -> Option<[u32; 64]>
 }
 
 // Required head, pump head and dictating section, or a number and the buffer as it was.
-pub fn heads(b: &[u8], given: &[u8], out: &mut [u8]) -> Answer
+pub fn heads(b: &[u8], given: &[u8], out: &mut [u8]) -> Result<(), Refusal>
     ensures number { number_of result ≡ heads_no b.now given.now (length out.old) }
     ensures buffer { out.new ≡ buffer_after (number_of result)
         (lent_bytes (decode b.now) given.now) out.old }
 {
-    let accepted = accept(b);
-    let answer = accepted.answer;
-    if answer::number(answer) != 0 {
-        return answer;
-    }
-    let job = accepted.job;
-    let Some(losses) = read_losses(given, usize::from(job.header.sections)) else {
-        return Answer::LossList;
-    };
+    let job = accept(b)?;
+    let count = usize::from(job.header.sections);
+    let losses = read_losses(given, count).ok_or(Refusal::LossList)?;
     if out.len() < HEADS_LENGTH {
-        return Answer::ResultShort;
+        return Err(Refusal::ResultShort);
     }
     put_heads(out, job, losses);
-    answer
+    Ok(())
 }

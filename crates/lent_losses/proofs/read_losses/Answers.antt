@@ -14,11 +14,11 @@ loop-i-init c = (omega arith, listed_none _)
 pub returns-then-loss-gt-MOST_LOSS : goal.returns-then-loss-gt-MOST_LOSS
 unfolding loss_in
 returns-then-loss-gt-MOST_LOSS c =
-    one_over _ _ (omega arith) c.loop-i.i (omega arith) (omega arith) (rw (← c.be32-loss.ensures) (omega arith))
+    one_over _ _ (omega arith) c.loop-i.i (omega arith) (omega arith) (rw (← c.at-loss.ensures) (omega arith))
 
 pub loop-i-preserved : goal.loop-i-preserved
 unfolding loss_in
-loop-i-preserved c = (omega arith, listed_more _ c.loop-i.invariant.1 (omega arith) (omega arith) c.be32-loss.ensures (omega arith))
+loop-i-preserved c = (omega arith, listed_more _ c.loop-i.invariant.1 (omega arith) (omega arith) c.at-loss.ensures (omega arith))
 
 pub returns-else-given-count : goal.returns-else-given-count
 returns-else-given-count c = listed_all _ _ c.loop-i.invariant.1 (omega arith) (omega arith)
@@ -26,4 +26,4 @@ returns-else-given-count c = listed_all _ _ c.loop-i.invariant.1 (omega arith) (
 pub returns-else-loss-gt-MOST_LOSS : goal.returns-else-loss-gt-MOST_LOSS
 unfolding loss_in
 returns-else-loss-gt-MOST_LOSS c =
-    listed_all _ _ (listed_more _ c.loop-i.invariant.1 (omega arith) (omega arith) c.be32-loss.ensures (omega arith)) (omega arith) (omega arith)
+    listed_all _ _ (listed_more _ c.loop-i.invariant.1 (omega arith) (omega arith) c.at-loss.ensures (omega arith)) (omega arith) (omega arith)
