@@ -1,7 +1,7 @@
 -- Two records that differ in the meter loss alone: the one is accepted where the other is, given a meter loss in range, and flow and mean
 -- hour of the house are the same.
 -- Assumes nothing.
-use mathlib.Core.Path.{◌≡◌, refl, ◌∙◌}
+use mathlib.Core.Path.{◌≡◌, refl, sym}
 use mathlib.Core.Bool.{true}
 use mathlib.Core.List.{List}
 use Prim.Native.Nat.{ℕ, ◌≤◌}

@@ -1,6 +1,6 @@
 -- `acceptance::accept` meets its contract.
 -- Assumes nothing.
-use mathlib.Core.Path.{◌≡◌, sym, ◌∙◌}
+use mathlib.Core.Path.{sym, ◌∙◌}
 use Rattle.answer.proofs.Some.{number_at_exit}
 use Rattle.acceptance.proofs.Accepting.{accept_refused, accept_passed, read_valid}
 use Rattle.acceptance.proofs.accept.Goals as goal

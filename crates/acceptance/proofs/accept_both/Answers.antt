@@ -1,6 +1,6 @@
 -- `acceptance::accept_both` meets its contract.
 -- Assumes nothing.
-use mathlib.Core.Path.{◌≡◌, ◌∙◌}
+use mathlib.Core.Path.{◌∙◌}
 use Rattle.answer.proofs.Some.{number_at_exit}
 use Rattle.acceptance.proofs.Accepting.{input_refused, input_passed}
 use Rattle.acceptance.proofs.accept_both.Goals as goal
