@@ -1,6 +1,6 @@
 -- The loop over the sections: what it keeps, one section more, and the end.
 -- Assumes nothing.
-use Rattle.std.proofs.Common.{◌≡◌, ℕ, ◌+◌, ◌-◌, ◌≤◌, ◌<◌, true, false, List, Option, Some, None, sym, ◌∙◌, refl, arith}
+use Rattle.std.proofs.Common.{◌≡◌, ℕ, ◌+◌, ◌-◌, ◌≤◌, ◌<◌, true, false, List, Some, None, sym, ◌∙◌, refl, arith}
 use mathlib.Core.Logic.{⊎_elim}
 use native.Mathlib.Nat.{add-sub_cancel}
 use lib.ListN.{get_or, set, replicate}
@@ -35,6 +35,7 @@ module _ (job : Job) (cat list : List ℕ) where
     pub small : figure.loss ≤ 4259775
     pub thin : figure.velocity ≤ 65535
 
+  -- the flow of section i in the list of flows
   pub flow_in : {flows : List ℕ} (i : ℕ) → flows ≡ slots 64 1 (count_of job + 1) 0 (section_flow job) → 0 < i → i ≤ count_of job → count_of job ≤ 63 →
       get_or flows i 0 ≡ section_flow job i
   flow_in i e low high few = rw e (slots_in 64 1 (count_of job + 1) 0 (section_flow job) i 0 (omega arith) (omega arith) (omega arith))

@@ -1,12 +1,8 @@
 -- Each section with its size: the first that is over ends the loop, and the figures of the others stand at their places.
 -- Assumes nothing.
-use Rattle.std.proofs.Common.{◌≡◌, ◌+◌, ◌-◌, ◌≤◌, get_or, None, MatchOption, ◌∙◌, sym, rules, arith}
-use Rattle.basis.proofs.Slots.{slots_in}
-use Rattle.basis.specs.Sections.{size_of}
-use Rattle.fields.specs.Fields.{count_of}
+use Rattle.std.proofs.Common.{get_or, arith}
 use Rattle.rules.proofs.HeaderBounds.{header_in}
 use Rattle.rules.proofs.Kept.{sections_in}
-use Rattle.demand.specs.Demand.{section_flow}
 use Rattle.demand.proofs.Validity.{valid_count, valid_sections}
 use Rattle.sizing.proofs.Named.{list_long, list_names}
 use Rattle.rating.proofs.Upto.{Figures, flow_in, none_tried, some_tried, upto_start, upto_more, upto_over, upto_end}
