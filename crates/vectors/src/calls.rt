@@ -9,7 +9,7 @@ use std::io::Write;
 
 // What a line gives to its call.
 #[derive(Clone, Copy)]
-struct Given<'a> {
+struct Input<'a> {
     fill: u8,
     length: usize,
     job: &'a [u8],
@@ -35,7 +35,7 @@ pub fn answer(to: &mut Output, letter: u8, data: &[u8]) -> io::Result<()> {
     if 8192 < room {
         return Ok(());
     }
-    let given = Given {
+    let input = Input {
         fill,
         length,
         job,
@@ -43,32 +43,29 @@ pub fn answer(to: &mut Output, letter: u8, data: &[u8]) -> io::Result<()> {
         list,
     };
     let mut buffer = [fill; 8192];
-    call(to, letter, &given, &mut buffer[..room])
+    call(to, letter, &input, &mut buffer[..room])
 }
 
-fn call(to: &mut Output, letter: u8, given: &Given<'_>, out: &mut [u8]) -> io::Result<()> {
-    let job = given.job;
+fn call(to: &mut Output, letter: u8, input: &Input<'_>, out: &mut [u8]) -> io::Result<()> {
+    let record = input.job;
+    let second = input.second;
+    let list = input.list;
     match letter {
-        b'r' => jobs::read(to, job, out),
-        b'w' => jobs::write(to, job, out),
-        b'c' => copy(to, job, out),
-        b'a' => alpha(to, job),
-        b'f' => flow(to, job, out),
-        b'd' => duty(to, job, out),
-        b't' => heat(to, job, given.second, out),
-        b'm' => meter(to, job, given.second, out),
-        b'p' => rate(to, job, given.second, given.list, out),
-        b'e' => losses(to, job, given.second, given.list, out),
-        b'h' => heads(to, job, given.second, out),
-        b's' => sheet(to, job, given.length, out),
-        b'l' | b'k' => choose(to, letter, given, out),
+        b'r' => jobs::read(to, record, out),
+        b'w' => jobs::write(to, record, out),
+        b'c' => to.given(job::copy(record, out), out),
+        b'a' => alpha(to, record),
+        b'f' => to.given(flow::flow(record, out), out),
+        b'd' => to.given(flow::duty(record, out), out),
+        b't' => heat(to, record, second, out),
+        b'm' => to.given(metering::meter(record, second, out), out),
+        b'p' => to.given(rating::rate(record, second, list, out), out),
+        b'e' => to.given(rating::losses(record, second, list, out), out),
+        b'h' => to.given(lent_losses::heads(record, second, out), out),
+        b's' => sheet(to, record, input.length, out),
+        b'l' | b'k' => choose(to, letter, input, out),
         _ => Ok(()),
     }
-}
-
-fn copy(to: &mut Output, record: &[u8], out: &mut [u8]) -> io::Result<()> {
-    let answer = job::copy(record, out);
-    to.given(answer, out)
 }
 
 // The coefficient of an m of four bytes.
@@ -80,55 +77,15 @@ fn alpha(to: &mut Output, m: &[u8]) -> io::Result<()> {
     write!(to, "{:08x}", coefficient::alpha(&table, wire::be32(m, 0)))
 }
 
-fn flow(to: &mut Output, record: &[u8], out: &mut [u8]) -> io::Result<()> {
-    let answer = flow::flow(record, out);
-    to.given(answer, out)
-}
-
-fn duty(to: &mut Output, record: &[u8], out: &mut [u8]) -> io::Result<()> {
-    let answer = flow::duty(record, out);
-    to.given(answer, out)
-}
-
 // The temperature and the loss are four bytes each.
 fn heat(to: &mut Output, record: &[u8], asked: &[u8], out: &mut [u8]) -> io::Result<()> {
     if asked.len() != 8 {
         return Ok(());
     }
-    let answer = heating::heat(record, wire::be32(asked, 0), wire::be32(asked, 4), out);
-    to.given(answer, out)
-}
-
-fn meter(to: &mut Output, record: &[u8], meters: &[u8], out: &mut [u8]) -> io::Result<()> {
-    let answer = metering::meter(record, meters, out);
-    to.given(answer, out)
-}
-
-fn rate(
-    to: &mut Output,
-    record: &[u8],
-    catalogue: &[u8],
-    list: &[u8],
-    out: &mut [u8],
-) -> io::Result<()> {
-    let answer = rating::rate(record, catalogue, list, out);
-    to.given(answer, out)
-}
-
-fn losses(
-    to: &mut Output,
-    record: &[u8],
-    catalogue: &[u8],
-    list: &[u8],
-    out: &mut [u8],
-) -> io::Result<()> {
-    let answer = rating::losses(record, catalogue, list, out);
-    to.given(answer, out)
-}
-
-fn heads(to: &mut Output, record: &[u8], losses: &[u8], out: &mut [u8]) -> io::Result<()> {
-    let answer = lent_losses::heads(record, losses, out);
-    to.given(answer, out)
+    to.given(
+        heating::heat(record, wire::be32(asked, 0), wire::be32(asked, 4), out),
+        out,
+    )
 }
 
 // The value of a call is not written out in the proofs of its callers, so the longest arrays have functions of their own.
@@ -138,15 +95,15 @@ fn blank() -> [u8; 131072] {
 
 // The text of the sheet of an input that ends in so many zero bytes.
 fn sheet(to: &mut Output, front: &[u8], zeros: usize, out: &mut [u8]) -> io::Result<()> {
-    let mut input = blank();
-    let Some((start, rest)) = input.split_at_mut_checked(front.len()) else {
+    let mut bytes = blank();
+    let Some((start, rest)) = bytes.split_at_mut_checked(front.len()) else {
         return Ok(());
     };
     if rest.len() < zeros {
         return Ok(());
     }
     start.copy_from_slice(front);
-    let n = sheet_text::sheet(&input[..front.len() + zeros], out);
+    let n = sheet_text::sheet(&bytes[..front.len() + zeros], out);
     match out.get(..n) {
         Some(text) => to.hex(text),
         None => Ok(()),
@@ -159,12 +116,12 @@ fn workspace(fill: u8) -> [u8; 1792256] {
 }
 
 // Of a line `k`, where several lists are equally cheap, only the cost is shown. After a result and after 16 the workspace is free.
-fn choose(to: &mut Output, letter: u8, given: &Given<'_>, out: &mut [u8]) -> io::Result<()> {
-    let mut whole = workspace(given.fill);
-    let Some(work) = whole.get_mut(..given.length) else {
+fn choose(to: &mut Output, letter: u8, input: &Input<'_>, out: &mut [u8]) -> io::Result<()> {
+    let mut whole = workspace(input.fill);
+    let Some(work) = whole.get_mut(..input.length) else {
         return Ok(());
     };
-    let answer = choosing::choose(given.job, given.second, work, out);
+    let answer = choosing::choose(input.job, input.second, work, out);
     if letter == b'k' && 4 <= out.len() {
         to.given(answer, &out[..4])?;
     } else {
@@ -172,7 +129,7 @@ fn choose(to: &mut Output, letter: u8, given: &Given<'_>, out: &mut [u8]) -> io:
     }
     match answer {
         Answer::Done | Answer::NoSuitableList => Ok(()),
-        _ => kept(to, work, given.fill),
+        _ => kept(to, work, input.fill),
     }
 }
 

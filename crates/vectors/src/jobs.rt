@@ -50,8 +50,7 @@ fn job_of(raw: &[u8]) -> Job
 }
 
 fn written(to: &mut Output, job: Job, out: &mut [u8]) -> io::Result<()> {
-    let answer = job::write(job, out);
-    to.given(answer, out)
+    to.given(job::write(job, out), out)
 }
 
 fn fields(to: &mut Output, job: &Job) -> io::Result<()> {
