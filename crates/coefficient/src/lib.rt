@@ -8,6 +8,7 @@ ghost use Rattle.coefficient.specs.Table.{table, key_at, value_at};
 ghost use Rattle.coefficient.specs.Alpha.{alpha_of};
 ghost use Rattle.coefficient.specs.Reached.{Reached};
 
+use round::Point;
 pub use table::table2;
 
 // The i-th key of the table, counted from 0.
@@ -56,5 +57,13 @@ pub fn alpha(t: &[u32; 972], m: u32) -> u32
     if i == 485 {
         return value(t, i);
     }
-    round::line_at(key(t, i), value(t, i), key(t, i + 1), value(t, i + 1), m)
+    let low = Point {
+        x: key(t, i),
+        y: value(t, i),
+    };
+    let high = Point {
+        x: key(t, i + 1),
+        y: value(t, i + 1),
+    };
+    round::line_at(low, high, m)
 }
