@@ -6,24 +6,15 @@ ghost use Rattle.cells.specs.Cells.{cell_at};
 ghost use Rattle.cells.specs.Steps.{Offered, Filled, standing};
 
 use crate::cell::get;
-use numbers::{greater, lesser};
 use plan::MARK;
-
-pub fn least(a: u32, b: u32) -> u32
-    ensures { result ≡ min a b }
-{
-    if a < b { a } else { b }
-}
 
 // The mark at each place from start to end.
 pub fn fresh(best: &mut [u32; 7001], start: usize, end: usize)
     requires { (end ≤ 7001) × (length best.old ≡ 7001) }
     ensures { (length best.new ≡ 7001) × ((h : ℕ) → start ≤ h → h < end → get_or best.new h 0 ≡ mark) }
 {
-    let mut h = start;
-    while h < end {
+    for h in start..end {
         best[h] = MARK;
-        h += 1;
     }
 }
 
@@ -42,10 +33,8 @@ fn offer_row(
     requires by_index { (h : ℕ) → start ≤ h → h < end → cell_at ws.now (row + (h - loss)) ≤ mark }
     ensures { Offered best.old best.new start end (λ h. cost + cell_at ws.now (row + (h - loss))) }
 {
-    let mut h = start;
-    while h < end {
-        best[h] = least(best[h], get(ws, row + (h - loss)) + cost);
-        h += 1;
+    for h in start..end {
+        best[h] = best[h].min(get(ws, row + (h - loss)) + cost);
     }
 }
 
@@ -54,10 +43,8 @@ fn offer_flat(best: &mut [u32; 7001], cost: u32, start: usize, end: usize)
     requires { (end ≤ 7001) × (length best.old ≡ 7001) }
     ensures { Offered best.old best.new start end (λ h. cost) }
 {
-    let mut h = start;
-    while h < end {
-        best[h] = least(best[h], cost);
-        h += 1;
+    for h in start..end {
+        best[h] = best[h].min(cost);
     }
 }
 
@@ -77,9 +64,9 @@ pub fn offer(
     requires by_index { (h : ℕ) → start ≤ h → h < end → cell_at ws.now (row + min (h - loss) high) ≤ mark }
     ensures { Offered best.old best.new start end (λ h. cost + cell_at ws.now (row + min (h - loss) high)) }
 {
-    let mid = lesser(end, loss + high + 1);
+    let mid = end.min(loss + high + 1);
     offer_row(ws, best, row, loss, cost, start, mid);
-    let rest = greater(start, mid);
+    let rest = start.max(mid);
     if rest < end {
         offer_flat(best, get(ws, row + high) + cost, rest, end);
     }

@@ -4,7 +4,6 @@ ghost use Rattle.plan.specs.Plan.{mark};
 ghost use Rattle.cells.specs.Cells.{cell_at};
 ghost use Rattle.cells.specs.Steps.{Filled, standing};
 
-use crate::best::least;
 use crate::cell::{get, put};
 use plan::MARK;
 
@@ -15,11 +14,9 @@ pub fn add(ws: &mut [u8], best: &[u32; 7001], up: usize, start: usize, end: usiz
     ensures { Filled ws.old ws.new up start end
         (λ h. min mark (cell_at ws.old (up + h) + get_or best.now h 0)) }
 {
-    let mut h = start;
-    while h < end {
+    for h in start..end {
         let old = get(ws, up + h);
-        put(ws, up + h, least(best[h], MARK - old) + old);
-        h += 1;
+        put(ws, up + h, best[h].min(MARK - old) + old);
     }
 }
 
@@ -28,10 +25,8 @@ pub fn place(ws: &mut [u8], best: &[u32; 7001], up: usize, start: usize, end: us
     requires { (end ≤ 7001) × (4 * (up + end) ≤ length ws.old) }
     ensures { Filled ws.old ws.new up start end (λ h. get_or best.now h 0) }
 {
-    let mut h = start;
-    while h < end {
+    for h in start..end {
         put(ws, up + h, best[h]);
-        h += 1;
     }
 }
 
@@ -43,9 +38,7 @@ pub fn settle(ws: &mut [u8], begun: bool, up: usize, start: usize, end: usize)
     if begun {
         return;
     }
-    let mut h = start;
-    while h < end {
+    for h in start..end {
         put(ws, up + h, 0);
-        h += 1;
     }
 }
