@@ -1,2 +1,3 @@
 pub mod Workspace
+pub mod Heads
 pub mod Writes
