@@ -1,3 +1,2 @@
 pub mod Workspace
 pub mod Heads
-pub mod Writes
