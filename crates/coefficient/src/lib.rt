@@ -8,9 +8,8 @@ ghost use Rattle.coefficient.specs.Table.{pairs};
 ghost use Rattle.coefficient.specs.Alpha.{alpha_of};
 ghost use Rattle.coefficient.specs.Reached.{Reached};
 
-pub use table::table2;
-
 use round::Point;
+pub use table::table2;
 
 // The first key of the table.
 const FIRST_KEY: u32 = 15000;
@@ -33,10 +32,10 @@ pub fn alpha(t: &[(u32, u32); 486], m: u32) -> u32
     }
     let i = place(t, m);
     let (x, y) = t[i];
-    let low = Point { x, y };
     if i == 485 {
         return y;
     }
+    let low = Point { x, y };
     let (x, y) = t[i + 1];
     round::line_at(low, Point { x, y }, m)
 }
