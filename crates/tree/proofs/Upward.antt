@@ -1,7 +1,6 @@
 -- The sets and the counts of a job while each section's are added to its parent's, from the last section up.
 -- Assumes nothing.
-use mathlib.Core.Path.{◌≡◌, refl, ◌∙◌}
-use mathlib.Core.Logic.{⊎_elim}
+use mathlib.Core.Path.{◌≡◌, ◌∙◌}
 use mathlib.Core.Bool.{cond}
 use mathlib.Core.List.{List}
 use Prim.Native.Nat.{ℕ, suc, ◌+◌, ◌-◌, ◌*◌, ◌^◌, ◌≤◌, ◌<◌}
@@ -9,10 +8,9 @@ use native.Mathlib.Omega.{arith}
 use lib.Dec.{eqb}
 use lib.Pow.{pow_mono}
 use lib.ListN.{length, get_or, set, length-set}
-use lib.Seq.{get_or-set_same, get_or-set_other}
-use borrow.Author.Tests.{eq-eqb, ne_eqb}
+use Rattle.std.proofs.lemmas.Bool.Decides.{nat_tests}
+use Rattle.std.proofs.lemmas.Grind.{common_steps}
 use Rattle.basis.specs.Range.{sum_to}
-use Rattle.basis.proofs.Split.{eq_or_ne, either}
 use Rattle.basis.proofs.Sum.{sum_le, sum_pow}
 use Rattle.fields.specs.declared.Job.{Job}
 use Rattle.fields.specs.Fields.{count_of, section_of}
@@ -34,16 +32,11 @@ pub record Summed (job : Job) (t : ℕ) (n : List ℕ) : Type 0 where
 
 -- an element added to one before it
 added : (l : List ℕ) (p x i : ℕ) → p < length l → get_or (set l p (get_or l p 0 + x)) i 0 ≡ get_or l i 0 + cond (eqb i p) x 0
-added l p x i h =
-    ⊎_elim
-    (λ e. rw e (rw (eq-eqb p p refl) (get_or-set_same l p (get_or l p 0 + x) 0 h)))
-    (λ ne. rw (ne_eqb i p ne) (get_or-set_other l p i (get_or l p 0 + x) 0 ne ∙ omega arith))
-    (eq_or_ne i p)
+added l p x i h = grind (arith, nat_tests, common_steps)
 
 own_le : (job : Job) (kind j b : ℕ) → (section_of job j).fixtures ≤ b → own_of job kind j ≤ b
 unfolding own_of
-own_le job kind j b h =
-    ⊎_elim (λ e. rw e h) (λ e. rw e (omega arith)) (either (eqb (section_of job j).kind kind))
+own_le job kind j b h = grind (arith, nat_tests)
 
 module _ {job : Job} (r : Rooted job) where
   pub joined_start : {sets : List ℕ} {t : ℕ} → Singles t sets → t ≡ count_of job → Joined job t sets
