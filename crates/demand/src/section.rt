@@ -13,7 +13,7 @@ ghost use Rattle.tree.specs.Rows.{Counted};
 ghost use Rattle.demand.specs.Demand.{m_of, fixtures_of, needs_table_one, section_flow, house_flow, demand_checks, Valid, Accepted};
 
 use crate::sums::{Sums, hour_sums, sums_of};
-use answer::Answer;
+use answer::Refusal;
 use fields::Job;
 
 // The design flow of sums that 8 let pass: document 01's value, and never less than one tap.
@@ -85,8 +85,8 @@ fn section_needs_table_one(job: Job, served: &[u32; 768], sets: &[u64; 64]) -> b
     false
 }
 
-// 8 and 9, of a job that 3 and 5 to 7 let pass.
-pub fn demand_refusal(job: Job) -> Answer
+/// 8 and 9, of a job that 3 and 5 to 7 let pass.
+pub fn demand_refusal(job: Job) -> Result<(), Refusal>
     requires { Valid job }
     ensures { number_of result ≡ first_no (demand_checks job) }
 {
@@ -96,19 +96,19 @@ pub fn demand_refusal(job: Job) -> Answer
     let fixtures = tree::fixtures_below(job, sets[0], 0);
     let hour = hour_sums(job);
     if 400000000 < house.m {
-        return Answer::DemandOverTable;
+        return Err(Refusal::DemandOverTable);
     }
     if 400000000 < hour.shares {
-        return Answer::DemandOverTable;
+        return Err(Refusal::DemandOverTable);
     }
     if needs_table_one(house.m, fixtures) {
-        return Answer::DemandOverFixtures;
+        return Err(Refusal::DemandOverFixtures);
     }
     if section_needs_table_one(job, &served, &sets) {
-        return Answer::DemandOverFixtures;
+        return Err(Refusal::DemandOverFixtures);
     }
     if needs_table_one(hour.shares, fixtures) {
-        return Answer::DemandOverFixtures;
+        return Err(Refusal::DemandOverFixtures);
     }
-    Answer::Done
+    Ok(())
 }
