@@ -60,6 +60,5 @@ pub fn least_loss(tables: &Tables, s: usize) -> Option<u32>
     requires { s ≤ tables.now.sections }
     ensures { MatchOption result (Emptied (net_in tables.now) s) (LeastLoss (net_in tables.now) s) }
 {
-    let at = s * 13;
-    least_of(&tables.losses[at + 1..=at + tables.sizes])
+    least_of(tables.losses_of(s))
 }
