@@ -40,7 +40,7 @@ fn heat_ok(t: u32, loss: u32) -> bool
 }
 
 // The mean hour's heat flow, then the greatest hour's.
-#[tactic(auto, using(crate::proofs::HeatBounds::hot_mean_top, demand::proofs::DesignFlows::house_hour_top))]
+#[tactic(auto, using(demand::proofs::DesignFlows::house_hour_top))]
 fn put_result(out: &mut [u8], job: Job, t: u32, loss: u32)
     requires { Accepted job × (service_of job ≡ 2) × (t ≤ 30) × (loss ≤ 1000000) × (8 ≤ length out.old) }
     ensures { out.new ≡ stored out.old 0 (heat_bytes job t loss) }
@@ -52,6 +52,7 @@ fn put_result(out: &mut [u8], job: Job, t: u32, loss: u32)
 }
 
 // The heat flows of the mean hour and of the greatest hour at the front of the buffer, or a number and the buffer as it was.
+#[tactic(auto, using(crate::proofs::Ordering::heat_other, crate::proofs::Ordering::heat_range, crate::proofs::Ordering::heat_short, crate::proofs::Ordering::heat_done))]
 pub fn heat(b: &[u8], t: u32, loss: u32, out: &mut [u8]) -> Result<(), Refusal>
     ensures number { number_of result ≡ heat_no b.now t loss (length out.old) }
     ensures buffer { out.new ≡ buffer_after (number_of result) (heat_bytes (decode b.now) t loss) out.old }
