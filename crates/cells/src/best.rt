@@ -1,4 +1,6 @@
 // A row of best costs at each head, to which the sizes of a section are offered one after another.
+// The heads go beside the whole row: in a part of it a place would no longer be the head that the cells are found by.
+// A cost where nothing fits is the mark and no Option, which takes twice the room in a cell and in fixed memory.
 ghost use Rattle.std.specs.Prelude.{◌≡◌, ℕ, ◌+◌, ◌-◌, ◌*◌, ◌≤◌, ◌<◌, min, length, get_or};
 ghost use Rattle.nets.specs.Tables.{top};
 ghost use Rattle.plan.specs.Plan.{mark};
