@@ -43,8 +43,8 @@ fn take_up(
 )
     requires fillable { Fillable (net_in tables.now) head (λ s. get_or highs.now s 0) (length ws.old) }
     requires filling_2 { Filling (net_in tables.now) head (λ s. get_or highs.now s 0) ws.old begun.old s }
-    requires s_nonzero { (0 < s) × (s ≤ tables.now.sections) × (length best.old ≡ 7001) }
-    ensures long { (length ws.new ≡ length ws.old) × (length best.new ≡ 7001) }
+    requires s_nonzero { (0 < s) × (s ≤ tables.now.sections) }
+    ensures long { length ws.new ≡ length ws.old }
     ensures filling { Filling (net_in tables.now) head (λ s. get_or highs.now s 0) ws.new begun.new (s - 1) }
 {
     complete(ws, begun, tables, highs, head, s);

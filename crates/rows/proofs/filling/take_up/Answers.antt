@@ -11,18 +11,16 @@ bests-requires c =
     let ok = c.requires.fillable in
     let t = c.requires.s_nonzero in
     let low : c.from-p.result ≤ a.tables.now.sections = omega (arith, ok.sound.lower a.s t.0 t.1) in
-    rw (c.row_of-row.ensures.0, c.row_of-parent.ensures.0) (
-      record {
-        entries = omega (arith, t, ok.sound.few, ok.sound.sizes);
-        needs = c.row_of-row.ensures.1;
-        highs = omega (arith, row_ends ok a.s t.1);
-        starts = c.row_of-parent.ensures.1;
-        narrow = row_ends ok _ (omega arith);
-        cells = omega (arith, row_within ok a.s t.1, c.complete.ensures.long);
-        moderate = fill_moderate ok c.complete.ensures.filling c.complete.ensures.begun t.0 t.1 (omega (arith, ok.usable.most));
-      },
-      t.2,
-    )
+    rw (c.row_of-row.ensures.0, c.row_of-parent.ensures.0)
+    (record {
+      entries = omega (arith, t, ok.sound.few, ok.sound.sizes);
+      needs = c.row_of-row.ensures.1;
+      highs = omega (arith, row_ends ok a.s t.1);
+      starts = c.row_of-parent.ensures.1;
+      narrow = row_ends ok _ (omega arith);
+      cells = omega (arith, row_within ok a.s t.1, c.complete.ensures.long);
+      moderate = fill_moderate ok c.complete.ensures.filling c.complete.ensures.begun t.0 t.1 (omega (arith, ok.usable.most));
+    })
 
 pub hand_up-requires-clause-end_bound : goal.hand_up-requires-clause-end_bound
 hand_up-requires-clause-end_bound c =
