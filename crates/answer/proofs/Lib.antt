@@ -1,2 +1,3 @@
 pub mod First
 pub mod Buffers
+pub mod Some

@@ -1,9 +1,8 @@
 -- Document 01, "Refused orders", and document 02 from 17 on: the number that each answer gives back.
 -- Assumes nothing.
-use Rattle.std.specs.Prelude.{ℕ}
-use Rattle.answer.specs.declared.Answer.{Answer}
-use Rattle.answer.specs.declared.Answer.TheVariants.{
-  Done,
+use Rattle.std.specs.Prelude.{ℕ, Result, Ok, Err}
+use Rattle.answer.specs.declared.Refusal.{Refusal}
+use Rattle.answer.specs.declared.Refusal.TheVariants.{
   JobLength,
   JobVersion,
   HeaderRange,
@@ -27,48 +26,53 @@ use Rattle.answer.specs.declared.Answer.TheVariants.{
   HeatRange,
 }
 
-abbrev pub number_of : Answer → ℕ
--- a result
-number_of Done = 0
+-- the number of a refusal
+abbrev pub refusal_number : Refusal → ℕ
 -- job under 40 bytes, or its length isn't the bytes lent
-number_of JobLength = 1
+refusal_number JobLength = 1
 -- version neither 1 nor 2
-number_of JobVersion = 2
+refusal_number JobVersion = 2
 -- service, k, S, T, meter loss, G, H or limit out of range
-number_of HeaderRange = 3
+refusal_number HeaderRange = 3
 -- length isn't 40 + 10 × S, or 41 + 10 × S in version 2
-number_of SectionBytes = 4
+refusal_number SectionBytes = 4
 -- a section breaks its own fields' rules
-number_of SectionRules = 5
+refusal_number SectionRules = 5
 -- a childless section has kind 0
-number_of ChildlessKind = 6
+refusal_number ChildlessKind = 6
 -- residents without fixtures, or the reverse
-number_of Residents = 7
+refusal_number Residents = 7
 -- house m or house hour sum over 400,000,000
-number_of DemandOverTable = 8
+refusal_number DemandOverTable = 8
 -- m over 100,000 × fixtures with at most 200 fixtures: house, any section, or house hour
-number_of DemandOverFixtures = 9
+refusal_number DemandOverFixtures = 9
 -- catalogue under 7 bytes, wrong length, version or counts
-number_of CatalogueShape = 10
+refusal_number CatalogueShape = 10
 -- a size or row breaks its rules
-number_of CatalogueRules = 11
+refusal_number CatalogueRules = 11
 -- size list isn't S long or names no size
-number_of SizeList = 12
+refusal_number SizeList = 12
 -- a section over its last row or the limit
-number_of SizeTooSmall = 13
+refusal_number SizeTooSmall = 13
 -- result buffer too short
-number_of ResultShort = 14
+refusal_number ResultShort = 14
 -- workspace too short
-number_of WorkShort = 15
+refusal_number WorkShort = 15
 -- no suitable list
-number_of NoSuitableList = 16
+refusal_number NoSuitableList = 16
 -- the list of meters breaks its rules
-number_of MeterList = 17
+refusal_number MeterList = 17
 -- no meter qualifies
-number_of NoMeter = 18
+refusal_number NoMeter = 18
 -- the losses aren't S long, or one is over 4,259,775 cm
-number_of LossList = 19
+refusal_number LossList = 19
 -- heat asked for a job that isn't hot
-number_of NotHot = 20
+refusal_number NotHot = 20
 -- temperature or loss out of range
-number_of HeatRange = 21
+refusal_number HeatRange = 21
+
+-- the number of what a call gives back: 0 for a result, whatever it is
+module _ {A : Type 0} where
+  abbrev pub number_of : Result A Refusal → ℕ
+  number_of (Ok value) = 0
+  number_of (Err refusal) = refusal_number refusal

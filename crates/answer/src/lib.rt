@@ -1,13 +1,12 @@
-// The table of refused orders: what a call gives back, and its number.
+// The table of refused orders: why an order is refused, and the number that a call gives for it.
 #![tactic(auto)]
 
 ghost use Rattle.std.specs.Prelude.{◌≡◌};
-ghost use Rattle.answer.specs.Answer.{number_of};
+ghost use Rattle.answer.specs.Answer.{refusal_number, number_of};
 
-// One case for each line of the table, and `Done` for a result.
-#[derive(Clone, Copy)]
-pub enum Answer {
-    Done,
+/// Why an order is refused: one case for each line of the table.
+#[derive(Clone, Copy, Debug, PartialEq, Eq)]
+pub enum Refusal {
     JobLength,
     JobVersion,
     HeaderRange,
@@ -31,32 +30,43 @@ pub enum Answer {
     HeatRange,
 }
 
-// The number of the table; 0 for a result.
-pub fn number(a: Answer) -> u32
-    ensures { result ≡ number_of a }
+// The number of the table.
+impl From<Refusal> for u32 {
+    ghost from_gives = { λ refusal n. n ≡ refusal_number refusal };
+
+    fn from(refusal: Refusal) -> u32 {
+        match refusal {
+            Refusal::JobLength => 1,
+            Refusal::JobVersion => 2,
+            Refusal::HeaderRange => 3,
+            Refusal::SectionBytes => 4,
+            Refusal::SectionRules => 5,
+            Refusal::ChildlessKind => 6,
+            Refusal::Residents => 7,
+            Refusal::DemandOverTable => 8,
+            Refusal::DemandOverFixtures => 9,
+            Refusal::CatalogueShape => 10,
+            Refusal::CatalogueRules => 11,
+            Refusal::SizeList => 12,
+            Refusal::SizeTooSmall => 13,
+            Refusal::ResultShort => 14,
+            Refusal::WorkShort => 15,
+            Refusal::NoSuitableList => 16,
+            Refusal::MeterList => 17,
+            Refusal::NoMeter => 18,
+            Refusal::LossList => 19,
+            Refusal::NotHot => 20,
+            Refusal::HeatRange => 21,
+        }
+    }
+}
+
+/// What a call to C gives back: the number of the table, or 0 for a result.
+pub fn number(answer: Result<(), Refusal>) -> u32
+    ensures { result ≡ number_of answer }
 {
-    match a {
-        Answer::Done => 0,
-        Answer::JobLength => 1,
-        Answer::JobVersion => 2,
-        Answer::HeaderRange => 3,
-        Answer::SectionBytes => 4,
-        Answer::SectionRules => 5,
-        Answer::ChildlessKind => 6,
-        Answer::Residents => 7,
-        Answer::DemandOverTable => 8,
-        Answer::DemandOverFixtures => 9,
-        Answer::CatalogueShape => 10,
-        Answer::CatalogueRules => 11,
-        Answer::SizeList => 12,
-        Answer::SizeTooSmall => 13,
-        Answer::ResultShort => 14,
-        Answer::WorkShort => 15,
-        Answer::NoSuitableList => 16,
-        Answer::MeterList => 17,
-        Answer::NoMeter => 18,
-        Answer::LossList => 19,
-        Answer::NotHot => 20,
-        Answer::HeatRange => 21,
+    match answer {
+        Ok(()) => 0,
+        Err(refusal) => u32::from(refusal),
     }
 }

@@ -1,21 +1,23 @@
 -- Rows that keep their rules read at a flow: whether they serve it, the line from zero, the line between two rows, and the largest and the least reading.
 -- Assumes nothing.
-use mathlib.Core.Path.{◌≡◌, ◌∙◌}
+use Rattle.std.proofs.Common.{Some, None}
+use mathlib.Core.Path.{◌≡◌, sym, ◌∙◌}
 use mathlib.Core.Bool.{true, false, cond}
 use mathlib.Core.List.{List}
 use mathlib.Core.Logic.{⊎_elim}
 use Prim.Native.Nat.{ℕ, ◌+◌, ◌-◌, ◌*◌, ◌≤◌, ◌<◌}
 use native.Mathlib.Omega.{arith}
-use borrow.Author.Tests.{leb-true, le-leb, lt-leb}
+use borrow.Author.Tests.{leb-true, le-leb, lt-leb, ne_eqb}
 use Rattle.basis.specs.Round.{up, line}
 use Rattle.basis.proofs.Round.{line_zero}
-use Rattle.basis.proofs.Split.{either}
+use Rattle.basis.proofs.Split.{either, eq_or_ne}
 use Rattle.wire.specs.Wire.{byte_at}
 use Rattle.wire.proofs.Fields.{be_lt}
-use Rattle.catalogue.specs.declared.reading.SizeAtFlow.{SizeAtFlow}
 use Rattle.catalogue.specs.Layout.{flow_at, velocity_at, slope_at}
-use Rattle.catalogue.specs.Reading.{between, serves_at, read_rows}
-use Rattle.catalogue.specs.Steps.{Rows, Above}
+use Rattle.catalogue.specs.Reading.{SizeAtFlow, between, serves_at, read_rows, served_of}
+use Rattle.catalogue.specs.declared.reading.Reading.{Reading}
+use Rattle.catalogue.specs.declared.layout.Row.{Row}
+use Rattle.catalogue.specs.Steps.{Rows, Above, row_before}
 use Rattle.catalogue.proofs.RowBounds.{RowIn, Rises, row_in, rows_own}
 use Rattle.catalogue.proofs.Rising.{rises, flows_rise}
 use Rattle.catalogue.proofs.Lines.{Rising, rising_le, between_first, between_line, between_high, between_pos}
@@ -33,6 +35,27 @@ module _ (rows : List ℕ) (n q : ℕ) where
   unfolding read_rows serves_at
   reading_over h = rw (lt-leb q (flow_at rows (n - 1)) h)
 
+-- what a reading gives, by whether it serves
+module _ (r : SizeAtFlow) where
+  given : r.serves ≡ true → served_of r ≡ Some (record { velocity = r.velocity; slope = r.slope })
+  unfolding served_of
+  given e = rw e
+
+  kept : r.serves ≡ false → served_of r ≡ None
+  unfolding served_of
+  kept e = rw e
+
+  pub served_none : served_of r ≡ None → r.serves ≡ false
+  served_none e =
+      ⊎_elim (λ (o : r.serves ≡ true). absurd (let f = sym (given o) ∙ e in cc)) (λ o. o) (either r.serves)
+
+  pub served_some : (x : Reading) → served_of r ≡ Some x → (r.serves ≡ true) × (x.velocity ≡ r.velocity) × (x.slope ≡ r.slope)
+  served_some x e =
+      ⊎_elim
+      (λ (o : r.serves ≡ true). let f = sym (given o) ∙ e in (o, cc, cc))
+      (λ (o : r.serves ≡ false). absurd (let f = sym (kept o) ∙ e in cc))
+      (either r.serves)
+
 -- a point of flow x and row k, with the straight lines between them at q
 abbrev pub on_line : List ℕ → ℕ → ℕ → ℕ → ℕ → ℕ → SizeAtFlow
 on_line rows x velocity slope k q =
@@ -42,14 +65,14 @@ on_line rows x velocity slope k q =
       slope = line x slope (flow_at rows k) (slope_at rows k) q;
     }
 
--- the lines from such a point to row k are those on which the rows are read at q
-pub record Drawn (rows : List ℕ) (n q k x velocity slope : ℕ) : Type 0 where
-  pub across : x < flow_at rows k
-  pub velocity_rises : velocity ≤ velocity_at rows k
-  pub slope_rises : slope ≤ slope_at rows k
-  pub low : x ≤ q
+-- the lines from a row to row k are those on which the rows are read at q
+pub record Drawn (rows : List ℕ) (n q k : ℕ) (from : Row) : Type 0 where
+  pub across : from.flow < flow_at rows k
+  pub velocity_rises : from.velocity ≤ velocity_at rows k
+  pub slope_rises : from.slope ≤ slope_at rows k
+  pub low : from.flow ≤ q
   pub high : q ≤ flow_at rows k
-  pub reading : read_rows rows n q ≡ on_line rows x velocity slope k q
+  pub reading : read_rows rows n q ≡ on_line rows from.flow from.velocity from.slope k q
 
 module _ {rows : List ℕ} {n : ℕ} (r : Rows rows n) where
   rising : Rising (flow_at rows) (n - 1)
@@ -88,11 +111,12 @@ module _ {rows : List ℕ} {n : ℕ} (r : Rows rows n) where
       )
 
   -- at the row that the search finds: the lines come from the row before it, and to the first row from zero
-  module _ {q k x velocity slope : ℕ} (a : Above rows n q k) where
-    pub drawn_first : k ≡ 0 → x ≡ 0 → velocity ≡ 0 → slope ≡ 0 → Drawn rows n q k x velocity slope
-    drawn_first e x₀ v₀ s₀ =
+  module _ {q k : ℕ} (a : Above rows n q k) where
+    drawn_first : k ≡ 0 → Drawn rows n q k (row_before rows k)
+    unfolding row_before
+    drawn_first e =
         let under : q ≤ flow_at rows 0 = rw e at a.reached in
-        rw (e, x₀, v₀, s₀)
+        rw e
         (record {
           across = first_flow;
           velocity_rises = omega arith;
@@ -103,20 +127,24 @@ module _ {rows : List ℕ} {n : ℕ} (r : Rows rows n) where
               rw (line_zero (flow_at rows 0) (velocity_at rows 0) q, line_zero (flow_at rows 0) (slope_at rows 0) q);
         })
 
-    pub drawn_next : 0 < k → x ≡ flow_at rows (k - 1) → velocity ≡ velocity_at rows (k - 1) → slope ≡ slope_at rows (k - 1) →
-        Drawn rows n q k x velocity slope
-    drawn_next h x₀ v₀ s₀ =
+    drawn_next : (k ≡ 0 → ⊥) → Drawn rows n q k (row_before rows k)
+    unfolding row_before
+    drawn_next h =
         let e : k - 1 + 1 ≡ k = omega arith in
+        let under : flow_at rows (k - 1) < q = a.under (omega arith) in
         let rise = rises rows n r.rules (k - 1) k (omega arith) a.within in
-        rw (x₀, v₀, s₀)
+        rw (ne_eqb k 0 h)
         (record {
           across = rise.flow;
           velocity_rises = rise.velocity;
           slope_rises = rise.slope;
-          low = omega (arith, a.under h);
+          low = omega arith;
           high = a.reached;
-          reading = rw e at (reading_between q (k - 1) (omega arith) (a.under h) (rw e a.reached));
+          reading = rw e at (reading_between q (k - 1) (omega arith) under (rw e a.reached));
         })
+
+    pub drawn : Drawn rows n q k (row_before rows k)
+    drawn = ⊎_elim drawn_first drawn_next (eq_or_ne k 0)
 
   -- a value that does not fall from row to row is read at no more than the last row's
   top : (value : ℕ → ℕ) (q m : ℕ) → ((k : ℕ) → k < n - 1 → value k ≤ value (k + 1)) → value (n - 1) ≤ m →

@@ -1,7 +1,8 @@
--- What the catalogue's contracts ask: room for size s, and rows that keep their rules.
+-- What the catalogue's contracts ask: room for size s, and rows that keep their rules; and a row as the code reads it.
 -- Assumes nothing.
-use Rattle.std.specs.Prelude.{◌≡◌, true, ℕ, ◌+◌, ◌-◌, ◌*◌, ◌≤◌, ◌<◌, List, length}
-use Rattle.catalogue.specs.Layout.{rows_of, size_length, flow_at}
+use Rattle.std.specs.Prelude.{◌≡◌, true, ℕ, ◌+◌, ◌-◌, ◌*◌, ◌≤◌, ◌<◌, cond, List, length, eqb}
+use Rattle.catalogue.specs.declared.layout.Row.{Row}
+use Rattle.catalogue.specs.Layout.{rows_of, size_length, flow_at, velocity_at, slope_at}
 use Rattle.catalogue.specs.Rules.{rows_ok, shape_ok, sizes_ok}
 
 -- size s, from 1 to 12, lies within the catalogue, with at most 64 rows
@@ -28,3 +29,11 @@ pub record Above (rows : List ℕ) (n q k : ℕ) : Type 0 where
   pub within : k < n
   pub reached : q ≤ flow_at rows k
   pub under : 0 < k → flow_at rows (k - 1) < q
+
+-- row k of a part, from 0
+abbrev pub row_at : List ℕ → ℕ → Row
+row_at rows k = record { flow = flow_at rows k; velocity = velocity_at rows k; slope = slope_at rows k }
+
+-- the row before it; the lines to the first row come from zero
+unfoldable pub row_before : List ℕ → ℕ → Row
+row_before rows k = cond (eqb k 0) (record { flow = 0; velocity = 0; slope = 0 }) (row_at rows (k - 1))

@@ -5,66 +5,46 @@ ghost use Rattle.catalogue.specs.Layout.{rows_of, part_of};
 ghost use Rattle.catalogue.specs.Rules.{shape_ok, row_ok, rises_at, rows_ok, size_ok, sizes_ok, cat_no};
 ghost use Rattle.catalogue.specs.Steps.{Sized};
 
-use crate::layout::{bore, price, row_flow, row_slope, row_velocity, rows_of, size_from, sizes_of};
-use answer::Answer;
-use numbers::wide32;
+use crate::layout::{bore, price, row_at, rows_of, size_from, sizes_of};
+use answer::Refusal;
+use wire::Field;
 
 // 10: length, version and counts.
+#[tactic(auto, unfolding(crate::specs::Rules::shape_ok))]
 fn shape_ok(cat: &[u8]) -> bool
     ensures { result ≡ shape_ok cat.now }
 {
     if cat.len() < 7 {
         return false;
     }
-    let version = cat[4];
-    let sizes = sizes_of(cat);
-    let rows = rows_of(cat);
-    match version {
-        1 => {}
-        _ => return false,
-    }
-    match sizes {
-        1..=12 => {}
-        _ => return false,
-    }
-    match rows {
-        2..=64 => {}
-        _ => return false,
-    }
-    if wide32(wire::be32(cat, 0)) != cat.len() {
-        return false;
-    }
-    cat.len() == 7 + (sizes as usize) * (4 + 8 * (rows as usize))
+    let sizes = usize::from(sizes_of(cat));
+    let rows = usize::from(rows_of(cat));
+    cat[4] == 1
+        && (1..=12).contains(&sizes)
+        && (2..=64).contains(&rows)
+        && u32::at(cat, 0) as usize == cat.len()
+        && cat.len() == 7 + sizes * (4 + 8 * rows)
 }
 
 // A row on its own.
+#[tactic(auto, unfolding(crate::specs::Rules::row_ok))]
 fn row_ok(rows: &[u8], k: usize) -> bool
     requires { 8 * k + 8 ≤ length rows.now }
     ensures { result ≡ row_ok rows.now k }
 {
-    let flow = row_flow(rows, k);
-    match flow {
-        1..=1000000 => {}
-        _ => return false,
-    }
-    if row_velocity(rows, k) == 0 {
-        return false;
-    }
-    1 <= row_slope(rows, k)
+    let row = row_at(rows, k);
+    (1..=1_000_000).contains(&row.flow) && 1 <= row.velocity && 1 <= row.slope
 }
 
 // Row k, from 1, against the row before it.
+#[tactic(auto, unfolding(crate::specs::Rules::rises_at))]
 fn rises_at(rows: &[u8], k: usize) -> bool
     requires { (0 < k) × (8 * k + 8 ≤ length rows.now) }
     ensures { result ≡ rises_at rows.now k }
 {
-    if row_flow(rows, k) <= row_flow(rows, k - 1) {
-        return false;
-    }
-    if row_velocity(rows, k) < row_velocity(rows, k - 1) {
-        return false;
-    }
-    row_slope(rows, k - 1) <= row_slope(rows, k)
+    let before = row_at(rows, k - 1);
+    let row = row_at(rows, k);
+    before.flow < row.flow && before.velocity <= row.velocity && before.slope <= row.slope
 }
 
 // The first n rows.
@@ -75,41 +55,26 @@ fn rows_ok(rows: &[u8], n: usize) -> bool
     if !row_ok(rows, 0) {
         return false;
     }
-    let mut k: usize = 1;
-    while k < n {
-        if !row_ok(rows, k) {
+    for k in 1..n {
+        if !row_ok(rows, k) || !rises_at(rows, k) {
             return false;
         }
-        if !rises_at(rows, k) {
-            return false;
-        }
-        k += 1;
     }
     true
 }
 
 // Size s, its rows handed on as a part of the catalogue.
+#[tactic(auto, unfolding(crate::specs::Rules::size_ok))]
 fn size_ok(cat: &[u8], s: usize) -> bool
     requires { Sized cat.now s × (2 ≤ rows_of cat.now) }
     ensures { result ≡ size_ok cat.now s }
 {
-    if bore(cat, s) == 0 {
-        return false;
-    }
-    if 1 < s {
-        if bore(cat, s) <= bore(cat, s - 1) {
-            return false;
-        }
-    }
-    let cost = price(cat, s);
-    match cost {
-        1..=10000 => {}
-        _ => return false,
-    }
-    let n = rows_of(cat) as usize;
-    let a = size_from(cat, s) + 4;
-    let e = a + 8 * n;
-    rows_ok(&cat[a..e], n)
+    let n = usize::from(rows_of(cat));
+    let from = size_from(cat, s) + 4;
+    1 <= bore(cat, s)
+        && (s == 1 || bore(cat, s - 1) < bore(cat, s))
+        && (1..=10000).contains(&price(cat, s))
+        && rows_ok(&cat[from..from + 8 * n], n)
 }
 
 // 11: every size.
@@ -117,26 +82,23 @@ fn sizes_ok(cat: &[u8]) -> bool
     requires { shape_ok cat.now ≡ true }
     ensures { result ≡ sizes_ok cat.now }
 {
-    let count = sizes_of(cat) as usize;
-    let mut s: usize = 1;
-    while s <= count {
+    for s in 1..=usize::from(sizes_of(cat)) {
         if !size_ok(cat, s) {
             return false;
         }
-        s += 1;
     }
     true
 }
 
-// Any bytes are accepted or get 10 or 11.
-pub fn catalogue_refusal(cat: &[u8]) -> Answer
+/// Any bytes are accepted or get 10 or 11.
+pub fn catalogue_refusal(cat: &[u8]) -> Result<(), Refusal>
     ensures { number_of result ≡ cat_no cat.now }
 {
     if !shape_ok(cat) {
-        return Answer::CatalogueShape;
+        return Err(Refusal::CatalogueShape);
     }
     if !sizes_ok(cat) {
-        return Answer::CatalogueRules;
+        return Err(Refusal::CatalogueRules);
     }
-    Answer::Done
+    Ok(())
 }

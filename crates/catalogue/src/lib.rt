@@ -7,4 +7,4 @@ mod reading;
 
 pub use accept::catalogue_refusal;
 pub use layout::{bore, price, sizes_of};
-pub use reading::{SizeAtFlow, read_size};
+pub use reading::{Reading, read_size};

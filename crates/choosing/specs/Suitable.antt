@@ -8,7 +8,7 @@ use Rattle.fields.specs.declared.Job.{Job}
 use Rattle.fields.specs.Fields.{count_of, section_of}
 use Rattle.catalogue.specs.Layout.{price_of}
 use Rattle.heads.specs.Heads.{required_of}
-use Rattle.catalogue.specs.declared.reading.SizeAtFlow.{SizeAtFlow}
+use Rattle.catalogue.specs.Reading.{SizeAtFlow}
 use Rattle.sizing.specs.Losses.{list_ok, reading_of, any_with, losses_with}
 
 -- when a list suits at a delivered head, where `read s i` is size s read at the flow of section i

@@ -18,7 +18,7 @@ use Rattle.fields.specs.Fields.{count_of, section_of}
 use Rattle.tree.specs.Tree.{parent_of}
 use Rattle.demand.specs.Demand.{Valid}
 use Rattle.demand.proofs.Validity.{valid_rooted, valid_count}
-use Rattle.catalogue.specs.declared.reading.SizeAtFlow.{SizeAtFlow}
+use Rattle.catalogue.specs.Reading.{SizeAtFlow}
 use Rattle.catalogue.specs.Layout.{sizes_of}
 use Rattle.heads.specs.Heads.{reach_of}
 use Rattle.heads.proofs.Loss.{parent_lower}

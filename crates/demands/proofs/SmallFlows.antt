@@ -23,10 +23,9 @@ use Rattle.demand.proofs.DesignFlows.{flow_pos}
 use Rattle.demand.proofs.Validity.{valid_sections}
 use Rattle.acceptance.specs.Acceptance.{job_no}
 use Rattle.acceptance.proofs.Accepting.{accept_accepted}
-use Rattle.catalogue.specs.declared.reading.SizeAtFlow.{SizeAtFlow}
 use Rattle.catalogue.specs.Layout.{sizes_of, part_of, flow_at, velocity_at, slope_at}
 use Rattle.catalogue.specs.Rules.{cat_no}
-use Rattle.catalogue.specs.Reading.{read_rows}
+use Rattle.catalogue.specs.Reading.{SizeAtFlow, read_rows}
 use Rattle.catalogue.specs.Steps.{Rows, AcceptedCat}
 use Rattle.catalogue.proofs.AcceptedCat.{cat_of, cat_rows}
 use Rattle.catalogue.proofs.Lines.{first_high}

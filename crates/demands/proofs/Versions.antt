@@ -33,7 +33,7 @@ use Rattle.demand.specs.Demand.{demand_checks, section_flow}
 use Rattle.demand.proofs.Same.{section_flow_same, house_flow_same, hour_of_same, day_same, mean_same, demand_checks_same}
 use Rattle.acceptance.specs.Acceptance.{job_checks}
 use Rattle.flow.specs.Calls.{flow_bytes, duty_bytes}
-use Rattle.catalogue.specs.declared.reading.SizeAtFlow.{SizeAtFlow}
+use Rattle.catalogue.specs.Reading.{SizeAtFlow}
 use Rattle.heads.specs.Heads.{reach_of, required_of, pump_at, dictating_of}
 use Rattle.sizing.specs.Losses.{list_ok, reading_of, over_with, over_at, any_with, over_any, loss_with, loss_at, losses_of}
 use Rattle.rated_bytes.specs.RatedBytes.{heads_bytes, result_bytes, figures_bytes}

@@ -9,9 +9,8 @@ use Rattle.fields.specs.Fields.{count_of, section_of}
 use Rattle.record.specs.Record.{decode}
 use Rattle.tree.specs.Tree.{served_of, house_of}
 use Rattle.demand.specs.Demand.{norm_at, average_flow_of, house_flow, mean_of}
-use Rattle.catalogue.specs.declared.reading.SizeAtFlow.{SizeAtFlow}
 use Rattle.catalogue.specs.Layout.{rows_of, part_of}
-use Rattle.catalogue.specs.Reading.{read_rows}
+use Rattle.catalogue.specs.Reading.{SizeAtFlow, read_rows}
 use Rattle.sizing.specs.Losses.{reading_of, over_by, over_at, loss_of, loss_at}
 use Rattle.meters.specs.Meters.{meter_at, meter_loss, qualifies}
 use Rattle.order.specs.Promises.{FlowGiven, DutyGiven, LossesGiven}

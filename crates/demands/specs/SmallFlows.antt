@@ -13,10 +13,9 @@ use Rattle.fields.specs.Fields.{count_of, section_of}
 use Rattle.record.specs.Record.{decode}
 use Rattle.demand.specs.Demand.{section_flow}
 use Rattle.acceptance.specs.Acceptance.{job_no}
-use Rattle.catalogue.specs.declared.reading.SizeAtFlow.{SizeAtFlow}
 use Rattle.catalogue.specs.Layout.{sizes_of, rows_of, part_of, flow_at, velocity_at, slope_at}
 use Rattle.catalogue.specs.Rules.{cat_no}
-use Rattle.catalogue.specs.Reading.{read_rows}
+use Rattle.catalogue.specs.Reading.{SizeAtFlow, read_rows}
 use Rattle.heads.specs.Heads.{required_of}
 use Rattle.sizing.specs.Losses.{reading_of, over_with, over_at, loss_of, loss_with, loss_at, losses_with, losses_of}
 use Rattle.rating.specs.Calls.{losses_bytes}

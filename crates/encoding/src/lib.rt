@@ -11,56 +11,20 @@ ghost use Rattle.record.specs.Edited.{edited};
 
 use fields::{Header, Job, Section};
 use record::{length_of, place_of};
+use wire::Field;
 
 // The head fields.
-fn header_bytes(h: Header) -> [u8; 16]
-    ensures { result ≡ header_bytes h }
+fn put_header(out: &mut [u8], h: Header)
+    requires { 16 ≤ length out.old }
+    ensures { out.new ≡ stored out.old 0 (header_bytes h) }
 {
-    let n = wire::bytes32(length_of(h.version, h.sections) as u32);
-    let meter = wire::bytes16(h.meter);
-    let guaranteed = wire::bytes16(h.guaranteed);
-    let delivered = wire::bytes16(h.delivered);
-    let limit = wire::bytes16(h.limit);
-    [
-        n[0],
-        n[1],
-        n[2],
-        n[3],
-        h.version,
-        h.tenths,
-        h.sections,
-        h.hours,
-        meter[0],
-        meter[1],
-        guaranteed[0],
-        guaranteed[1],
-        delivered[0],
-        delivered[1],
-        limit[0],
-        limit[1],
-    ]
-}
-
-// The fields of a section.
-fn section_bytes(s: Section) -> [u8; 10]
-    ensures { result ≡ section_bytes s }
-{
-    let fixtures = wire::bytes16(s.fixtures);
-    let decimetres = wire::bytes16(s.decimetres);
-    let elevation = wire::bytes16(wire::bits16(s.elevation));
-    let free = wire::bytes16(s.free);
-    [
-        s.parent,
-        s.kind,
-        fixtures[0],
-        fixtures[1],
-        decimetres[0],
-        decimetres[1],
-        elevation[0],
-        elevation[1],
-        free[0],
-        free[1],
-    ]
+    let length = length_of(h.version, h.sections) as u32;
+    length.put_at(out, 0);
+    wire::put(out, 4, &[h.version, h.tenths, h.sections, h.hours]);
+    h.meter.put_at(out, 8);
+    h.guaranteed.put_at(out, 10);
+    h.delivered.put_at(out, 12);
+    h.limit.put_at(out, 14);
 }
 
 // The residents of kinds 1 to 12, from byte 16 on.
@@ -68,15 +32,13 @@ fn put_residents(out: &mut [u8], residents: [u16; 12])
     requires { 40 ≤ length out.old }
     ensures { out.new ≡ stored out.old 16 (concat_to 12 (λ kind. bytes_of 2 (get_or residents (kind - 1) 0))) }
 {
-    let mut kind: usize = 1;
-    while kind <= 12 {
-        let c = kind - 1;
-        wire::put_be16(out, 16 + 2 * c, residents[c]);
-        kind += 1;
+    for (c, residents) in residents.iter().enumerate() {
+        residents.put_at(out, 16 + 2 * c);
     }
 }
 
 // The service byte of version 2.
+#[tactic(auto, using(record::proofs::Lengths::from_two, basis::proofs::Stored::stored_one, basis::proofs::Stored::stored_none), unfolding(record::specs::Record::service_bytes))]
 fn put_service(out: &mut [u8], h: Header)
     requires { sections_from h.version ≤ length out.old }
     ensures { out.new ≡ stored out.old 40 (service_bytes h) }
@@ -86,12 +48,16 @@ fn put_service(out: &mut [u8], h: Header)
     }
 }
 
+// The fields of a section.
 fn put_section(out: &mut [u8], at: usize, s: Section)
     requires { at + 10 ≤ length out.old }
     ensures { out.new ≡ stored out.old at (section_bytes s) }
 {
-    let x = section_bytes(s);
-    wire::put(out, at, &x);
+    wire::put(out, at, &[s.parent, s.kind]);
+    s.fixtures.put_at(out, at + 2);
+    s.decimetres.put_at(out, at + 4);
+    s.elevation.put_at(out, at + 6);
+    s.free.put_at(out, at + 8);
 }
 
 // Sections 1 to count, from the first one's place on.
@@ -100,34 +66,35 @@ fn put_sections(out: &mut [u8], version: u8, sections: [Section; 64], count: usi
     ensures { out.new ≡ stored out.old (sections_from version)
         (concat_to count (λ i. section_bytes (get_or sections i blank_section))) }
 {
-    let mut i: usize = 1;
-    while i <= count {
+    for i in 1..=count {
         put_section(out, place_of(version, i), sections[i]);
-        i += 1;
     }
 }
 
 // The record b from a place on, with n in the two bytes of one field.
+#[tactic(auto, using(basis::proofs::Stored::stored_inside, wire::proofs::Fields::bytes_length))]
 pub fn put_edited(out: &mut [u8], at: usize, b: &[u8], field: usize, n: u16)
     requires { (at + length b.now ≤ length out.old) × (field + 2 ≤ length b.now) }
     ensures { out.new ≡ stored out.old at (edited 2 b.now field n) }
 {
     wire::put(out, at, b);
-    wire::put_be16(out, at + field, n);
+    n.put_at(out, at + field);
 }
 
 // The whole record.
+#[tactic(auto, using(record::proofs::Lengths::from_in))]
 pub fn put_job(out: &mut [u8], job: Job)
     requires { (count_of job ≤ 63) × (length_of (version_of job) (count_of job) ≤ length out.old) }
     ensures { out.new ≡ stored out.old 0 (encode job) }
 {
-    let residents = job.residents;
-    let sections = job.sections;
     let header = job.header;
-    let count = header.sections as usize;
-    let head = header_bytes(header);
-    wire::put(out, 0, &head);
-    put_residents(out, residents);
+    put_header(out, header);
+    put_residents(out, job.residents);
     put_service(out, header);
-    put_sections(out, header.version, sections, count);
+    put_sections(
+        out,
+        header.version,
+        job.sections,
+        usize::from(header.sections),
+    );
 }

@@ -12,68 +12,60 @@ ghost use Rattle.heating.specs.Heat.{watts_of, heat_ok};
 ghost use Rattle.heating.specs.Calls.{heat_no, heat_bytes};
 
 use acceptance::accept;
-use answer::Answer;
+use answer::Refusal;
 use fields::Job;
-use numbers::long32;
+use wire::Field;
 
 // The service of a hot line.
 const HOT: u8 = 2;
 
 // The heat flow of so many l/h in watts. The litres are at most 66,583,560, the most that the day of any hot line can have, and so the
 // watts fit.
+#[tactic(auto, using(crate::proofs::HeatBounds::heat_top), unfolding(crate::specs::Heat::watts_of))]
 fn watts(litres: u32, t: u32, loss: u32) -> u32
     requires { (litres ≤ 66583560) × (t ≤ 30) × (loss ≤ 1000000) }
     ensures { result ≡ watts_of litres t loss }
 {
-    let degrees = 55 - long32(t);
-    let heat = round::divide_up(116 * long32(litres) * degrees, 100);
-    (heat + long32(loss)) as u32
+    let degrees = 55 - u64::from(t);
+    let heat = round::divide_up(116 * u64::from(litres) * degrees, 100);
+    (heat + u64::from(loss)) as u32
 }
 
 // 21: temperature and loss are in their ranges.
+#[tactic(auto, unfolding(crate::specs::Heat::heat_ok))]
 fn heat_ok(t: u32, loss: u32) -> bool
     ensures { result ≡ heat_ok t loss }
 {
-    match t {
-        0..=30 => {}
-        _ => return false,
-    }
-    match loss {
-        0..=1000000 => true,
-        _ => false,
-    }
+    t <= 30 && loss <= 1000000
 }
 
 // The mean hour's heat flow, then the greatest hour's.
+#[tactic(auto, using(crate::proofs::HeatBounds::hot_mean_top, demand::proofs::DesignFlows::house_hour_top))]
 fn put_result(out: &mut [u8], job: Job, t: u32, loss: u32)
     requires { Accepted job × (service_of job ≡ 2) × (t ≤ 30) × (loss ≤ 1000000) × (8 ≤ length out.old) }
     ensures { out.new ≡ stored out.old 0 (heat_bytes job t loss) }
 {
     let mean = watts(demand::mean_of(job), t, loss);
     let greatest = watts(demand::hour_of(job), t, loss);
-    wire::put_be32(out, 0, mean);
-    wire::put_be32(out, 4, greatest);
+    mean.put_at(out, 0);
+    greatest.put_at(out, 4);
 }
 
 // The heat flows of the mean hour and of the greatest hour at the front of the buffer, or a number and the buffer as it was.
-pub fn heat(b: &[u8], t: u32, loss: u32, out: &mut [u8]) -> Answer
+pub fn heat(b: &[u8], t: u32, loss: u32, out: &mut [u8]) -> Result<(), Refusal>
     ensures number { number_of result ≡ heat_no b.now t loss (length out.old) }
     ensures buffer { out.new ≡ buffer_after (number_of result) (heat_bytes (decode b.now) t loss) out.old }
 {
-    let accepted = accept(b);
-    let answer = accepted.answer;
-    if answer::number(answer) != 0 {
-        return answer;
-    }
-    if accepted.job.header.service != HOT {
-        return Answer::NotHot;
+    let job = accept(b)?;
+    if job.header.service != HOT {
+        return Err(Refusal::NotHot);
     }
     if !heat_ok(t, loss) {
-        return Answer::HeatRange;
+        return Err(Refusal::HeatRange);
     }
     if out.len() < 8 {
-        return Answer::ResultShort;
+        return Err(Refusal::ResultShort);
     }
-    put_result(out, accepted.job, t, loss);
-    answer
+    put_result(out, job, t, loss);
+    Ok(())
 }

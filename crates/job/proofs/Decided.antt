@@ -1,6 +1,6 @@
 -- The numbers of reading, writing and copying, part by part of their lists of checks.
 -- Assumes nothing.
-use mathlib.Core.Path.{◌≡◌, ◌∙◌}
+use mathlib.Core.Path.{◌≡◌, sym, ◌∙◌}
 use mathlib.Core.Bool.{true, false, not}
 use mathlib.Core.List.{List, [], ◌∷◌}
 use Prim.{tt}
@@ -8,15 +8,17 @@ use Prim.Native.Nat.{ℕ, ◌≤◌, ◌<◌}
 use native.Mathlib.Omega.{arith}
 use lib.ListN.{length}
 use lib.Dec.{ltb}
-use borrow.Author.Tests.{ltb-false, not-false}
+use borrow.Author.Tests.{eq-eqb, ltb-false, not-false}
+use Rattle.answer.specs.declared.Refusal.{Refusal}
+use Rattle.answer.specs.Answer.{refusal_number}
 use Rattle.answer.specs.Checks.{first_no, too_short}
-use Rattle.answer.proofs.First.{Numbered, first_none, first_found, first_next, short_found, short_next, first_clear, first_after, first_before, first_split, numbered_append}
+use Rattle.answer.proofs.First.{Numbered, first_none, first_found, first_next, short_found, short_next, first_clear, first_after, first_split, numbered_append}
+use Rattle.answer.proofs.Some.{first_refused, first_passed}
 use Rattle.fields.specs.declared.Job.{Job}
 use Rattle.fields.specs.Fields.{version_of, count_of}
 use Rattle.rules.specs.Rules.{version_ok, header_ok, field_checks}
 use Rattle.record.specs.Record.{length_of, decode}
-use Rattle.job.proofs.Stages.{stage_first, stage_second, fields_given}
-use Rattle.job.specs.Calls.{shape_checks, read_checks, read_no, fields_after, read_job, write_checks, write_no, copy_checks, copy_no}
+use Rattle.job.specs.Calls.{shape_checks, read_checks, read_no, read_job, write_checks, write_no, copy_checks, copy_no}
 
 shape_numbered : (b : List ℕ) → Numbered (shape_checks b)
 unfolding shape_checks
@@ -26,19 +28,19 @@ fields_numbered : (job : Job) → Numbered (field_checks job)
 unfolding field_checks
 fields_numbered job = (omega arith, (omega arith, (omega arith, tt)))
 
--- reading: 1 to 4 where they find something, else 5 to 7 of the fields
+-- reading: the number of 1 to 4, else that of 5 to 7
 module _ (b : List ℕ) where
-  pub read_shape : (first_no (shape_checks b) ≡ 0 → ⊥) → (read_no b ≡ first_no (shape_checks b)) × (read_job b ≡ fields_after (first_no (shape_checks b)) (decode b))
-  unfolding read_no read_job read_checks
-  read_shape n = stage_first (shape_checks b) (field_checks (decode b)) (shape_numbered b) (decode b) n
+  pub read_refused : (r : Refusal) → refusal_number r ≡ first_no (shape_checks b) → refusal_number r ≡ read_no b
+  unfolding read_no read_checks
+  read_refused r e = first_refused (shape_checks b) (field_checks (decode b)) (shape_numbered b) r e
 
-  pub read_fields : first_no (shape_checks b) ≡ 0 → (read_no b ≡ first_no (field_checks (decode b))) × (read_job b ≡ fields_after (first_no (field_checks (decode b))) (decode b))
-  unfolding read_no read_job read_checks
-  read_fields e = stage_second (shape_checks b) (field_checks (decode b)) (shape_numbered b) (decode b) e
+  pub read_passed : {n : ℕ} → 0 ≡ first_no (shape_checks b) → n ≡ first_no (field_checks (decode b)) → n ≡ read_no b
+  unfolding read_no read_checks
+  read_passed none e = first_passed (shape_checks b) (field_checks (decode b)) (shape_numbered b) none e
 
   pub read_accepted : read_no b ≡ 0 → read_job b ≡ decode b
   unfolding read_job
-  read_accepted e = fields_given (decode b) e
+  read_accepted e = rw (eq-eqb (read_no b) 0 e)
 
 -- what holds where the reader finds nothing
 pub record Readable (b : List ℕ) : Type 0 where
@@ -57,9 +59,9 @@ read_numbered b = numbered_append (shape_checks b) (field_checks (decode b)) (sh
 
 -- copying: the reader's number where it finds something, else 14
 module _ (b : List ℕ) (room : ℕ) where
-  pub copy_refused : (read_no b ≡ 0 → ⊥) → copy_no b room ≡ read_no b
+  pub copy_refused : (r : Refusal) → refusal_number r ≡ read_no b → refusal_number r ≡ copy_no b room
   unfolding copy_no copy_checks read_no
-  copy_refused n = first_before (read_checks b) ((too_short room (length b), 14) ∷ []) (read_numbered b) n
+  copy_refused r e = first_refused (read_checks b) ((too_short room (length b), 14) ∷ []) (read_numbered b) r e
 
   pub copy_room : read_no b ≡ 0 → copy_no b room ≡ first_no ((too_short room (length b), 14) ∷ [])
   unfolding copy_no copy_checks read_no
@@ -77,9 +79,11 @@ module _ (job : Job) (room : ℕ) where
     write_range e = first_next 2 _ (rw version) ∙ first_found 3 _ (rw e)
 
     module _ (head : header_ok job.header ≡ true) where
-      pub write_fields : (first_no (field_checks job) ≡ 0 → ⊥) → write_no job room ≡ first_no (field_checks job)
+      pub write_fields : (r : Refusal) → refusal_number r ≡ first_no (field_checks job) → refusal_number r ≡ write_no job room
       unfolding write_no write_checks
-      write_fields n = first_next 2 _ (rw version) ∙ first_next 3 _ (rw head) ∙ first_before (field_checks job) _ (fields_numbered job) n
+      write_fields r e =
+          first_refused (field_checks job) _ (fields_numbered job) r e ∙
+          sym (first_next 2 _ (rw version) ∙ first_next 3 _ (rw head))
 
       module _ (fields : first_no (field_checks job) ≡ 0) where
         pub write_room : write_no job room ≡ first_no ((too_short room (length_of (version_of job) (count_of job)), 14) ∷ [])

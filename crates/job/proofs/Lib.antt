@@ -1,5 +1,4 @@
 pub mod Shape
-pub mod Stages
 pub mod Decided
 pub mod RoundTrip
 pub mod Edited

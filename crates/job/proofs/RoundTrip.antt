@@ -25,7 +25,7 @@ use Rattle.record.proofs.Lengths.{from_in, encode_length}
 use Rattle.record.proofs.RoundTrip.{encode_decode, decode_encode}
 use Rattle.job.specs.Calls.{read_no, read_job, write_no, copy_no, WrittenRead, SameFields}
 use Rattle.job.proofs.Shape.{Shaped, shaped, few, well_formed}
-use Rattle.job.proofs.Decided.{readable, read_fields, read_accepted, Writable, writable, write_room, copy_room}
+use Rattle.job.proofs.Decided.{readable, read_passed, read_accepted, Writable, writable, write_room, copy_room}
 
 -- an accepted record, read and written
 module _ (b : List ℕ) (accepted : read_no b ≡ 0) where
@@ -151,7 +151,7 @@ module _ (job : Job) (room : ℕ) (done : write_no job room ≡ 0) where
         let from = from_in (version_of job) in
         let long : 40 ≤ length (encode job) = rw (encode_length job) (omega arith) in
         let head : header_ok (header_at (encode job)) ≡ true = rw head_again may.header in
-        (read_fields (encode job) (well_formed (encode job) long stated_again version_again head shape_again)).0 ∙ fields_again
+        sym (read_passed (encode job) (sym (well_formed (encode job) long stated_again version_again head shape_again)) (sym fields_again))
 
     pub same_fields : read_job (encode job) ≡ kept job
     same_fields = read_accepted (encode job) accepted_again ∙ again

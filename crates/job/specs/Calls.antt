@@ -1,8 +1,9 @@
 -- Reading and writing a record: the checks in the order of document 01, "Refused orders", as L4 of document 02 changes them, and what
 -- is given back.
 -- Assumes nothing.
-use Rattle.std.specs.Prelude.{ℕ, ◌≤◌, ◌<◌, ◌≡◌, Bool, not, ◌||◌, cond, List, [], ◌∷◌, ◌++◌, length, ltb, eqb}
+use Rattle.std.specs.Prelude.{ℕ, ◌≤◌, ◌<◌, ◌≡◌, Bool, not, ◌||◌, cond, List, [], ◌∷◌, ◌++◌, length, ltb, eqb, Result, Ok, Err}
 use Rattle.basis.specs.Part.{part}
+use Rattle.answer.specs.declared.Refusal.{Refusal}
 use Rattle.answer.specs.Checks.{first_no, too_short, buffer_after}
 use Rattle.wire.specs.Wire.{byte_at, be_at}
 use Rattle.fields.specs.declared.Job.{Job}
@@ -55,6 +56,11 @@ copy_checks b room = read_checks b ++ ((too_short room (length b), 14) ∷ [])
 
 unfoldable pub copy_no : List ℕ → ℕ → ℕ
 copy_no b room = first_no (copy_checks b room)
+
+-- the fields that a call gives back: all zero where it refuses
+abbrev pub job_in : Result Job Refusal → Job
+job_in (Ok job) = job
+job_in (Err refusal) = blank_job
 
 -- writing a job and reading the record again: the writer's number, the buffer as the writer leaves it, and where the number is 0 the
 -- fields that reading gives, which are those that a record keeps; after a refusal nothing is read, and they are all zero

@@ -1,19 +1,21 @@
 -- The meter of least loss among the first n, one meter more at a time; over the whole list it is the winner.
 -- Assumes nothing.
+use Rattle.std.proofs.Common.{Option, Some, None, unwrap_or, option_map}
 use mathlib.Core.Path.{◌≡◌, refl, sym, ◌∙◌}
-use mathlib.Core.Bool.{Bool, true, false, not, ◌||◌}
+use mathlib.Core.Bool.{Bool, true, false, not, ◌&&◌, ◌||◌}
 use mathlib.Core.Logic.{◌⊎◌, inl, inr, ⊎_elim}
 use mathlib.Core.List.{List}
-use Prim.Native.Nat.{ℕ, zero, suc, ◌-◌, ◌≤◌, ◌<◌}
+use Prim.Native.Nat.{ℕ, zero, suc, ◌≤◌, ◌<◌}
 use native.Mathlib.Nat.{eq-or-lt_of_le}
 use native.Mathlib.Omega.{arith}
 use lib.Dec.{leb}
-use borrow.Author.Tests.{le-leb, leb-true, not-true, not-false}
-use Rattle.basis.proofs.Bools.{apart, left, right, never}
+use borrow.Author.Tests.{le-leb, leb-true, lt-ltb, ltb-true, not-true, not-false}
+use Rattle.basis.proofs.Bools.{apart, left, right, never, not_both}
 use Rattle.basis.proofs.Split.{either, lt_or_ge}
 use Rattle.basis.proofs.Each.{Found, all_at, all_each, any_at, any_found}
 use Rattle.basis.proofs.Lowest.{lowest_only, lowest_none}
 use Rattle.meters.specs.Meters.{meters_in, meter_at, meter_loss, qualifies, none_qualifies, least_at, winner_of}
+use Rattle.meters.specs.Steps.{beats, better}
 use Rattle.meters.proofs.Qualifying.{loss_top}
 
 module _ (list : List ℕ) (q mean : ℕ) where
@@ -62,6 +64,31 @@ module _ (list : List ℕ) (q mean : ℕ) where
               (λ some. inr (some.0, record { low = some.1.low; high = omega (arith, some.1.high); fit = some.1.fit; lower = some.1.lower }))
               l.held;
         }
+
+  -- the same with place and loss as an option
+  abbrev pub Best : ℕ → Option (ℕ × ℕ) → Type 0
+  Best n None = Leads n 0 501
+  Best n (Some best) = (0 < best.0) × Leads n best.0 best.1
+
+  module _ {n : ℕ} (t : ℕ) (next : t ≡ suc n) where
+    take : (best : Option (ℕ × ℕ)) → Best n best → fits t ≡ true → beats (loss t) best ≡ true → Best t (Some (t, loss t))
+    take None l e b = (omega arith, leads_less l t next (omega (arith, loss_top (meter_at list t) q mean e)) e)
+    take (Some best) l e b = (omega arith, leads_less l.1 t next (ltb-true (loss t) best.1 b) e)
+
+    pass : (best : Option (ℕ × ℕ)) → Best n best → (fits t && beats (loss t) best) ≡ false → Best t best
+    pass None l e = leads_same l t next (λ h f. not_both _ _ e f refl)
+    pass (Some best) l e = (l.0, leads_same l.1 t next (λ h f. not_both _ _ e f (lt-ltb (loss t) best.1 h)))
+
+    pub best_more : (best : Option (ℕ × ℕ)) → Best n best → Best t (better best t (meter_at list t) q mean)
+    unfolding better
+    best_more best l =
+        ⊎_elim
+        (λ (e : (fits t && beats (loss t) best) ≡ true). rw e (take best l (left (fits t) (beats (loss t) best) e) (right (fits t) (beats (loss t) best) e)))
+        (λ (e : (fits t && beats (loss t) best) ≡ false). rw e (pass best l e))
+        (either (fits t && beats (loss t) best))
+
+    pub best_last : (m : ℕ) → m ≡ t → (best : Option (ℕ × ℕ)) → Best n best → Best m (better best t (meter_at list t) q mean)
+    best_last m e best l = rw e (best_more best l)
 
   -- the definition's two parts
   abbrev no_less : ℕ → ℕ → Bool
@@ -115,6 +142,10 @@ module _ (list : List ℕ) (q mean : ℕ) where
       sym (lowest_none (meters_in list) (least_at list q mean) (λ u p k. never (least_at list q mean u) (λ e. apart (least_fits u e) (leads_none at u p k)))))
       (λ some. leads_first (rw some.0 at l) some.1)
       l.held
+
+  pub best_wins : (best : Option (ℕ × ℕ)) → Best (meters_in list) best → unwrap_or (option_map (λ (b : ℕ × ℕ). b.0) best) 0 ≡ winner_of list q mean
+  best_wins None l = leads_wins l
+  best_wins (Some best) l = leads_wins l.1
 
   -- there is such a place and such a loss for every n
   record Lead (n : ℕ) : Type 0 where

@@ -1,12 +1,14 @@
 // The list of meters: its rules, a meter's loss, and the meter that wins.
 #![tactic(auto)]
 
-ghost use Rattle.std.specs.Prelude.{◌≡◌, true, ◌*◌, ◌≤◌, ◌<◌, length};
+ghost use Rattle.std.specs.Prelude.{◌≡◌, true, ◌*◌, ◌≤◌, ◌<◌, length, unwrap_or, IfSome};
 ghost use Rattle.meters.specs.Meters.{meter_at, meter_ok, meters_ok, meter_loss, most_loss, qualifies, winner_of};
+ghost use Rattle.meters.specs.Steps.{better};
 
-use numbers::{long16, long32};
+use wire::Field;
 
 // A meter: its form, the paper's type (1 vane, 2 turbine), its resistance in ten-thousandths of m per (l/s) squared, and service flow in l/h.
+// The form is the field as the list has it, which 17 may refuse: so it is a number.
 #[derive(Clone, Copy)]
 pub struct Meter {
     pub form: u8,
@@ -15,6 +17,7 @@ pub struct Meter {
 }
 
 // The meter at place t, from 1.
+#[tactic(auto, unfolding(crate::specs::Meters::meter_at))]
 pub fn meter_at(list: &[u8], t: usize) -> Meter
     requires { (0 < t) × (5 * t ≤ length list.now) }
     ensures { result ≡ meter_at list.now t }
@@ -22,22 +25,16 @@ pub fn meter_at(list: &[u8], t: usize) -> Meter
     let at = 5 * (t - 1);
     Meter {
         form: list[at],
-        resistance: wire::be16(list, at + 1),
-        service: wire::be16(list, at + 3),
+        resistance: u16::at(list, at + 1),
+        service: u16::at(list, at + 3),
     }
 }
 
+#[tactic(auto, unfolding(crate::specs::Meters::meter_ok))]
 fn meter_ok(m: Meter) -> bool
     ensures { result ≡ meter_ok m }
 {
-    match m.form {
-        1..=2 => {}
-        _ => return false,
-    }
-    if m.resistance == 0 {
-        return false;
-    }
-    1 <= m.service
+    (1..=2).contains(&m.form) && 1 <= m.resistance && 1 <= m.service
 }
 
 // 17 finds nothing.
@@ -45,19 +42,13 @@ pub fn meters_ok(list: &[u8]) -> bool
     ensures { result ≡ meters_ok list.now }
 {
     let count = list.len() / 5;
-    match count {
-        1..=8 => {}
-        _ => return false,
-    }
-    if list.len() != 5 * count {
+    if !(1..=8).contains(&count) || list.len() != 5 * count {
         return false;
     }
-    let mut t: usize = 1;
-    while t <= count {
+    for t in 1..=count {
         if !meter_ok(meter_at(list, t)) {
             return false;
         }
-        t += 1;
     }
     true
 }
@@ -67,45 +58,50 @@ pub fn loss_of(m: Meter, q: u32) -> u32
     requires { q ≤ 137850 }
     ensures { result ≡ meter_loss m q }
 {
-    let flow = long32(q);
-    round::divide_up(long16(m.resistance) * flow * flow, 100000000) as u32
+    let flow = u64::from(q);
+    round::divide_up(u64::from(m.resistance) * flow * flow, 100000000) as u32
 }
 
 // The most loss of a meter that qualifies.
+#[tactic(auto, unfolding(crate::specs::Meters::most_loss))]
 fn most_loss(m: Meter) -> u32
     ensures { result ≡ most_loss m }
 {
     if m.form == 1 { 500 } else { 250 }
 }
 
+#[tactic(auto, unfolding(crate::specs::Meters::qualifies))]
 fn qualifies(m: Meter, q: u32, mean: u32) -> bool
     requires { q ≤ 137850 }
     ensures { result ≡ qualifies m q mean }
 {
-    if most_loss(m) < loss_of(m, q) {
-        return false;
-    }
-    mean <= m.service as u32
+    loss_of(m, q) <= most_loss(m) && mean <= u32::from(m.service)
 }
 
-// The place of the meter that wins, 0 where none qualifies.
-pub fn winner(list: &[u8], q: u32, mean: u32) -> usize
-    requires { (meters_ok list.now ≡ true) × (q ≤ 137850) }
-    ensures { result ≡ winner_of list.now q mean }
+// The better of the best so far, a place with the loss there, and the meter at place t.
+#[tactic(auto, unfolding(crate::specs::Steps::better))]
+fn better(best: Option<(usize, u32)>, t: usize, m: Meter, q: u32, mean: u32) -> Option<(usize, u32)>
+    requires { q ≤ 137850 }
+    ensures { result ≡ better best t m q mean }
 {
-    let count = list.len() / 5;
-    let mut place: usize = 0;
-    // Over every loss that qualifies.
-    let mut least: u32 = 501;
-    let mut t: usize = 1;
-    while t <= count {
-        let m = meter_at(list, t);
-        let loss = loss_of(m, q);
-        if loss < least && qualifies(m, q, mean) {
-            place = t;
-            least = loss;
-        }
-        t += 1;
+    let loss = loss_of(m, q);
+    if qualifies(m, q, mean) && best.is_none_or(|(_, least)| loss < least) {
+        Some((t, loss))
+    } else {
+        best
     }
-    place
+}
+
+// The place of the meter that wins.
+pub fn winner(list: &[u8], q: u32, mean: u32) -> Option<usize>
+    requires { (meters_ok list.now ≡ true) × (q ≤ 137850) }
+    ensures place { unwrap_or result 0 ≡ winner_of list.now q mean }
+    ensures named { IfSome result (λ t. 0 < t) }
+{
+    let mut best = None;
+    for t in 1..=list.len() / 5 {
+        best = better(best, t, meter_at(list, t), q, mean);
+    }
+    let (place, _) = best?;
+    Some(place)
 }

@@ -17,3 +17,17 @@ pub struct Tables {
     pub costs: [u32; 832],
     pub ghost sound: { Sound (net_of sections sizes parents needs losses costs) },
 }
+
+impl Tables {
+    ghost use Rattle.std.specs.Prelude.{◌≡◌, ℕ, ◌+◌, ◌*◌, ◌≤◌, ◌<◌, length, slice_index};
+
+    // The losses of the sizes of section s.
+    pub fn losses_of(&self, s: usize) -> &[u32]
+        requires { s ≤ self.now.sections }
+        ensures long { length result.now ≡ self.now.sizes }
+        ensures is { (k : ℕ) → k < self.now.sizes → slice_index result.now k ≡ slice_index self.now.losses (s * 13 + (k + 1)) }
+    {
+        let at = s * 13;
+        &self.losses[at + 1..=at + self.sizes]
+    }
+}

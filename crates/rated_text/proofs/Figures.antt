@@ -1,15 +1,16 @@
 -- The text for a job, a catalogue and a size list: that of a refusal, and that of a rating from figures at the sections' places.
 -- Assumes nothing.
-use mathlib.Core.Path.{◌≡◌, ◌∙◌}
-use mathlib.Core.List.{List}
-use Prim.Native.Nat.{ℕ, ◌+◌, ◌≤◌}
+use mathlib.Core.Path.{◌≡◌, sym, ◌∙◌}
+use mathlib.Core.List.{List, ◌++◌, append_assoc}
+use Prim.Native.Nat.{ℕ, zero, suc, ◌+◌, ◌-◌, ◌≤◌, ◌<◌}
 use native.Mathlib.Omega.{arith}
 use lib.ListN.{get_or}
+use Rattle.std.proofs.lemmas.List.{append-nil}
 use borrow.Author.Tests.{eq-eqb, ne_eqb}
 use Rattle.basis.specs.Range.{concat_to}
 use Rattle.basis.specs.Sections.{size_of}
 use Rattle.basis.specs.Slots.{slots}
-use Rattle.basis.proofs.Concat.{concat_ext}
+use Rattle.basis.proofs.Concat.{concat_none, concat_more, concat_ext}
 use Rattle.basis.proofs.Slots.{slots_in}
 use Rattle.fields.specs.declared.Job.{Job}
 use Rattle.fields.specs.Fields.{count_of}
@@ -22,6 +23,17 @@ use Rattle.rating.specs.Steps.{RatedJob}
 use Rattle.rating.proofs.Rated.{velocity_at_lem, loss_at_lem, rated_count}
 use Rattle.lines.specs.Lines.{section_line, refused_line}
 use Rattle.rated_text.specs.RatedText.{lines_of, rated_text, text_of}
+
+-- a text to which f 1, f 2, .. are added one after another
+module _ (f : ℕ → List ℕ) (old : List ℕ) where
+  pub lines_none : old ≡ old ++ concat_to 0 f
+  lines_none = rw (concat_none f) (sym (append-nil old))
+
+  pub lines_more : {text new : List ℕ} (i : ℕ) → 0 < i → text ≡ old ++ concat_to (i - 1) f → new ≡ text ++ f i → new ≡ old ++ concat_to i f
+  lines_more zero h p q = absurd (omega arith)
+  lines_more (suc n) h p q =
+      let e : suc n - 1 ≡ n = omega arith in
+      rw (concat_more n f) (q ∙ rw (rw e at p) (append_assoc old (concat_to n f) (f (suc n))))
 
 -- the sections' lines with their flows at the sections' places
 pub flows_at : (job : Job) (v w : ℕ → ℕ) → count_of job ≤ 63 →

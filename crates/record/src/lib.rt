@@ -11,6 +11,7 @@ pub const METER: usize = 8;
 pub const SERVICE: usize = 40;
 
 // Where the sections begin.
+#[tactic(auto, unfolding(crate::specs::Record::sections_from))]
 fn sections_from(version: u8) -> usize
     ensures { (result ≡ sections_from version) × (result ≤ 41) }
 {
@@ -29,5 +30,5 @@ pub fn place_of(version: u8, i: usize) -> usize
 pub fn length_of(version: u8, count: u8) -> usize
     ensures { (result ≡ length_of version count) × (result ≤ 2591) }
 {
-    place_of(version, (count as usize) + 1)
+    place_of(version, usize::from(count) + 1)
 }

@@ -12,7 +12,6 @@ use Rattle.basis.proofs.Each.{any_at, any_each}
 use Rattle.fields.specs.declared.Job.{Job}
 use Rattle.fields.specs.Fields.{count_of, section_of}
 use Rattle.tree.specs.Tree.{Rooted, set_of}
-use Rattle.tree.proofs.Filled.{shifted}
 use Rattle.tree.proofs.Served.{set_alone, set_more}
 use Rattle.rules.specs.Rules.{childless}
 
@@ -42,7 +41,5 @@ module _ {job : Job} (r : Rooted job) (i : ℕ) (h : 0 < i) (k : i ≤ count_of 
       same (childless job i) (eqb (set_of job i) (2 ^ i)) (λ e. eq-eqb (set_of job i) (2 ^ i) (alone e))
       (λ e. no_child (eqb-true (set_of job i) (2 ^ i) e))
 
-  pub zero_set : (x : ℕ) → x ≡ set_of job i → childless_zero_at job i ≡ (eqb (section_of job i).kind 0 && eqb x ((1 * 2 ^ i) % 2 ^ 64))
-  zero_set x e =
-      let few = r.few in
-      rw (childless_set, e, shifted i (omega arith))
+  pub zero_set : (x : ℕ) → x ≡ set_of job i → childless_zero_at job i ≡ (eqb (section_of job i).kind 0 && eqb x (2 ^ i))
+  zero_set x e = rw (childless_set, e)

@@ -1,7 +1,7 @@
 // Refusals 2, 3, 5, 6 and 7: the rules that the fields of a job keep.
 #![tactic(auto)]
 
-ghost use Rattle.std.specs.Prelude.{◌≡◌, ◌≤◌};
+ghost use Rattle.std.specs.Prelude.{◌≡◌, ◌≤◌, ◌<◌, ◌^◌, ◌&&◌, eqb};
 ghost use Rattle.answer.specs.Answer.{number_of};
 ghost use Rattle.answer.specs.Checks.{first_no};
 ghost use Rattle.fields.specs.Fields.{count_of};
@@ -9,121 +9,73 @@ ghost use Rattle.tree.specs.Tree.{Rooted};
 ghost use Rattle.tree.specs.Rows.{Kinds};
 ghost use Rattle.rules.specs.Rules.{version_ok, service_ok, header_ok, kind_ok, elevation_ok, section_ok, sections_ok, childless_zero, unmatched, field_checks};
 
-use answer::Answer;
+use answer::Refusal;
 use fields::{Header, Job, Section};
 use tree::{counts, sets};
 
 // 2: the version is 1 or 2.
+#[tactic(auto, unfolding(crate::specs::Rules::version_ok))]
 pub fn version_ok(h: Header) -> bool
     ensures { result ≡ version_ok h }
 {
-    let version = h.version;
-    match version {
-        1..=2 => true,
-        _ => false,
-    }
+    (1..=2).contains(&h.version)
 }
 
 // The service is total, cold or hot; with version 1 it is total.
+#[tactic(auto, unfolding(crate::specs::Rules::service_ok))]
 fn service_ok(h: Header) -> bool
     ensures { result ≡ service_ok h }
 {
-    let service = h.service;
-    match service {
-        0 => true,
-        1..=2 => h.version != 1,
-        _ => false,
+    if h.version == 1 {
+        h.service == 0
+    } else {
+        h.service <= 2
     }
 }
 
 // 3: each head field is in its range.
+#[tactic(auto, unfolding(crate::specs::Rules::header_ok))]
 pub fn header_ok(h: Header) -> bool
     ensures { result ≡ header_ok h }
 {
-    if !service_ok(h) {
-        return false;
-    }
-    let tenths = h.tenths;
-    let sections = h.sections;
-    let hours = h.hours;
-    let meter = h.meter;
-    let guaranteed = h.guaranteed;
-    let delivered = h.delivered;
-    let limit = h.limit;
-    match tenths {
-        2..=3 => {}
-        _ => return false,
-    }
-    match sections {
-        1..=63 => {}
-        _ => return false,
-    }
-    match hours {
-        1..=24 => {}
-        _ => return false,
-    }
-    match meter {
-        0..=1000 => {}
-        _ => return false,
-    }
-    match guaranteed {
-        0..=6000 => {}
-        _ => return false,
-    }
-    match delivered {
-        0..=6000 => {}
-        _ => return false,
-    }
-    match limit {
-        1..=3000 => true,
-        _ => false,
-    }
+    service_ok(h)
+        && (2..=3).contains(&h.tenths)
+        && (1..=63).contains(&h.sections)
+        && (1..=24).contains(&h.hours)
+        && h.meter <= 1000
+        && h.guaranteed <= 6000
+        && h.delivered <= 6000
+        && (1..=3000).contains(&h.limit)
 }
 
+#[tactic(auto, unfolding(crate::specs::Rules::kind_ok))]
 fn kind_ok(s: Section) -> bool
     ensures { result ≡ kind_ok s }
 {
-    let kind = s.kind;
-    match kind {
-        0 => { if s.fixtures == 0 { s.free == 0 } else { false } }
-        1..=12 => 1 <= s.fixtures,
-        _ => false,
+    if s.kind == 0 {
+        s.fixtures == 0 && s.free == 0
+    } else {
+        s.kind <= 12 && 1 <= s.fixtures
     }
 }
 
+#[tactic(auto, unfolding(crate::specs::Rules::elevation_ok))]
 fn elevation_ok(e: i16) -> bool
     ensures { result ≡ elevation_ok e }
 {
-    match e {
-        -1000..=6000 => true,
-        _ => false,
-    }
+    (-1000..=6000).contains(&e)
 }
 
 // Section i keeps its own fields' rules.
+#[tactic(auto, unfolding(crate::specs::Rules::section_ok))]
 fn section_ok(i: usize, s: Section) -> bool
     ensures { result ≡ section_ok i s }
 {
-    let parent = s.parent as usize;
-    let decimetres = s.decimetres;
-    let free = s.free;
-    if i <= parent {
-        return false;
-    }
-    if !kind_ok(s) {
-        return false;
-    }
-    if !elevation_ok(s.elevation) {
-        return false;
-    }
-    match decimetres {
-        1..=5000 => {}
-        _ => return false,
-    }
-    match free {
-        0..=1000 => true,
-        _ => false,
-    }
+    usize::from(s.parent) < i
+        && kind_ok(s)
+        && (1..=5000).contains(&s.decimetres)
+        && elevation_ok(s.elevation)
+        && s.free <= 1000
 }
 
 // 5: every section keeps its own fields' rules.
@@ -131,15 +83,21 @@ fn sections_ok(job: Job) -> bool
     requires { count_of job ≤ 63 }
     ensures { result ≡ sections_ok job }
 {
-    let count = job.header.sections as usize;
-    let mut i: usize = 1;
-    while i <= count {
+    for i in 1..=usize::from(job.header.sections) {
         if !section_ok(i, job.sections[i]) {
             return false;
         }
-        i += 1;
     }
     true
+}
+
+// Kind 0 on section i, of which the set is its own bit alone.
+#[tactic(auto, using(tree::proofs::Filled::shifted))]
+fn bare_end(kind: u8, set: u64, i: usize) -> bool
+    requires { i < 64 }
+    ensures { result ≡ (eqb kind 0 && eqb set (2 ^ i)) }
+{
+    kind == 0 && set == 1u64 << i
 }
 
 // 6: a section that nobody has for a parent, whose set is its own bit alone, has kind 0.
@@ -147,16 +105,11 @@ fn childless_zero(job: Job) -> bool
     requires { Rooted job }
     ensures { result ≡ childless_zero job }
 {
-    let count = job.header.sections as usize;
     let below = sets(job);
-    let mut i: usize = 1;
-    while i <= count {
-        if job.sections[i].kind == 0 {
-            if below[i] == 1u64 << i {
-                return true;
-            }
+    for i in 1..=usize::from(job.header.sections) {
+        if bare_end(job.sections[i].kind, below[i], i) {
+            return true;
         }
-        i += 1;
     }
     false
 }
@@ -167,29 +120,27 @@ fn unmatched_kind(job: Job) -> bool
     ensures { result ≡ unmatched job }
 {
     let served = counts(job);
-    let mut c: usize = 0;
-    while c < 12 {
+    for c in 0..12 {
         if (job.residents[c] == 0) != (served[c] == 0) {
             return true;
         }
-        c += 1;
     }
     false
 }
 
-// The first of 5, 6 and 7 that the job breaks; `Done` where it breaks none.
-pub fn broken_rule(job: Job) -> Answer
+/// The first of 5, 6 and 7 that the job breaks, if it breaks one.
+pub fn broken_rule(job: Job) -> Result<(), Refusal>
     requires { count_of job ≤ 63 }
     ensures { number_of result ≡ first_no (field_checks job) }
 {
     if !sections_ok(job) {
-        return Answer::SectionRules;
+        return Err(Refusal::SectionRules);
     }
     if childless_zero(job) {
-        return Answer::ChildlessKind;
+        return Err(Refusal::ChildlessKind);
     }
     if unmatched_kind(job) {
-        return Answer::Residents;
+        return Err(Refusal::Residents);
     }
-    Answer::Done
+    Ok(())
 }

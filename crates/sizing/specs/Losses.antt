@@ -7,9 +7,8 @@ use Rattle.basis.specs.Round.{up}
 use Rattle.fields.specs.declared.Job.{Job}
 use Rattle.fields.specs.Fields.{count_of, section_of}
 use Rattle.demand.specs.Demand.{section_flow}
-use Rattle.catalogue.specs.declared.reading.SizeAtFlow.{SizeAtFlow}
 use Rattle.catalogue.specs.Layout.{sizes_of, rows_of, part_of}
-use Rattle.catalogue.specs.Reading.{read_rows}
+use Rattle.catalogue.specs.Reading.{SizeAtFlow, read_rows}
 
 -- 12 finds nothing: the list is S long and names sizes
 unfoldable pub list_ok : Job → List ℕ → List ℕ → Bool

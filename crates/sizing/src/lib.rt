@@ -1,17 +1,16 @@
 // A section with a size: the size read at the section's flow, the test of 13, and the loss.
 #![tactic(auto)]
 
-ghost use Rattle.std.specs.Prelude.{◌≡◌, true, ◌≤◌, ◌<◌};
+ghost use Rattle.std.specs.Prelude.{◌≡◌, ◌≤◌, ◌<◌, IfSome};
 ghost use Rattle.catalogue.specs.Layout.{sizes_of, rows_of, part_of};
 ghost use Rattle.catalogue.specs.Reading.{read_rows};
 ghost use Rattle.catalogue.specs.Steps.{AcceptedCat};
 ghost use Rattle.sizing.specs.Losses.{loss_of};
 ghost use Rattle.sizing.specs.Steps.{tried_of};
 
-// Whether the flow is over the size's last row or the velocity over the limit; velocity in mm/s and loss in cm, 0 where it is.
+// Velocity in mm/s and loss in cm.
 #[derive(Clone, Copy)]
 pub struct Tried {
-    pub over: bool,
     pub velocity: u32,
     pub loss: u32,
 }
@@ -21,36 +20,29 @@ fn loss(slope: u32, decimetres: u16, tenths: u8) -> u32
     requires { (slope ≤ 65535) × (decimetres ≤ 5000) × (tenths ≤ 3) }
     ensures { (result ≡ loss_of slope decimetres tenths) × (result ≤ 4259775) }
 {
-    let product = (slope as u64) * (decimetres as u64) * (10 + (tenths as u64));
+    let product = u64::from(slope) * u64::from(decimetres) * (10 + u64::from(tenths));
     round::divide_up(product, 1000) as u32
 }
 
-fn over() -> Tried
-    ensures { result ≡ record { over = true; velocity = 0; loss = 0 } }
-{
-    Tried {
-        over: true,
-        velocity: 0,
-        loss: 0,
-    }
-}
-
-// A section of so many decimetres with size s of an accepted catalogue at flow q.
-pub fn try_size(cat: &[u8], s: usize, q: u32, limit: u16, decimetres: u16, tenths: u8) -> Tried
+// A section of so many decimetres with size s of an accepted catalogue at flow q; none where the flow is over the size's last row or the velocity over the limit.
+pub fn try_size(
+    cat: &[u8],
+    s: usize,
+    q: u32,
+    limit: u16,
+    decimetres: u16,
+    tenths: u8,
+) -> Option<Tried>
     requires { AcceptedCat cat.now × ((0 < s) × (s ≤ sizes_of cat.now)) × ((decimetres ≤ 5000) × (tenths ≤ 3)) }
     ensures is { result ≡ tried_of (read_rows (part_of cat.now s) (rows_of cat.now) q) limit decimetres tenths }
-    ensures small { (result.velocity ≤ 65535) × (result.loss ≤ 4259775) }
+    ensures small { IfSome result (λ t. (t.velocity ≤ 65535) × (t.loss ≤ 4259775)) }
 {
-    let r = catalogue::read_size(cat, s, q);
-    if !r.serves {
-        return over();
+    let reading = catalogue::read_size(cat, s, q)?;
+    if u32::from(limit) < reading.velocity {
+        return None;
     }
-    if (limit as u32) < r.velocity {
-        return over();
-    }
-    Tried {
-        over: false,
-        velocity: r.velocity,
-        loss: loss(r.slope, decimetres, tenths),
-    }
+    Some(Tried {
+        velocity: reading.velocity,
+        loss: loss(reading.slope, decimetres, tenths),
+    })
 }

@@ -1,19 +1,48 @@
--- What the code that gives a number's bits asks, at any width: a number of w bits, to which 2 to the w is added as to one of v bits.
+-- What std's conversions of numbers give, in the words of the definitions: the bytes of a number and the number in bytes, and two's
+-- complement.
 -- Assumes nothing.
-use mathlib.Core.Path.{◌≡◌, refl, ◌∙◌}
-use mathlib.Core.Bool.{true, false}
-use Prim.Native.Nat.{suc, ◌^◌, ◌≤◌, ◌<◌}
-use native.Mathlib.Nat.{lt_of_lt_of_le}
+use mathlib.Core.Path.{◌≡◌, refl}
+use mathlib.Core.Logic.{⊎_elim}
+use mathlib.Core.List.{List, [], ◌∷◌}
+use Prim.Native.Nat.{ℕ, suc, ◌+◌, ◌/◌, ◌%◌, ◌^◌, ◌<◌}
 use native.Mathlib.Omega.{arith}
-use lib.Dec.{T}
-use lib.IntN.{ℤ, pos, nat_abs, ◌+ℤ◌}
-use lib.Pow.{pow_mono}
-use lib.Signed.{lt_z, non_neg}
+use lib.IntN.{ℤ, pos, negsuc}
+use borrow.Author.Tests.{lt-ltb, le-ltb}
 use mir.Syntax.{Width, w8, w16, w32, w64, w128}
-use mir.Val.{SFits, Fits, bits, hbits, to_z, of_z}
-use mir.Facts.{to_z-of_z}
-use Rattle.wire.specs.Wire.{bits_of}
-use Rattle.wire.proofs.Signed.{bits_lt, bits_negative, bits_positive}
+use mir.Val.{SFits, bits, hbits}
+use Rattle.std.specs.Int.{to_be_bytes, from_be_bytes, cast_signed, cast_unsigned}
+use Rattle.std.proofs.lemmas.Int.{of_z-to_z, to_z-of_z}
+use Rattle.basis.proofs.Split.{lt_or_ge}
+use Rattle.wire.specs.Wire.{byte_at, be_at, bytes_of, signed_of, bits_of}
+use Rattle.wire.proofs.Signed.{signed_low, signed_high}
+
+pub to_be_two : (n : ℕ) → n < 2 ^ 16 → to_be_bytes w16 n ≡ bytes_of 2 n
+unfolding bytes_of
+to_be_two n h = refl
+
+pub to_be_four : (n : ℕ) → n < 2 ^ 32 → to_be_bytes w32 n ≡ bytes_of 4 n
+unfolding bytes_of
+to_be_four n h =
+    let third : n / 256 ^ 3 % 256 ≡ n / 256 / 256 / 256 % 256 = omega arith in
+    let second : n / 256 ^ 2 % 256 ≡ n / 256 / 256 % 256 = omega arith in
+    rw (third, second)
+
+pub from_be_two : (l : List ℕ) (i : ℕ) → from_be_bytes w16 (byte_at l i ∷ byte_at l (i + 1) ∷ []) ≡ be_at 2 l i
+unfolding be_at
+from_be_two l i = let e : i + 0 ≡ i = omega arith in rw e (omega arith)
+
+pub from_be_four : (l : List ℕ) (i : ℕ) → from_be_bytes w32 (byte_at l i ∷ byte_at l (i + 1) ∷ byte_at l (i + 2) ∷ byte_at l (i + 3) ∷ []) ≡ be_at 4 l i
+unfolding be_at
+from_be_four l i = let e : i + 0 ≡ i = omega arith in rw e (omega arith)
+
+bits_is : (w : Width) (z : ℤ) → cast_unsigned w z ≡ bits_of (bits w) z
+unfolding bits_of
+bits_is w (pos n) = refl
+bits_is w (negsuc n) = refl
+
+-- the same of a number that has been to its bits and back, as the code holds one
+pub bits_held : (w : Width) (z : ℤ) → SFits w z → cast_unsigned w (cast_signed w (cast_unsigned w z)) ≡ bits_of (bits w) z
+bits_held w z fit = rw (to_z-of_z w z fit) (bits_is w z)
 
 -- the width is one more than the bits below the highest
 bits_half : (w : Width) → bits w ≡ suc (hbits w)
@@ -23,49 +52,11 @@ bits_half w32 = refl
 bits_half w64 = refl
 bits_half w128 = refl
 
-module _ {w : Width} (v : Width) (wider : bits w ≤ hbits v) {z : ℤ} (fit : SFits w z) where
-  own : to_z w (of_z w z) ≡ z
-  own = to_z-of_z fit
+signed_is : (w : Width) (n : ℕ) → n < 2 ^ bits w → cast_signed w n ≡ signed_of (bits w) n
+signed_is w n h =
+    ⊎_elim (λ lt. rw (lt-ltb n (2 ^ hbits w) lt, bits_half w, signed_low (hbits w) n lt))
+    (λ ge. rw (le-ltb n (2 ^ hbits w) ge, bits_half w, signed_high (hbits w) n ge (rw (bits_half w) at h))) (lt_or_ge n (2 ^ hbits w))
 
-  wide : SFits v z
-  wide = record { sfits = lt_of_lt_of_le fit.sfits (pow_mono (omega (arith, bits_half w))) }
-
-  below : bits_of (bits w) z < 2 ^ bits w
-  below = rw (bits_half w) (bits_lt (hbits w) z fit.sfits)
-
-  pub cast_fits : SFits v (to_z w (of_z w z))
-  cast_fits = rw own wide
-
-  -- a negative number's bits are the sum
-  module _ (less : lt_z (to_z w (of_z w z)) (pos 0) ≡ true) where
-    sum_bits : to_z v (of_z v (to_z w (of_z w z))) +ℤ pos (2 ^ bits w) ≡ pos (bits_of (bits w) z)
-    sum_bits =
-        simp (own, to_z-of_z wide)
-        (rw (bits_half w) (bits_negative (hbits w) z (rw own at less) fit.sfits))
-
-    bits_wide : SFits v (pos (bits_of (bits w) z))
-    bits_wide = record { sfits = lt_of_lt_of_le below (pow_mono wider) }
-
-    pub sum_fits : SFits v (to_z v (of_z v (to_z w (of_z w z))) +ℤ pos (2 ^ bits w))
-    sum_fits = rw sum_bits bits_wide
-
-    sum_kept : to_z v (of_z v (to_z v (of_z v (to_z w (of_z w z))) +ℤ pos (2 ^ bits w))) ≡ pos (bits_of (bits w) z)
-    sum_kept = to_z-of_z sum_fits ∙ sum_bits
-
-    pub sum_back : T (non_neg (to_z v (of_z v (to_z v (of_z v (to_z w (of_z w z))) +ℤ pos (2 ^ bits w))))) ×
-        Fits w (nat_abs (to_z v (of_z v (to_z v (of_z v (to_z w (of_z w z))) +ℤ pos (2 ^ bits w)))))
-    sum_back = rw sum_kept (tt, record { fits = below })
-
-    pub sum_is : nat_abs (to_z v (of_z v (to_z v (of_z v (to_z w (of_z w z))) +ℤ pos (2 ^ bits w)))) ≡ bits_of (bits w) z
-    sum_is = rw sum_kept
-
-  -- one that is not negative is its bits as it stands
-  module _ (least : lt_z (to_z w (of_z w z)) (pos 0) ≡ false) where
-    same : T (non_neg z) × (nat_abs z ≡ bits_of (bits w) z)
-    same = rw (bits_half w) (bits_positive (hbits w) z (rw own at least))
-
-    pub same_back : T (non_neg (to_z w (of_z w z))) × Fits w (nat_abs (to_z w (of_z w z)))
-    same_back = rw own (same.0, record { fits = rw same.1 below })
-
-    pub same_is : nat_abs (to_z w (of_z w z)) ≡ bits_of (bits w) z
-    same_is = rw own same.1
+pub signed_held : (w : Width) (n : ℕ) (z : ℤ) → n < 2 ^ bits w → z ≡ cast_signed w n →
+    cast_signed w (cast_unsigned w z) ≡ signed_of (bits w) n
+signed_held w n z h e = rw (e, of_z-to_z w n h) (signed_is w n h)

@@ -1,26 +1,19 @@
 -- Two's complement at any width: which constructor a difference is, what fits, and the two directions' inverse laws.
 -- Assumes nothing.
-use mathlib.Core.Path.{◌≡◌, refl, ◌∙◌}
+use mathlib.Core.Path.{◌≡◌, ◌∙◌}
 use mathlib.Core.Logic.{⊎_elim}
-use mathlib.Core.Bool.{true, false}
 use Prim.Native.Nat.{ℕ, zero, suc, ◌-◌, ◌*◌, ◌^◌, ◌≤◌, ◌<◌}
 use native.Mathlib.Nat.{pow-suc}
 use native.Mathlib.Omega.{arith}
-use lib.Dec.{T}
-use lib.IntN.{ℤ, pos, negsuc, nat_abs, ◌+ℤ◌, ◌-ℤ◌}
-use lib.Signed.{mag, lt_z, non_neg}
-use mir.Syntax.{Width}
-use mir.Val.{SFits, hbits}
-use borrow.Author.Tests.{lt-ltb, le-ltb, ltb-true}
+use lib.IntN.{ℤ, pos, negsuc, ◌-ℤ◌}
+use lib.Signed.{mag}
+use borrow.Author.Tests.{lt-ltb, le-ltb}
 use Rattle.basis.proofs.Split.{lt_or_ge}
 use Rattle.wire.specs.Wire.{signed_of, bits_of}
 
 sub_neg : (a b : ℕ) → a < b → pos a -ℤ pos b ≡ negsuc (b - suc a)
 sub_neg a zero h = absurd (omega arith)
 sub_neg a (suc b) h = rw (lt-ltb a (suc b) h)
-
-pub sub_fits : (w : Width) (a b : ℕ) → a < b → b - suc a < 2 ^ hbits w → SFits w (pos a -ℤ pos b)
-sub_fits w a b h k = rw (sub_neg a b h) (record { sfits = k })
 
 -- over a width of one bit more than h
 module _ (h : ℕ) where
@@ -55,14 +48,3 @@ module _ (h : ℕ) where
   unfolding bits_of
   bits_lt (pos n) l = omega (arith, twice)
   bits_lt (negsuc n) l = omega (arith, twice)
-
-  -- a negative number with 2 to the width added is its bits, and one that is not negative is them as it stands
-  pub bits_negative : (z : ℤ) → lt_z z (pos 0) ≡ true → mag z < 2 ^ h → z +ℤ pos (2 ^ suc h) ≡ pos (bits_of (suc h) z)
-  unfolding bits_of
-  bits_negative (pos n) e l = absurd (omega (arith, ltb-true n 0 e))
-  bits_negative (negsuc n) e l = rw (le-ltb (2 ^ suc h) (suc n) (omega (arith, twice)))
-
-  pub bits_positive : (z : ℤ) → lt_z z (pos 0) ≡ false → T (non_neg z) × (nat_abs z ≡ bits_of (suc h) z)
-  unfolding bits_of
-  bits_positive (pos n) e = (tt, refl)
-  bits_positive (negsuc n) e = let x : ◌≡◌ {A = ℕ} 0 1 = cc in absurd (omega arith)

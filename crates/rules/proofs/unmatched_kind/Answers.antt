@@ -1,0 +1,29 @@
+-- `rules::unmatched_kind`: the test of a turn is that of the kind, by the house's row of counts.
+-- Assumes nothing.
+use Rattle.std.proofs.Common.{◌≡◌, ◌+◌, ◌*◌, refl, sym, ◌∙◌, arith}
+use Rattle.basis.proofs.Each.{any_none, any_more, any_true}
+use Rattle.rules.specs.Rules.{unmatched}
+use Rattle.rules.proofs.House.{odd_served}
+use Rattle.rules.proofs.unmatched_kind.Goals as goal
+
+pub loop-c-init : goal.loop-c-init
+loop-c-init c = any_none _
+
+pub returns-then-job-c : goal.returns-then-job-c
+unfolding unmatched
+returns-then-job-c c =
+    let row : 0 * 12 + c.loop-c.c ≡ c.loop-c.c = omega arith in
+    let own = rw row at (c.counts-served.ensures.at 0 c.loop-c.c (omega arith) (omega arith)) in
+    sym (any_true 12 (c.loop-c.c + 1) _ (omega arith) (omega arith) (odd_served c.requires.0 c.loop-c.c _ own ∙ c.if-job-c.true))
+
+pub loop-c-preserved : goal.loop-c-preserved
+loop-c-preserved c =
+    let row : 0 * 12 + c.loop-c.c ≡ c.loop-c.c = omega arith in
+    let own = rw row at (c.counts-served.ensures.at 0 c.loop-c.c (omega arith) (omega arith)) in
+    any_more _ _ _ refl c.loop-c.invariant (odd_served c.requires.0 c.loop-c.c _ own ∙ c.if-job-c.false)
+
+pub returns : goal.returns
+unfolding unmatched
+returns c =
+    let e : c.loop-c.c ≡ 12 = omega arith in
+    sym (rw e at c.loop-c.invariant)
