@@ -1,32 +1,51 @@
--- The search for the first row whose flow is at least q: it lies from lo to hi.
+-- The search for the first row whose flow is at least q: the flows rise, so that those under q come first.
 -- Assumes nothing.
-use mathlib.Core.Path.{◌≡◌}
-use Prim.Native.Nat.{ℕ, ◌+◌, ◌-◌, ◌≤◌, ◌<◌}
-use mathlib.Core.List.{List}
-use native.Mathlib.Omega.{arith}
+use Rattle.std.proofs.Common.{◌≡◌, true, false, List, [], ℕ, ◌-◌, ◌≤◌, ◌<◌, length, get_or, ltb, arith}
+use mathlib.Core.Logic.{⊎_elim}
+use native.Mathlib.Nat.{eq-or-lt_of_le}
+use borrow.Author.Tests.{ltb-true, ltb-false}
+use Rattle.std.specs.List.{concat}
+use Rattle.std.specs.List.Sorted.{IsPartitionedBy, IsPartitionPoint}
+use Rattle.std.proofs.lemmas.List.Sorted.{IsPartitionedBy-ltb, IsNonDecreasingBy-from_default}
 use Rattle.catalogue.specs.Layout.{flow_at}
-use Rattle.catalogue.specs.Steps.{Above}
+use Rattle.catalogue.specs.Steps.{Rows, Above}
+use Rattle.catalogue.proofs.Chunks.{Eights, flow_row}
+use Rattle.catalogue.proofs.Rising.{flows_rise}
 
-pub record Span (rows : List ℕ) (n q lo hi : ℕ) : Type 0 where
-  pub order : lo ≤ hi
-  pub inside : hi < n
-  pub reached : q ≤ flow_at rows hi
-  pub under : 0 < lo → flow_at rows (lo - 1) < q
+-- the flow of a row of eight bytes
+abbrev pub flow_of : List ℕ → ℕ
+flow_of row = flow_at row 0
 
-module _ {rows : List ℕ} {n q : ℕ} where
-  pub span_start : 0 < n → q ≤ flow_at rows (n - 1) → Span rows n q 0 (n - 1)
-  span_start h k = record { order = omega arith; inside = omega arith; reached = k; under = λ l. absurd (omega arith) }
+module _ (rows : List (List ℕ)) (e : Eights rows) (r : Rows (concat rows) (length rows)) where
+  rise : (i j : ℕ) → i ≤ j → j < length rows → flow_of (get_or rows i []) ≤ flow_of (get_or rows j [])
+  rise i j h k =
+      ⊎_elim
+      (λ (q : i ≡ j). rw q (omega arith))
+      (λ (l : i < j).
+      let up = flows_rise (concat rows) (length rows) r.rules i j l k in
+      omega (arith, up, flow_row rows e i (omega arith), flow_row rows e j k))
+      (eq-or-lt_of_le h)
 
-  module _ {lo hi : ℕ} (s : Span rows n q lo hi) where
-    pub span_upper : (mid : ℕ) → mid < hi → flow_at rows mid < q → Span rows n q (mid + 1) hi
-    span_upper mid h k =
-        let e : mid + 1 - 1 ≡ mid = omega arith in
-        record { order = omega arith; inside = s.inside; reached = s.reached; under = λ _. rw e k }
+  pub flows_part : (q : ℕ) → IsPartitionedBy (λ y. ltb (flow_of y) q) rows
+  flows_part q = IsPartitionedBy-ltb flow_of rows q (IsNonDecreasingBy-from_default flow_of rows [] rise)
 
-    pub span_lower : {mid : ℕ} → lo ≤ mid → mid < hi → q ≤ flow_at rows mid → Span rows n q lo mid
-    span_lower l h k = record { order = l; inside = omega arith; reached = k; under = s.under }
-
-    pub span_end : hi ≤ lo → Above rows n q lo
-    span_end h =
-        let e : hi ≡ lo = omega arith in
-        record { within = omega arith; reached = rw e at s.reached; under = s.under }
+  -- the place between those under q and the others, where the last row reaches q
+  pub point_above : (q k : ℕ) → q ≤ flow_at (concat rows) (length rows - 1) → k ≤ length rows →
+      IsPartitionPoint (λ y. ltb (flow_of y) q ≡ true) (λ y. ltb (flow_of y) q ≡ false) rows k → Above (concat rows) (length rows) q k
+  point_above q k last most p =
+      let few = r.low in
+      record {
+        within = within;
+        reached = rw (flow_row rows e k within) (ltb-false _ q (p.1 k [] (omega arith) within));
+        under = λ h. rw (flow_row rows e (k - 1) (omega arith)) (ltb-true _ q (p.0 (k - 1) [] (omega arith) (omega arith)));
+      }
+    where
+      within : k < length rows
+      within =
+          ⊎_elim
+          (λ (all : k ≡ length rows).
+          let few = r.low in
+          let under = ltb-true _ q (p.0 (length rows - 1) [] (omega arith) (omega arith)) in
+          absurd (omega (arith, under, flow_row rows e (length rows - 1) (omega arith))))
+          (λ l. l)
+          (eq-or-lt_of_le most)

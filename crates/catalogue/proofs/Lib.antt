@@ -7,3 +7,4 @@ pub mod Rising
 pub mod RowBounds
 pub mod ShapeBounds
 pub mod SizeBounds
+pub mod Chunks

@@ -18,6 +18,9 @@ use Rattle.demand.specs.Demand.{section_flow}
 use Rattle.demand.proofs.Validity.{valid_rooted}
 use Rattle.heads.proofs.Same.{required_same, pump_same, dictating_same}
 use Rattle.sizing.specs.Losses.{reading_of, losses_of}
+use Rattle.rated_bytes.specs.declared.Figure.{Figure}
+use Rattle.rated_bytes.specs.Figures.{flows_of, velocities_of, losses_of as all_losses}
+use Rattle.rated_bytes.proofs.Figures.{blank, flow_at, velocity_at, loss_at}
 use Rattle.rating.specs.Calls.{rate_no}
 use Rattle.rating.specs.Steps.{RatedJob}
 use Rattle.rating.proofs.Rated.{velocity_at_lem, loss_at_lem, rated_count}
@@ -34,6 +37,12 @@ module _ (f : ℕ → List ℕ) (old : List ℕ) where
   lines_more (suc n) h p q =
       let e : suc n - 1 ≡ n = omega arith in
       rw (concat_more n f) (q ∙ rw (rw e at p) (append_assoc old (concat_to n f) (f (suc n))))
+
+-- a section's line from its figures
+pub line_at : (figures : List Figure) (i : ℕ) {velocity : ℕ} (text new : List ℕ) → velocity ≡ (get_or figures i blank).velocity →
+    new ≡ text ++ section_line i (get_or figures i blank).flow velocity (get_or figures i blank).loss →
+    new ≡ text ++ section_line i (get_or (flows_of figures) i 0) (get_or (velocities_of figures) i 0) (get_or (all_losses figures) i 0)
+line_at figures i text new v p = rw (← flow_at figures i, ← velocity_at figures i, ← loss_at figures i, ← v) p
 
 -- the sections' lines with their flows at the sections' places
 pub flows_at : (job : Job) (v w : ℕ → ℕ) → count_of job ≤ 63 →

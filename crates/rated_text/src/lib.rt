@@ -3,40 +3,38 @@
 
 ghost use Rattle.std.specs.Prelude.{◌≡◌, ◌+◌, ◌*◌, ◌≤◌, ◌++◌, length, get_or};
 ghost use Rattle.basis.specs.Range.{concat_to};
-ghost use Rattle.demand.specs.Demand.{Accepted};
+ghost use Rattle.basis.specs.Slots.{slots};
+ghost use Rattle.fields.specs.Fields.{count_of};
+ghost use Rattle.demand.specs.Demand.{Accepted, section_flow};
 ghost use Rattle.heads.specs.Steps.{Given};
+ghost use Rattle.rated_bytes.specs.Figures.{flows_of, velocities_of, losses_of};
 ghost use Rattle.lines.specs.Lines.{section_line, refused_line};
 ghost use Rattle.rated_text.specs.RatedText.{lines_of, text_of};
 
 use fields::Job;
 use lines::{put_head, put_house, put_refused, put_section};
+use rated_bytes::{Figure, losses_of};
 use text::Text;
 
 // The lines of sections 1 to count.
-fn put_sections(
-    text: &mut Text,
-    count: usize,
-    flows: &[u32; 64],
-    velocities: &[u32; 64],
-    losses: &[u32; 64],
-)
+fn put_sections(text: &mut Text, count: usize, figures: &[Figure; 64])
     requires { (count ≤ 63) × (length text.old + 52 * count ≤ 4096) }
     ensures bytes { text.new ≡ text.old ++ concat_to count
-        (λ i. section_line i (get_or flows.now i 0) (get_or velocities.now i 0) (get_or losses.now i 0)) }
+        (λ i. section_line i (get_or (flows_of figures.now) i 0) (get_or (velocities_of figures.now) i 0) (get_or (losses_of figures.now) i 0)) }
     ensures room { length text.new ≤ length text.old + 52 * count }
 {
     for i in 1..=count {
-        put_section(text, i as u32, flows[i], velocities[i], losses[i]);
+        let f = figures[i];
+        put_section(text, i as u32, f.flow, u32::from(f.velocity), f.loss);
     }
 }
 
 // House, sections and heads.
-fn rated(job: Job, velocities: [u32; 64], losses: [u32; 64]) -> Text
-    requires { Accepted job × Given job losses }
-    ensures { result ≡ lines_of job (λ i. get_or velocities i 0) (λ i. get_or losses i 0) }
+fn rated(job: Job, figures: &[Figure; 64]) -> Text
+    requires { Accepted job × Given job (losses_of figures.now)
+        × (flows_of figures.now ≡ slots 64 1 (count_of job + 1) 0 (section_flow job)) }
+    ensures { result ≡ lines_of job (λ i. get_or (velocities_of figures.now) i 0) (λ i. get_or (losses_of figures.now) i 0) }
 {
-    let count = job.header.sections as usize;
-    let flows = demand::flows(job);
     let mut text = Text::new();
     put_house(
         &mut text,
@@ -44,8 +42,8 @@ fn rated(job: Job, velocities: [u32; 64], losses: [u32; 64]) -> Text
         demand::day_of(job),
         demand::mean_of(job),
     );
-    put_sections(&mut text, count, &flows, &velocities, &losses);
-    let heads = heads::heads_of(job, losses);
+    put_sections(&mut text, usize::from(job.header.sections), figures);
+    let heads = heads::heads_of(job, losses_of(figures));
     put_head(
         &mut text,
         heads.required,
@@ -55,22 +53,6 @@ fn rated(job: Job, velocities: [u32; 64], losses: [u32; 64]) -> Text
     text
 }
 
-// A rating's lines, or the line of a refusal. Nothing is lent for a result, so it is rated with room for the longest, 9 + 6 × 63 bytes.
-pub fn text_of(b: &[u8], cat: &[u8], list: &[u8]) -> Text
-    ensures { result ≡ text_of b.now cat.now list.now }
-{
-    let found = rating::outcome(b, cat, list, 387, 9, 6);
-    let answer = found.answer;
-    let number = answer::number(answer);
-    if number != 0 {
-        return refused(number);
-    }
-    let job = found.job;
-    let velocities = found.velocities;
-    let losses = found.losses;
-    rated(job, velocities, losses)
-}
-
 // The line of a refusal.
 fn refused(number: u32) -> Text
     ensures { result ≡ refused_line number }
@@ -78,4 +60,14 @@ fn refused(number: u32) -> Text
     let mut text = Text::new();
     put_refused(&mut text, number);
     text
+}
+
+// A rating's lines, or the line of a refusal. Nothing is lent for a result, so it is rated with room for the longest, 9 + 6 × 63 bytes.
+pub fn text_of(b: &[u8], cat: &[u8], list: &[u8]) -> Text
+    ensures { result ≡ text_of b.now cat.now list.now }
+{
+    match rating::outcome(b, cat, list, 387, 9, 6) {
+        Ok(rating) => rated(rating.job, &rating.figures),
+        Err(refusal) => refused(u32::from(refusal)),
+    }
 }

@@ -6,6 +6,7 @@ ghost use Rattle.sheet_text.specs.Sheet.{record_end, record_of, after_record, sh
 
 use rated_text::text_of;
 use text::Text;
+use wire::Field;
 
 // Where the record at the front ends: at its stated length, or where the input ends. Under four bytes state none.
 #[tactic(auto, unfolding(crate::specs::Sheet::record_end))]
@@ -15,7 +16,7 @@ fn record_end(s: &[u8]) -> usize
     if s.len() < 4 {
         return s.len();
     }
-    let stated = wire::be32(s, 0) as usize;
+    let stated = u32::at(s, 0) as usize;
     stated.min(s.len())
 }
 

@@ -98,7 +98,7 @@ fn gather(job: Job, n: &mut [u32; 768])
 }
 
 // The fixtures of each kind at a section's end or at any end below it: kind c + 1 of section i at place i * 12 + c. Row 0 is the house.
-// One list, no array of rows: the contracts here and above speak of one list, and each of rows would say the length of every row too.
+// One list and no array of rows, which would be no plainer: each contract, here and above, would have to say how long every row is.
 #[tactic(auto, using(crate::proofs::Filled::zeros))]
 pub fn counts(job: Job) -> [u32; 768]
     requires { Rooted job × Kinds job }

@@ -1,17 +1,15 @@
 -- The heat flows are bounded, and are written one after the other.
 -- Assumes nothing.
-use Rattle.std.proofs.Common.{arith, rules, refl, ◌∙◌, ◌-◌, ◌<◌, ℕ, get_or}
+use Rattle.std.proofs.Common.{arith, rules, refl}
 use Rattle.basis.proofs.Stored.{stored_next}
 use Rattle.wire.specs.Wire.{bytes_of}
-use Rattle.fields.specs.Fields.{residents_of}
 use Rattle.heating.specs.Calls.{heat_bytes}
 use Rattle.heating.proofs.HeatBounds.{hot_mean_top}
 use Rattle.heating.proofs.put_result.Goals as goal
 
 pub watts-mean-requires : goal.watts-mean-requires
 watts-mean-requires c =
-    rw c.mean_of.ensures
-    (hot_mean_top c.requires.0.valid c.requires.1 (λ kind p q. search rules), omega arith, omega arith)
+    rw c.mean_of.ensures (hot_mean_top c.requires.0.valid c.requires.1 (λ kind p q. search rules))
 
 pub returns : goal.returns
 unfolding heat_bytes bytes_of
