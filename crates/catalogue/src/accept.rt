@@ -90,6 +90,7 @@ fn sizes_ok(cat: &[u8]) -> bool
 }
 
 /// Any bytes are accepted or get 10 or 11.
+#[tactic(auto, unfolding(crate::specs::Rules::cat_no, crate::specs::Rules::cat_checks, answer::specs::Checks::first_no))]
 pub fn catalogue_refusal(cat: &[u8]) -> Result<(), Refusal>
     ensures { number_of result ≡ cat_no cat.now }
 {
