@@ -1,6 +1,7 @@
 -- `demand::hour::day_part` meets its contract, with residents and without.
 -- Assumes nothing.
-use Rattle.std.proofs.Common.{arith}
+use Rattle.std.proofs.Common.{◌≡◌, arith}
+use Rattle.demand.specs.Demand.{norm_at}
 use Rattle.demand.proofs.Tops.{kind_day_top}
 use Rattle.demand.proofs.hour.day_part.Goals as goal
 
@@ -8,4 +9,6 @@ pub overflow_mul-result : goal.overflow_mul-result
 overflow_mul-result c = omega (arith, kind_day_top _ c.norm_of-norm.ensures c.from-residents.result (omega arith) c.requires)
 
 pub returns : goal.returns
-returns c = (rw (c.norm_of-norm.ensures, c.from-residents.ensures), kind_day_top _ c.norm_of-norm.ensures c.from-residents.result (omega arith) c.requires)
+returns c =
+    let norm : c.norm_of-norm.result ≡ norm_at c.args.job.now c.args.kind = c.norm_of-norm.ensures in
+    (rw (norm, c.from-residents.ensures), kind_day_top _ c.norm_of-norm.ensures c.from-residents.result (omega arith) c.requires)

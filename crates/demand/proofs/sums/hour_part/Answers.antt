@@ -36,9 +36,10 @@ overflow_mul-result c =
 pub returns : goal.returns
 returns c =
     let f = hour_fits _ c.norm_of-hour.ensures c.from-residents.result (omega arith) c.requires in
+    let norm : c.norm_of-hour.result ≡ norm_at c.args.job.now c.args.kind = c.norm_of-hour.ensures in
     record {
-      share_is = rw (← c.norm_of-hour.ensures, ← c.from-residents.ensures) c.divide_up-shares.ensures;
+      share_is = rw (← norm, ← c.from-residents.ensures) c.divide_up-shares.ensures;
       share_top = hour_share_top f c.divide_up-shares.ensures;
-      weighted_is = rw c.norm_of-hour.ensures;
+      weighted_is = rw norm;
       weighted_top = hourly_top f c.divide_up-shares.ensures;
     }

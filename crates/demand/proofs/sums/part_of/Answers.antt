@@ -51,10 +51,11 @@ pub returns : goal.returns
 returns c =
     let f = share_fits _ c.norm_of-hour.ensures c.from-residents.result (omega arith) c.requires (omega arith) in
     let some : c.args.house ≡ 0 → ⊥ = λ e. omega arith in
+    let norm : c.norm_of-hour.result ≡ norm_at c.args.job.now c.args.kind = c.norm_of-hour.ensures in
     record {
-      share_is = rw (ne_eqb _ _ some, ← c.norm_of-hour.ensures, ← c.from-residents.ensures) c.divide_up-share.ensures;
+      share_is = rw (ne_eqb _ _ some, ← norm, ← c.from-residents.ensures) c.divide_up-share.ensures;
       share_top = share_top f c.divide_up-share.ensures;
-      weighted_is = rw c.norm_of-hour.ensures;
+      weighted_is = rw norm;
       weighted_top = fixture_top f c.divide_up-share.ensures;
-      tap_is = rw (lt-ltb 0 c.args.n (omega arith), c.norm_of-hour.ensures);
+      tap_is = rw (lt-ltb 0 c.args.n (omega arith), norm);
     }
