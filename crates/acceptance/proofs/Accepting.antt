@@ -7,12 +7,14 @@ use Prim.{tt}
 use Prim.Native.Nat.{ℕ, ◌≤◌}
 use lib.ListN.{length}
 use native.Mathlib.Omega.{arith}
+use Rattle.answer.specs.declared.Refusal.{Refusal}
+use Rattle.answer.specs.Answer.{refusal_number}
 use Rattle.answer.specs.Checks.{first_no}
 use Rattle.answer.proofs.First.{Numbered, numbered_append, first_after, first_before, first_split}
+use Rattle.answer.proofs.Some.{first_refused, first_passed}
 use Rattle.fields.specs.declared.Job.{Job}
 use Rattle.record.specs.Record.{decode}
-use Rattle.job.specs.Calls.{shape_checks, read_checks, read_no, read_job, fields_after}
-use Rattle.job.proofs.Stages.{stage_first, stage_second, fields_given}
+use Rattle.job.specs.Calls.{shape_checks, read_checks, read_no}
 use Rattle.job.proofs.Shape.{shaped}
 use Rattle.job.proofs.Decided.{readable, read_numbered}
 use Rattle.job.proofs.RoundTrip.{read_header}
@@ -20,7 +22,7 @@ use Rattle.demand.specs.Demand.{demand_checks, Valid, Accepted}
 use Rattle.catalogue.specs.Rules.{cat_checks, cat_no}
 use Rattle.catalogue.specs.Steps.{AcceptedCat}
 use Rattle.catalogue.proofs.AcceptedCat.{cat_numbered, cat_of}
-use Rattle.acceptance.specs.Acceptance.{job_checks, job_no, accepted_job, input_checks, input_no, input_job}
+use Rattle.acceptance.specs.Acceptance.{job_checks, job_no, input_checks, input_no}
 
 demand_numbered : (job : Job) → Numbered (demand_checks job)
 unfolding demand_checks
@@ -32,17 +34,13 @@ module _ (b : List ℕ) where
   job_numbered = numbered_append (read_checks b) (demand_checks (decode b)) (read_numbered b) (demand_numbered (decode b))
 
   -- the reader's number where it finds something, else that of 8 and 9
-  pub accept_read : (read_no b ≡ 0 → ⊥) → (job_no b ≡ read_no b) × (accepted_job b ≡ read_job b)
-  unfolding job_no job_checks accepted_job read_no read_job
-  accept_read n = stage_first (read_checks b) (demand_checks (decode b)) (read_numbered b) (decode b) n
+  pub accept_refused : (r : Refusal) → refusal_number r ≡ read_no b → refusal_number r ≡ job_no b
+  unfolding job_no job_checks read_no
+  accept_refused r e = first_refused (read_checks b) (demand_checks (decode b)) (read_numbered b) r e
 
-  pub accept_demand : read_no b ≡ 0 → (job_no b ≡ first_no (demand_checks (decode b))) × (accepted_job b ≡ fields_after (first_no (demand_checks (decode b))) (decode b))
-  unfolding job_no job_checks accepted_job read_no
-  accept_demand e = stage_second (read_checks b) (demand_checks (decode b)) (read_numbered b) (decode b) e
-
-  pub accept_fields : job_no b ≡ 0 → accepted_job b ≡ decode b
-  unfolding accepted_job
-  accept_fields e = fields_given (decode b) e
+  pub accept_passed : {n : ℕ} → 0 ≡ read_no b → n ≡ first_no (demand_checks (decode b)) → n ≡ job_no b
+  unfolding job_no job_checks read_no
+  accept_passed none e = first_passed (read_checks b) (demand_checks (decode b)) (read_numbered b) none e
 
   -- a record that the reader accepts keeps its rules, and one that is accepted its bounds
   pub read_valid : read_no b ≡ 0 → Valid (decode b)
@@ -68,6 +66,10 @@ module _ (b : List ℕ) where
     unfolding job_no
     job_stops n = first_before (job_checks b) rest job_numbered n
 
+    pub job_refused : (r : Refusal) → refusal_number r ≡ job_no b → refusal_number r ≡ first_no (job_checks b ++ rest)
+    unfolding job_no
+    job_refused r e = first_refused (job_checks b) rest job_numbered r e
+
     pub job_passes : job_no b ≡ 0 → first_no (job_checks b ++ rest) ≡ first_no rest
     unfolding job_no
     job_passes e = first_after (job_checks b) rest job_numbered e
@@ -78,19 +80,15 @@ module _ (b cat : List ℕ) where
   input_numbered = numbered_append (job_checks b) (cat_checks cat) (job_numbered b) (cat_numbered cat)
 
   -- the job's number where it has one, else the catalogue's
-  pub input_job_lem : (job_no b ≡ 0 → ⊥) → (input_no b cat ≡ job_no b) × (input_job b cat ≡ accepted_job b)
-  unfolding input_no input_checks input_job job_no accepted_job
-  input_job_lem n = stage_first (job_checks b) (cat_checks cat) (job_numbered b) (decode b) n
+  pub input_refused : (r : Refusal) → refusal_number r ≡ job_no b → refusal_number r ≡ input_no b cat
+  unfolding input_no input_checks job_no
+  input_refused r e = first_refused (job_checks b) (cat_checks cat) (job_numbered b) r e
 
-  pub input_cat : job_no b ≡ 0 → (input_no b cat ≡ cat_no cat) × (input_job b cat ≡ fields_after (cat_no cat) (decode b))
-  unfolding input_no input_checks input_job job_no cat_no
-  input_cat e = stage_second (job_checks b) (cat_checks cat) (job_numbered b) (decode b) e
+  pub input_passed : {n : ℕ} → 0 ≡ job_no b → n ≡ cat_no cat → n ≡ input_no b cat
+  unfolding input_no input_checks job_no cat_no
+  input_passed none e = first_passed (job_checks b) (cat_checks cat) (job_numbered b) none e
 
   module _ (none : input_no b cat ≡ 0) where
-    pub input_fields : input_job b cat ≡ decode b
-    unfolding input_job
-    input_fields = fields_given (decode b) none
-
     pub input_both : (job_no b ≡ 0) × (cat_no cat ≡ 0)
     unfolding input_no input_checks job_no cat_no
     input_both = first_split (job_checks b) (cat_checks cat) (job_numbered b) none
@@ -105,6 +103,10 @@ module _ (b cat : List ℕ) where
     pub input_stops : (input_no b cat ≡ 0 → ⊥) → first_no (input_checks b cat ++ rest) ≡ input_no b cat
     unfolding input_no
     input_stops n = first_before (input_checks b cat) rest input_numbered n
+
+    pub input_exit : (r : Refusal) → refusal_number r ≡ input_no b cat → refusal_number r ≡ first_no (input_checks b cat ++ rest)
+    unfolding input_no
+    input_exit r e = first_refused (input_checks b cat) rest input_numbered r e
 
     pub input_passes : input_no b cat ≡ 0 → first_no (input_checks b cat ++ rest) ≡ first_no rest
     unfolding input_no

@@ -1,7 +1,7 @@
 -- Two records that differ in the meter loss alone: the one is accepted where the other is, given a meter loss in range, and flow and mean
 -- hour of the house are the same.
 -- Assumes nothing.
-use mathlib.Core.Path.{◌≡◌, refl, ◌∙◌}
+use mathlib.Core.Path.{◌≡◌, refl, sym}
 use mathlib.Core.Bool.{true}
 use mathlib.Core.List.{List}
 use Prim.Native.Nat.{ℕ, ◌≤◌}
@@ -16,12 +16,12 @@ use Rattle.record.specs.Record.{header_at, decode}
 use Rattle.record.specs.Edited.{meter_place, SameBut, with_meter}
 use Rattle.record.proofs.Edited.{meter_changed}
 use Rattle.job.specs.Calls.{shape_checks}
-use Rattle.job.proofs.Decided.{read_fields}
+use Rattle.job.proofs.Decided.{read_passed}
 use Rattle.job.proofs.Edited.{shape_kept}
 use Rattle.demand.specs.Demand.{house_flow, mean_of, demand_checks, Accepted}
 use Rattle.demand.proofs.Same.{house_flow_same, mean_same, demand_checks_same}
 use Rattle.acceptance.specs.Acceptance.{job_no}
-use Rattle.acceptance.proofs.Accepting.{accept_demand, accept_shape, accept_accepted}
+use Rattle.acceptance.proofs.Accepting.{accept_passed, accept_shape, accept_accepted}
 
 -- the job with another meter loss
 module _ (job : Job) (n : ℕ) where
@@ -77,4 +77,4 @@ module _ {b e : List ℕ} (same : SameBut meter_place 2 b e) where
       let shape : first_no (shape_checks e) ≡ 0 = shape_kept same (omega arith) (accept_shape b accepted) head in
       let fields : first_no (field_checks (decode e)) ≡ 0 = rw (meter_changed same, with_fields (decode b) n) a.valid.fields in
       let demand : first_no (demand_checks (decode e)) ≡ 0 = rw (meter_changed same, with_demand (decode b) n) a.demand in
-      (accept_demand e ((read_fields e shape).0 ∙ fields)).0 ∙ demand
+      sym (accept_passed e (read_passed e (sym shape) (sym fields)) (sym demand))

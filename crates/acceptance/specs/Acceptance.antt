@@ -2,9 +2,8 @@
 -- Assumes nothing.
 use Rattle.std.specs.Prelude.{ℕ, Bool, List, ◌++◌}
 use Rattle.answer.specs.Checks.{first_no}
-use Rattle.fields.specs.declared.Job.{Job}
 use Rattle.record.specs.Record.{decode}
-use Rattle.job.specs.Calls.{read_checks, fields_after}
+use Rattle.job.specs.Calls.{read_checks}
 use Rattle.demand.specs.Demand.{demand_checks}
 use Rattle.catalogue.specs.Rules.{cat_checks}
 
@@ -15,15 +14,9 @@ job_checks b = read_checks b ++ demand_checks (decode b)
 unfoldable pub job_no : List ℕ → ℕ
 job_no b = first_no (job_checks b)
 
-unfoldable pub accepted_job : List ℕ → Job
-accepted_job b = fields_after (job_no b) (decode b)
-
 -- a job and a catalogue: 1 to 9, 10, 11
 unfoldable pub input_checks : List ℕ → List ℕ → List (Bool × ℕ)
 input_checks b cat = job_checks b ++ cat_checks cat
 
 unfoldable pub input_no : List ℕ → List ℕ → ℕ
 input_no b cat = first_no (input_checks b cat)
-
-unfoldable pub input_job : List ℕ → List ℕ → Job
-input_job b cat = fields_after (input_no b cat) (decode b)

@@ -1,3 +1,2 @@
 pub mod Workspace
-pub mod Writes
-pub mod Offers
+pub mod Heads

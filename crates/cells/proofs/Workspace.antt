@@ -1,66 +1,46 @@
--- A cell of a workspace that is written.
+-- Four bytes of a workspace as a cell that is read or written.
 -- Assumes nothing.
-use mathlib.Core.Path.{◌≡◌, ◌∙◌}
-use mathlib.Core.List.{List}
-use Prim.Native.Nat.{ℕ, ◌+◌, ◌*◌, ◌/◌, ◌%◌, ◌≤◌, ◌<◌}
-use native.Mathlib.Omega.{arith}
-use lib.ListN.{length, get_or, set, length-set}
-use lib.Seq.{get_or-set_same, get_or-set_other}
+use Rattle.std.proofs.Common.{◌≡◌, ◌∙◌, ap, refl, ℕ, zero, suc, ◌+◌, ◌*◌, ◌≤◌, ◌<◌, List, [], length, get_or, take, drop, arith, rules, get_or-take, get_or-drop, drop-drop}
+use borrow.Rule.Slice.PartMut.{put_mid}
+use Rattle.std.specs.Int.{w32, from_le_bytes, to_le_bytes}
+use Rattle.std.specs.Simd.{first_chunks}
+use Rattle.std.proofs.lemmas.Slice.{overwrites}
+use Rattle.std.proofs.lemmas.List.{places}
 use Rattle.cells.specs.Cells.{cell_at, Written}
 
--- the bytes of v written to cell k, from the low one on
-module _ (ws : List ℕ) (k v : ℕ) where
-  abbrev one : List ℕ
-  one = set ws (4 * k) (v % 256)
+-- the k-th of n chunks of four bytes
+chunk_at : (ws : List ℕ) (n k : ℕ) → k < n → get_or (first_chunks 4 n ws) k [] ≡ take 4 (drop (4 * k) ws)
+chunk_at ws zero k h = absurd (omega arith)
+chunk_at ws (suc n) zero h = refl
+chunk_at ws (suc n) (suc k) h =
+    let e : 4 * suc k ≡ 4 + 4 * k = omega arith in
+    chunk_at (drop 4 ws) n k (omega arith) ∙ ap (take 4) (rw e (drop-drop (4 * k) 4 ws))
 
-  abbrev two : List ℕ
-  two = set one (4 * k + 1) (v / 256 % 256)
+-- a chunk read as a number is a cell
+pub cell_read : (ws : List ℕ) (n k : ℕ) (chunks : List (List ℕ)) → k < n → chunks ≡ first_chunks 4 n ws → from_le_bytes w32 (get_or chunks k []) ≡ cell_at ws k
+unfolding cell_at
+cell_read ws n k chunks h e =
+    ap (from_le_bytes w32) (ap (λ c. get_or c k []) e ∙ chunk_at ws n k h) ∙
+    grind (arith, get_or-take 4 (drop (4 * k) ws), get_or-drop (4 * k) ws)
 
-  abbrev three : List ℕ
-  three = set two (4 * k + 2) (v / 65536 % 256)
+-- bytes that are written to cell k leave the others as they were
+other : (ws bs : List ℕ) (k n i : ℕ) → 4 * k + 4 ≤ length ws → n ≡ 4 → length bs ≡ 4 → (4 * k ≤ i → i < 4 * k + 4 → ⊥) →
+    get_or (put_mid (4 * k) n ws bs) i 0 ≡ get_or ws i 0
+other ws bs k n i fits e long ne = grind (arith, places)
 
-  abbrev four : List ℕ
-  four = set three (4 * k + 3) (v / 16777216)
-
-  module _ (fits : 4 * k + 4 ≤ length ws) where
-    first : get_or four (4 * k) 0 ≡ v % 256
-    first =
-        get_or-set_other three (4 * k + 3) (4 * k) _ 0 (λ e. omega arith) ∙
-        get_or-set_other two (4 * k + 2) (4 * k) _ 0 (λ e. omega arith) ∙
-        get_or-set_other one (4 * k + 1) (4 * k) _ 0 (λ e. omega arith) ∙
-        get_or-set_same ws (4 * k) _ 0 (omega arith)
-
-    second : get_or four (4 * k + 1) 0 ≡ v / 256 % 256
-    second =
-        get_or-set_other three (4 * k + 3) (4 * k + 1) _ 0 (λ e. omega arith) ∙
-        get_or-set_other two (4 * k + 2) (4 * k + 1) _ 0 (λ e. omega arith) ∙
-        get_or-set_same one (4 * k + 1) _ 0 (simp length-set (omega arith))
-
-    third : get_or four (4 * k + 2) 0 ≡ v / 65536 % 256
-    third =
-        get_or-set_other three (4 * k + 3) (4 * k + 2) _ 0 (λ e. omega arith) ∙
-        get_or-set_same two (4 * k + 2) _ 0 (simp length-set (omega arith))
-
-    fourth : get_or four (4 * k + 3) 0 ≡ v / 16777216
-    fourth = get_or-set_same three (4 * k + 3) _ 0 (simp length-set (omega arith))
-
-    other : (i : ℕ) → (4 * k ≤ i → i < 4 * k + 4 → ⊥) → get_or four i 0 ≡ get_or ws i 0
-    other i n =
-        get_or-set_other three (4 * k + 3) i _ 0 (λ e. n (omega arith) (omega arith)) ∙
-        get_or-set_other two (4 * k + 2) i _ 0 (λ e. n (omega arith) (omega arith)) ∙
-        get_or-set_other one (4 * k + 1) i _ 0 (λ e. n (omega arith) (omega arith)) ∙
-        get_or-set_other ws (4 * k) i _ 0 (λ e. n (omega arith) (omega arith))
-
-    pub written : Written ws four k v
-    unfolding cell_at
-    written =
-        record {
-          long = simp length-set;
-          is = rw (first, second, third, fourth) (omega arith);
-          rest = λ j n. rw (
-            other (4 * j) (λ a b. n (omega arith)),
-            other (4 * j + 1) (λ a b. n (omega arith)),
-            other (4 * j + 2) (λ a b. n (omega arith)),
-            other (4 * j + 3) (λ a b. n (omega arith)),
-          );
-        }
+-- a number written as its bytes is a cell
+pub cell_written : (ws bs : List ℕ) (k v n : ℕ) → 4 * k + 4 ≤ length ws → n ≡ 4 → v < 4294967296 → bs ≡ to_le_bytes w32 v →
+    Written ws (put_mid (4 * k) n ws bs) k v
+unfolding cell_at
+cell_written ws bs k v n fits e most is =
+    let long : length bs ≡ 4 = rw is in
+    record {
+      long = search (rules, overwrites);
+      is = rw is (search (rules, places));
+      rest = λ j ne. rw (
+        other ws bs k n (4 * j) fits e long (λ a b. ne (omega arith)),
+        other ws bs k n (4 * j + 1) fits e long (λ a b. ne (omega arith)),
+        other ws bs k n (4 * j + 2) fits e long (λ a b. ne (omega arith)),
+        other ws bs k n (4 * j + 3) fits e long (λ a b. ne (omega arith)),
+      );
+    }

@@ -1,4 +1,6 @@
 // A row of best costs at each head, to which the sizes of a section are offered one after another.
+// The heads go beside the whole row: in a part of it a place would no longer be the head that the cells are found by.
+// A cost where nothing fits is the mark and no Option, which takes twice the room in a cell and in fixed memory.
 ghost use Rattle.std.specs.Prelude.{◌≡◌, ℕ, ◌+◌, ◌-◌, ◌*◌, ◌≤◌, ◌<◌, min, length, get_or};
 ghost use Rattle.nets.specs.Tables.{top};
 ghost use Rattle.plan.specs.Plan.{mark};
@@ -6,62 +8,48 @@ ghost use Rattle.cells.specs.Cells.{cell_at};
 ghost use Rattle.cells.specs.Steps.{Offered, Filled, standing};
 
 use crate::cell::get;
-use numbers::{greater, lesser};
 use plan::MARK;
+use std::ops::Range;
 
-pub fn least(a: u32, b: u32) -> u32
-    ensures { result ≡ min a b }
+// The mark at each of the heads.
+pub fn fresh(best: &mut [u32; 7001], heads: Range<usize>)
+    requires { (heads.end ≤ 7001) × (length best.old ≡ 7001) }
+    ensures { (length best.new ≡ 7001) × ((h : ℕ) → heads.start ≤ h → h < heads.end → get_or best.new h 0 ≡ mark) }
 {
-    if a < b { a } else { b }
-}
-
-// The mark at each place from start to end.
-pub fn fresh(best: &mut [u32; 7001], start: usize, end: usize)
-    requires { (end ≤ 7001) × (length best.old ≡ 7001) }
-    ensures { (length best.new ≡ 7001) × ((h : ℕ) → start ≤ h → h < end → get_or best.new h 0 ≡ mark) }
-{
-    let mut h = start;
-    while h < end {
+    for h in heads {
         best[h] = MARK;
-        h += 1;
     }
 }
 
-// Offers a size at each head from start to end, with the cells of its row.
+// Offers a size at each of the heads, with the cells of its row.
 fn offer_row(
     ws: &[u8],
     best: &mut [u32; 7001],
     row: usize,
     loss: usize,
     cost: u32,
-    start: usize,
-    end: usize,
+    heads: Range<usize>,
 )
-    requires loss_le_start { (loss ≤ start) × (end ≤ 7001) × (length best.old ≡ 7001) × (4 * (row + (end - loss)) ≤ length ws.now)
-        × (cost ≤ 50000000) }
-    requires by_index { (h : ℕ) → start ≤ h → h < end → cell_at ws.now (row + (h - loss)) ≤ mark }
-    ensures { Offered best.old best.new start end (λ h. cost + cell_at ws.now (row + (h - loss))) }
+    requires loss_le_start { (loss ≤ heads.start) × (heads.end ≤ 7001) × (4 * (row + (heads.end - loss)) ≤ length ws.now) × (cost ≤ 50000000) }
+    requires by_index { (h : ℕ) → heads.start ≤ h → h < heads.end → cell_at ws.now (row + (h - loss)) ≤ mark }
+    ensures { Offered best.old best.new heads.start heads.end (λ h. cost + cell_at ws.now (row + (h - loss))) }
 {
-    let mut h = start;
-    while h < end {
-        best[h] = least(best[h], get(ws, row + (h - loss)) + cost);
-        h += 1;
+    for h in heads {
+        best[h] = best[h].min(get(ws, row + (h - loss)) + cost);
     }
 }
 
-// Offers one cost at each head from start to end.
-fn offer_flat(best: &mut [u32; 7001], cost: u32, start: usize, end: usize)
-    requires { (end ≤ 7001) × (length best.old ≡ 7001) }
-    ensures { Offered best.old best.new start end (λ h. cost) }
+// Offers one cost at each of the heads. (One loop for both over a closure is no plainer: the closures need these two contracts again.)
+fn offer_flat(best: &mut [u32; 7001], cost: u32, heads: Range<usize>)
+    requires { heads.end ≤ 7001 }
+    ensures { Offered best.old best.new heads.start heads.end (λ h. cost) }
 {
-    let mut h = start;
-    while h < end {
-        best[h] = least(best[h], cost);
-        h += 1;
+    for h in heads {
+        best[h] = best[h].min(cost);
     }
 }
 
-// Offers a size at each head from start to end: its row goes to high, and the last cell stands for all above.
+// Offers a size at each of the heads: its row goes to high, and the last cell stands for all above.
 pub fn offer(
     ws: &[u8],
     best: &mut [u32; 7001],
@@ -69,18 +57,17 @@ pub fn offer(
     high: usize,
     loss: usize,
     cost: u32,
-    start: usize,
-    end: usize,
+    heads: Range<usize>,
 )
-    requires loss_le_start { (loss ≤ start) × (loss ≤ top) × (high ≤ top) × (end ≤ 7001) × (length best.old ≡ 7001)
+    requires loss_le_start { (loss ≤ heads.start) × (loss ≤ top) × (high ≤ top) × (heads.end ≤ 7001) × (length best.old ≡ 7001)
         × (4 * (row + high + 1) ≤ length ws.now) × (cost ≤ 50000000) }
-    requires by_index { (h : ℕ) → start ≤ h → h < end → cell_at ws.now (row + min (h - loss) high) ≤ mark }
-    ensures { Offered best.old best.new start end (λ h. cost + cell_at ws.now (row + min (h - loss) high)) }
+    requires by_index { (h : ℕ) → heads.start ≤ h → h < heads.end → cell_at ws.now (row + min (h - loss) high) ≤ mark }
+    ensures { Offered best.old best.new heads.start heads.end (λ h. cost + cell_at ws.now (row + min (h - loss) high)) }
 {
-    let mid = lesser(end, loss + high + 1);
-    offer_row(ws, best, row, loss, cost, start, mid);
-    let rest = greater(start, mid);
-    if rest < end {
-        offer_flat(best, get(ws, row + high) + cost, rest, end);
+    let mid = heads.end.min(loss + high + 1);
+    offer_row(ws, best, row, loss, cost, heads.start..mid);
+    let rest = heads.start.max(mid);
+    if rest < heads.end {
+        offer_flat(best, get(ws, row + high) + cost, rest..heads.end);
     }
 }

@@ -4,48 +4,39 @@ ghost use Rattle.plan.specs.Plan.{mark};
 ghost use Rattle.cells.specs.Cells.{cell_at};
 ghost use Rattle.cells.specs.Steps.{Filled, standing};
 
-use crate::best::least;
 use crate::cell::{get, put};
 use plan::MARK;
+use std::ops::Range;
 
-// Adds the best costs to the cells from up + start to up + end. A sum with the mark stops at the mark.
-pub fn add(ws: &mut [u8], best: &[u32; 7001], up: usize, start: usize, end: usize)
-    requires end_bound { (end ≤ 7001) × (4 * (up + end) ≤ length ws.old) }
-    requires by_index { (h : ℕ) → start ≤ h → h < end → cell_at ws.old (up + h) ≤ mark }
-    ensures { Filled ws.old ws.new up start end
+// Adds the best costs to the cells from up + heads.start to up + heads.end. A sum with the mark stops at the mark.
+pub fn add(ws: &mut [u8], best: &[u32; 7001], up: usize, heads: Range<usize>)
+    requires end_bound { (heads.end ≤ 7001) × (4 * (up + heads.end) ≤ length ws.old) }
+    requires by_index { (h : ℕ) → heads.start ≤ h → h < heads.end → cell_at ws.old (up + h) ≤ mark }
+    ensures { Filled ws.old ws.new up heads.start heads.end
         (λ h. min mark (cell_at ws.old (up + h) + get_or best.now h 0)) }
 {
-    let mut h = start;
-    while h < end {
+    for h in heads {
         let old = get(ws, up + h);
-        put(ws, up + h, least(best[h], MARK - old) + old);
-        h += 1;
+        put(ws, up + h, best[h].min(MARK - old) + old);
     }
 }
 
 // Writes the best costs to those cells.
-pub fn place(ws: &mut [u8], best: &[u32; 7001], up: usize, start: usize, end: usize)
-    requires { (end ≤ 7001) × (4 * (up + end) ≤ length ws.old) }
-    ensures { Filled ws.old ws.new up start end (λ h. get_or best.now h 0) }
+pub fn place(ws: &mut [u8], best: &[u32; 7001], up: usize, heads: Range<usize>)
+    requires { (heads.end ≤ 7001) × (4 * (up + heads.end) ≤ length ws.old) }
+    ensures { Filled ws.old ws.new up heads.start heads.end (λ h. get_or best.now h 0) }
 {
-    let mut h = start;
-    while h < end {
+    for h in heads {
         put(ws, up + h, best[h]);
-        h += 1;
     }
 }
 
-// Writes 0 to those cells where nothing stands in them yet.
-pub fn settle(ws: &mut [u8], begun: bool, up: usize, start: usize, end: usize)
-    requires { (end ≤ 7001) × (4 * (up + end) ≤ length ws.old) }
-    ensures { Filled ws.old ws.new up start end (standing begun ws.old up) }
+// Writes 0 to those cells.
+pub fn settle(ws: &mut [u8], up: usize, heads: Range<usize>)
+    requires { (heads.end ≤ 7001) × (4 * (up + heads.end) ≤ length ws.old) }
+    ensures { Filled ws.old ws.new up heads.start heads.end (λ h. 0) }
 {
-    if begun {
-        return;
-    }
-    let mut h = start;
-    while h < end {
+    for h in heads {
         put(ws, up + h, 0);
-        h += 1;
     }
 }

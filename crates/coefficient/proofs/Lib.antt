@@ -2,5 +2,5 @@ pub mod Rising
 pub mod Along
 pub mod Coefficient
 pub mod Worked
-pub mod Search
+pub mod Pairs
 pub mod Reading

@@ -92,3 +92,13 @@ key_at i = get_or table (2 * i) 0
 
 abbrev pub value_at : ℕ → ℕ
 value_at i = get_or table (2 * i + 1) 0
+
+-- each key with the value behind it
+unfoldable pub pairs_of : List ℕ → List (ℕ × ℕ)
+pairs_of (k ∷ v ∷ rest) = (k, v) ∷ pairs_of rest
+pairs_of (k ∷ []) = []
+pairs_of [] = []
+
+-- the table as pairs
+unfoldable pub pairs : List (ℕ × ℕ)
+pairs = pairs_of table

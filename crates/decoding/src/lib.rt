@@ -74,7 +74,7 @@ fn sections_of(b: &[u8], count: usize) -> [Section; 64]
     ensures { result ≡ slots 64 1 (count + 1) blank_section (section_at b.now) }
 {
     let version = b[4];
-    let mut sections = [fields::blank_section(); 64];
+    let mut sections = [Section::default(); 64];
     for i in 1..=count {
         sections[i] = section_from(b, place_of(version, i));
     }

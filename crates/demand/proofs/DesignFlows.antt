@@ -1,6 +1,8 @@
 -- The flows, and the products that they divide, are bounded by α's greatest value.
 -- Assumes nothing.
-use Prim.Native.Nat.{ℕ, ◌*◌, ◌≤◌, ◌<◌}
+use mathlib.Core.Path.{◌≡◌, sym, ◌∙◌}
+use mathlib.Core.List.{List}
+use Prim.Native.Nat.{ℕ, ◌*◌, ◌≤◌, ◌<◌, max}
 use native.Mathlib.Omega.{arith}
 use native.Mathlib.Nat.{mul-le-mul}
 use Rattle.basis.specs.Round.{up}
@@ -9,9 +11,10 @@ use Rattle.fields.specs.declared.Job.{Job}
 use Rattle.fields.specs.Fields.{count_of}
 use Rattle.tree.specs.Tree.{served_of, house_of}
 use Rattle.norms.proofs.Bounds.{NormIn}
+use Rattle.coefficient.specs.Table.{pairs}
 use Rattle.coefficient.specs.Alpha.{alpha_of}
 use Rattle.coefficient.proofs.Coefficient.{alpha_ceiling}
-use Rattle.demand.specs.Demand.{m_of, fixture_sum_of, average_flow_of, flow_of, norm_at, section_flow, house_flow, hour_sum_of, hourly_sum_of, hour_of, Valid}
+use Rattle.demand.specs.Demand.{m_of, fixture_sum_of, one_tap_of, average_flow_of, flow_of, norm_at, section_flow, house_flow, hour_sum_of, hourly_sum_of, hour_of, Valid}
 use Rattle.demand.proofs.Equations.{norm_at_lem, average_is, flow_is, hour_is}
 use Rattle.demand.proofs.Totals.{fixture_sum_le, hourly_sum_le, house_m_pos, hour_sum_pos}
 use Rattle.demand.proofs.Serving.{Serves, serves}
@@ -33,6 +36,15 @@ module _ (job : Job) (n : ℕ → ℕ) where
 
   pub flow_top : 0 < m_of job n → flow_of job n ≤ 137850
   flow_top h = omega (arith, flow_is job n, average_top h, one_tap_top job n)
+
+-- what a flow is worked out from, and what it is, by the sums of its vector
+module _ (job : Job) (n : ℕ → ℕ) {m weighted tap : ℕ} (sums : (m ≡ m_of job n) × (weighted ≡ fixture_sum_of job n) × (tap ≡ one_tap_of job n)) where
+  pub flow_asks : {t : List (ℕ × ℕ)} → t ≡ pairs → 0 < m_of job n → m_of job n ≤ 400000000 →
+      (t ≡ pairs) × (0 < m) × (m ≤ 400000000) × (weighted ≤ 30 * m) × (tap ≤ 300)
+  flow_asks e low high = rw (sums.0, sums.1, sums.2) (e, low, high, fixture_sum_le job n, one_tap_top job n)
+
+  pub flow_by : {flow : ℕ} → flow ≡ max (up (weighted * alpha_of m) (20000 * m)) tap → flow ≡ flow_of job n
+  flow_by e = e ∙ rw (sums.0, sums.1, sums.2, ← average_is job n) (sym (flow_is job n))
 
 -- no section is without flow: one fixture of a kind that it serves draws at least 100 ml/s
 pub flow_pos : {job : Job} → Valid job → (i : ℕ) → 0 < i → i ≤ count_of job → 0 < section_flow job i

@@ -32,8 +32,13 @@ module _ {f : ℕ → ℕ} {top kind s : ℕ} (p : SoFar f top kind s) where
       let i : kind - 1 ≡ 12 = omega arith in
       rw i at p.is
 
-pub most_turn : (f : ℕ → ℕ) {kind s x : ℕ} → 0 < kind → s ≡ most_to (kind - 1) f → x ≡ f kind → max s x ≡ most_to (kind + 1 - 1) f
+most_turn : (f : ℕ → ℕ) {kind s x : ℕ} → 0 < kind → s ≡ most_to (kind - 1) f → x ≡ f kind → max s x ≡ most_to (kind + 1 - 1) f
 most_turn f {kind} a is e =
     let i : kind + 1 - 1 ≡ suc (kind - 1) = omega arith in
     let j : suc (kind - 1) ≡ kind = omega arith in
     rw (i, most_more (kind - 1) f, j, ← is, ← e) refl
+
+-- ten times the most
+pub tap_turn : (f : ℕ → ℕ) {kind s x : ℕ} → 0 < kind → s ≡ 10 * most_to (kind - 1) f → x ≡ 10 * f kind →
+    max s x ≡ 10 * most_to (kind + 1 - 1) f
+tap_turn f {kind} a is e = omega (arith, most_turn f {kind = kind} a refl refl)

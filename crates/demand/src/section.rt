@@ -5,7 +5,7 @@ ghost use Rattle.basis.specs.Round.{up};
 ghost use Rattle.basis.specs.Slots.{slots};
 ghost use Rattle.answer.specs.Answer.{number_of};
 ghost use Rattle.answer.specs.Checks.{first_no};
-ghost use Rattle.coefficient.specs.Table.{table};
+ghost use Rattle.coefficient.specs.Table.{pairs};
 ghost use Rattle.coefficient.specs.Alpha.{alpha_of};
 ghost use Rattle.fields.specs.Fields.{count_of};
 ghost use Rattle.tree.specs.Tree.{served_of, set_of};
@@ -17,70 +17,56 @@ use answer::Refusal;
 use fields::Job;
 
 // The design flow of sums that 8 let pass: document 01's value, and never less than one tap.
-fn flow(t: &[u32; 972], s: Sums) -> u32
-    requires { (t.now ≡ table) × (0 < s.m) × (s.m ≤ 400000000) × (s.weighted ≤ 30 * s.m) × (s.tap ≤ 300) }
+fn flow(t: &[(u32, u32); 486], s: Sums) -> u32
+    requires { (t.now ≡ pairs) × (0 < s.m) × (s.m ≤ 400000000) × (s.weighted ≤ 30 * s.m) × (s.tap ≤ 300) }
     ensures { result ≡ max (up (s.weighted * alpha_of s.m) (20000 * s.m)) s.tap }
 {
-    let m = s.m;
-    let alpha = coefficient::alpha(t, m as u32) as u64;
-    let average = round::divide_up(s.weighted * alpha, 20000 * m) as usize;
-    if average < s.tap {
-        s.tap as u32
-    } else {
-        average as u32
-    }
+    let alpha = u64::from(coefficient::alpha(t, s.m as u32));
+    let average = round::divide_up(s.weighted * alpha, 20000 * s.m);
+    average.max(s.tap) as u32
 }
 
-// The flow of each section, at the section's place.
+/// The flow of each section, at the section's place.
 pub fn flows(job: Job) -> [u32; 64]
     requires { Accepted job }
     ensures { result ≡ slots 64 1 (count_of job + 1) 0 (section_flow job) }
 {
-    let count = job.header.sections as usize;
     let served = tree::counts(job);
     let table = coefficient::table2();
-    let mut flows = [0u32; 64];
-    let mut i: usize = 1;
-    while i <= count {
-        flows[i] = flow(&table, sums_of(job, &served, i));
-        i += 1;
+    let mut flows = [0; 64];
+    for i in 1..=usize::from(job.header.sections) {
+        flows[i] = flow(table, sums_of(&job, &served, i));
     }
     flows
 }
 
-// The house's design flow, which the pump set delivers.
+/// The house's design flow, which the pump set delivers.
 pub fn house_flow(job: Job) -> u32
     requires { Accepted job }
     ensures { result ≡ house_flow job }
 {
     let served = tree::counts(job);
-    let table = coefficient::table2();
-    flow(&table, sums_of(job, &served, 0))
+    flow(coefficient::table2(), sums_of(&job, &served, 0))
 }
 
 // m over 100,000 × fixtures with at most 200 fixtures: then Table 1 of appendix 4 would apply, which is left out.
+#[tactic(auto, unfolding(crate::specs::Demand::needs_table_one))]
 fn needs_table_one(m: u64, fixtures: u64) -> bool
     ensures { result ≡ needs_table_one m fixtures }
 {
-    if 200 < fixtures {
-        return false;
-    }
-    100000 * fixtures < m
+    fixtures <= 200 && 100000 * fixtures < m
 }
 
 fn section_needs_table_one(job: Job, served: &[u32; 768], sets: &[u64; 64]) -> bool
     requires { Valid job × Counted job served.now × ((i : ℕ) → i < 64 → get_or sets.now i 0 ≡ set_of job i) }
     ensures { result ≡ any_to (count_of job) (λ i. needs_table_one (m_of job (served_of job i)) (fixtures_of (served_of job i))) }
 {
-    let count = job.header.sections as usize;
-    let mut i: usize = 1;
-    while i <= count {
-        let s = sums_of(job, served, i);
+    for i in 1..=usize::from(job.header.sections) {
+        let sums = sums_of(&job, served, i);
         let fixtures = tree::fixtures_below(job, sets[i], i);
-        if needs_table_one(s.m, fixtures) {
+        if needs_table_one(sums.m, fixtures) {
             return true;
         }
-        i += 1;
     }
     false
 }
@@ -92,7 +78,7 @@ pub fn demand_refusal(job: Job) -> Result<(), Refusal>
 {
     let served = tree::counts(job);
     let sets = tree::sets(job);
-    let house = sums_of(job, &served, 0);
+    let house = sums_of(&job, &served, 0);
     let fixtures = tree::fixtures_below(job, sets[0], 0);
     let hour = hour_sums(job);
     if 400000000 < house.m {

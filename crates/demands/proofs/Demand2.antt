@@ -1,6 +1,6 @@
 -- Demand 2: the figures that stand in a result's bytes, and records read and written.
 -- Assumes nothing.
-use mathlib.Core.Path.{◌≡◌, refl, ◌∙◌}
+use mathlib.Core.Path.{◌≡◌, refl, sym, ◌∙◌}
 use mathlib.Core.List.{List}
 use Prim.Native.Nat.{ℕ}
 use lib.ListN.{length}
@@ -8,7 +8,7 @@ use Rattle.basis.specs.Part.{part}
 use Rattle.basis.proofs.Part.{part_front}
 use Rattle.basis.proofs.Stored.{stored_front}
 use Rattle.job.proofs.RoundTrip.{written_read_same, same_bytes, copied as copied-number, not_refused}
-use Rattle.acceptance.proofs.Accepting.{input_cat}
+use Rattle.acceptance.proofs.Accepting.{input_passed}
 use Rattle.flow.proofs.Ordering.{flow_done, duty_done}
 use Rattle.rating.proofs.Ordering.{sized_over, sized_done}
 use Rattle.lent_losses.proofs.Ordering.{heads_listed, heads_done}
@@ -26,10 +26,10 @@ demand_2 =
     record {
       flow_given = λ b room e h. flow_done b room e h;
       duty_given = λ b room e h. duty_done b room e h;
-      rate_given = λ b cat sizes room e f named none h. sized_done b cat sizes room _ ((input_cat b cat e).0 ∙ f) named h none;
-      rate_over = λ b cat sizes room e f named over h. sized_over b cat sizes room _ ((input_cat b cat e).0 ∙ f) named h over;
-      losses_given = λ b cat sizes room e f named none h. sized_done b cat sizes room _ ((input_cat b cat e).0 ∙ f) named h none;
-      losses_over = λ b cat sizes room e f named over h. sized_over b cat sizes room _ ((input_cat b cat e).0 ∙ f) named h over;
+      rate_given = λ b cat sizes room e f named none h. sized_done b cat sizes room _ (sym (input_passed b cat (sym e) (sym f))) named h none;
+      rate_over = λ b cat sizes room e f named over h. sized_over b cat sizes room _ (sym (input_passed b cat (sym e) (sym f))) named h over;
+      losses_given = λ b cat sizes room e f named none h. sized_done b cat sizes room _ (sym (input_passed b cat (sym e) (sym f))) named h none;
+      losses_over = λ b cat sizes room e f named over h. sized_over b cat sizes room _ (sym (input_passed b cat (sym e) (sym f))) named h over;
       heads_given = λ b losses room e ok h. heads_done b losses room e ok h;
       heads_refused = λ b losses room e not-ok. heads_listed b losses room e not-ok;
       flow = λ job out₀ out bytes g. flow_figures job out₀ out g bytes;

@@ -20,7 +20,7 @@ use Rattle.demand.specs.Demand.{Accepted}
 use Rattle.demand.proofs.Validity.{valid_count}
 use Rattle.catalogue.specs.Steps.{AcceptedCat}
 use Rattle.acceptance.specs.Acceptance.{input_no}
-use Rattle.acceptance.proofs.Accepting.{input_cat, input_both, input_accepted, input_listed}
+use Rattle.acceptance.proofs.Accepting.{input_passed, input_both, input_accepted, input_listed}
 use Rattle.sizing.specs.Losses.{losses_of}
 use Rattle.sizing.proofs.Named.{list_long, list_names}
 use Rattle.choosing.specs.Suitable.{Suitable, price_at, cost_of}
@@ -103,5 +103,5 @@ pub demand_3 : Demand3
 demand_3 =
     record {
       returned = λ b cat out₀ work₀ out work c. ((input_both b cat (accepted_of c)).0, (input_both b cat (accepted_of c)).1, result_of c);
-      sixteen = λ b cat out₀ work₀ out work n job listed space c. sixteen_of b cat ((input_cat b cat job).0 ∙ listed) space c;
+      sixteen = λ b cat out₀ work₀ out work n job listed space c. sixteen_of b cat (sym (input_passed b cat (sym job) (sym listed))) space c;
     }

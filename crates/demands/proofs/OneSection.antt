@@ -1,6 +1,6 @@
 -- A house of one section under document 01's catalogue: its list is size 1 or size 2, and choosing gives the one that suits where the other suits not or costs more.
 -- Assumes nothing.
-use mathlib.Core.Path.{◌≡◌, ap, ◌∙◌}
+use mathlib.Core.Path.{◌≡◌, sym, ap, ◌∙◌}
 use mathlib.Core.Logic.{◌⊎◌, inl, inr, ⊎_elim}
 use mathlib.Core.Bool.{true}
 use mathlib.Core.List.{List, [], ◌∷◌}
@@ -13,7 +13,7 @@ use Rattle.fields.specs.declared.Job.{Job}
 use Rattle.fields.specs.Fields.{count_of}
 use Rattle.record.specs.Record.{decode}
 use Rattle.acceptance.specs.Acceptance.{job_no}
-use Rattle.acceptance.proofs.Accepting.{input_cat}
+use Rattle.acceptance.proofs.Accepting.{input_passed}
 use Rattle.catalogue.specs.Rules.{cat_no}
 use Rattle.sizing.specs.Losses.{list_ok}
 use Rattle.sizing.proofs.Named.{list_long, list_names}
@@ -32,7 +32,7 @@ one_size job one (x ∷ z ∷ l) e = absurd (omega (arith, one, list_long job ow
 -- the call on an accepted job, with enough of both buffers
 module _ (listed : cat_no own_cat ≡ 0) (b : List ℕ) (accepted : job_no b ≡ 0) {out₀ work₀ : List ℕ} (space : Ample b out₀ work₀) where
   ready : choose_no b own_cat (length out₀) (length work₀) ≡ 0
-  ready = choose_ready b own_cat (length out₀) (length work₀) ((input_cat b own_cat accepted).0 ∙ listed) space.result space.space
+  ready = choose_ready b own_cat (length out₀) (length work₀) (sym (input_passed b own_cat (sym accepted) (sym listed))) space.result space.space
 
   module _ {out work : List ℕ} {n : ℕ} (c : Chosen b own_cat out₀ work₀ out work n) where
     given : Unsuitable (decode b) own_cat out₀ out n ⊎ Cheapest (decode b) own_cat out₀ out n

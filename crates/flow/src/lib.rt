@@ -15,19 +15,18 @@ ghost use Rattle.demand.specs.Demand.{Accepted};
 ghost use Rattle.flow.specs.Calls.{flow_length, house_bytes, flow_bytes, flow_no};
 
 use acceptance::accept;
-use answer::Answer;
+use answer::Refusal;
 use fields::Job;
 pub use pump::duty;
+use wire::Field;
 
 // The flows of sections 1 to count, from byte 12 on.
 fn put_flows(out: &mut [u8], flows: [u32; 64], count: usize)
     requires { (count ≤ 63) × (flow_length count ≤ length out.old) }
     ensures { out.new ≡ stored out.old 12 (concat_to count (λ i. bytes_of 4 (get_or flows i 0))) }
 {
-    let mut i: usize = 1;
-    while i <= count {
-        wire::put_be32(out, 12 + 4 * (i - 1), flows[i]);
-        i += 1;
+    for i in 1..=count {
+        flows[i].put_at(out, 12 + 4 * (i - 1));
     }
 }
 
@@ -36,9 +35,9 @@ fn put_house(out: &mut [u8], hour: u32, day: u32, mean: u32)
     requires { 12 ≤ length out.old }
     ensures { out.new ≡ stored out.old 0 (house_bytes hour day mean) }
 {
-    wire::put_be32(out, 0, hour);
-    wire::put_be32(out, 4, day);
-    wire::put_be32(out, 8, mean);
+    hour.put_at(out, 0);
+    day.put_at(out, 4);
+    mean.put_at(out, 8);
 }
 
 // The whole flow result.
@@ -46,7 +45,7 @@ fn put_result(out: &mut [u8], job: Job)
     requires { Accepted job × (flow_length (count_of job) ≤ length out.old) }
     ensures { out.new ≡ stored out.old 0 (flow_bytes job) }
 {
-    let count = job.header.sections as usize;
+    let count = usize::from(job.header.sections);
     let flows = demand::flows(job);
     put_house(
         out,
@@ -58,19 +57,16 @@ fn put_result(out: &mut [u8], job: Job)
 }
 
 // The flow call: hour, day, mean hour and S flows at the front of the buffer, or a number and the buffer as it was.
-pub fn flow(b: &[u8], out: &mut [u8]) -> Answer
+#[tactic(auto, using(crate::proofs::Ordering::flow_short, crate::proofs::Ordering::flow_done))]
+pub fn flow(b: &[u8], out: &mut [u8]) -> Result<(), Refusal>
     ensures number { number_of result ≡ flow_no b.now (length out.old) }
     ensures buffer { out.new ≡ buffer_after (number_of result) (flow_bytes (decode b.now)) out.old }
 {
-    let accepted = accept(b);
-    let answer = accepted.answer;
-    if answer::number(answer) != 0 {
-        return answer;
-    }
-    let count = accepted.job.header.sections as usize;
+    let job = accept(b)?;
+    let count = usize::from(job.header.sections);
     if out.len() < 12 + 4 * count {
-        return Answer::ResultShort;
+        return Err(Refusal::ResultShort);
     }
-    put_result(out, accepted.job);
-    answer
+    put_result(out, job);
+    Ok(())
 }

@@ -6,21 +6,19 @@ ghost use Rattle.record.specs.Record.{decode};
 ghost use Rattle.flow.specs.Calls.{duty_no, duty_bytes};
 
 use acceptance::accept;
-use answer::Answer;
+use answer::Refusal;
+use wire::Field;
 
 // The house's design flow at the front of the buffer, or a number and the buffer as it was.
-pub fn duty(b: &[u8], out: &mut [u8]) -> Answer
+#[tactic(auto, using(crate::proofs::Ordering::duty_short, crate::proofs::Ordering::duty_done), unfolding(crate::specs::Calls::duty_bytes))]
+pub fn duty(b: &[u8], out: &mut [u8]) -> Result<(), Refusal>
     ensures number { number_of result ≡ duty_no b.now (length out.old) }
     ensures buffer { out.new ≡ buffer_after (number_of result) (duty_bytes (decode b.now)) out.old }
 {
-    let accepted = accept(b);
-    let answer = accepted.answer;
-    if answer::number(answer) != 0 {
-        return answer;
-    }
+    let job = accept(b)?;
     if out.len() < 4 {
-        return Answer::ResultShort;
+        return Err(Refusal::ResultShort);
     }
-    wire::put_be32(out, 0, demand::house_flow(accepted.job));
-    answer
+    demand::house_flow(job).put_at(out, 0);
+    Ok(())
 }

@@ -26,6 +26,16 @@ pub walk_within : {parents losses : List ℕ} {section : ℕ} → Walkable paren
     path_of (λ i. get_or parents i 0) (λ i. get_or losses i 0) section ≤ 268365825
 walk_within {section = section} w = omega (arith, w.high, path_within w.lower _ w.top section (omega arith))
 
+-- one turn of a walk: the section's own loss, and the path loss of its parent
+pub walk_step : {parents losses : List ℕ} {section : ℕ} → Walkable parents losses section → (at : ℕ) → 0 < at → at ≤ section →
+    path_of (λ i. get_or parents i 0) (λ i. get_or losses i 0) at ≡
+    get_or losses at 0 + path_of (λ i. get_or parents i 0) (λ i. get_or losses i 0) (get_or parents at 0)
+walk_step w at h k = path_step w.lower _ at h k
+
+-- at the pump nothing is left
+pub walk_over : (parent loss : ℕ → ℕ) (at : ℕ) → at ≡ 0 → path_of parent loss at ≡ 0
+walk_over parent loss at e = rw (e, path_pump parent loss)
+
 module _ (job : Job) (r : Rooted job) where
   pub parent_lower : (i : ℕ) → 0 < i → i ≤ count_of job → parent_of job i < i
   parent_lower i h k = rw (parent_at job i h) (r.lower i h k)

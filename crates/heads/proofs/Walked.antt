@@ -1,10 +1,10 @@
 -- The walk from a section over a table of the job's parents: it may be asked for, and with what it gives the section's reach is the job's.
 -- Assumes nothing.
-use mathlib.Core.Path.{◌≡◌, ◌∙◌}
+use mathlib.Core.Path.{◌≡◌}
 use Prim.Native.Nat.{ℕ, ◌+◌, ◌≤◌, ◌<◌}
 use native.Mathlib.Omega.{arith}
 use mathlib.Core.List.{List}
-use lib.IntN.{ℤ, pos, ◌+ℤ◌}
+use lib.IntN.{pos, ◌+ℤ◌}
 use lib.ListN.{get_or}
 use Rattle.basis.specs.Slots.{slots}
 use Rattle.basis.specs.Sections.{path_of}
@@ -28,7 +28,7 @@ module _ {job : Job} {losses : List ℕ} (g : Given job losses) (parents : List 
       }
 
   -- with the path loss that the walk gives, a section's reach is document 01's
-  pub walked_reach : {z : ℤ} → z ≡ (section_of job i).elevation +ℤ pos ((section_of job i).free + path_of (λ j. get_or parents j 0) (λ j. get_or losses j 0) i) →
-      z ≡ reach_of job (λ j. get_or losses j 0) i
+  pub walked_reach : reach_of job (λ j. get_or losses j 0) i ≡
+      (section_of job i).elevation +ℤ pos ((section_of job i).free + path_of (λ j. get_or parents j 0) (λ j. get_or losses j 0) i)
   unfolding reach_of
-  walked_reach e = e ∙ rw (held_path job (given_rooted g) parents held (λ j. get_or losses j 0) i k)
+  walked_reach = rw (held_path job (given_rooted g) parents held (λ j. get_or losses j 0) i k)

@@ -30,11 +30,12 @@ fn path_loss(parents: &[u8; 64], losses: &[u32; 64], section: usize) -> u32
     requires { Walkable parents.now losses.now section }
     ensures { result ≡ path_of (λ i. get_or parents.now i 0) (λ i. get_or losses.now i 0) section }
 {
-    let mut sum: u32 = 0;
+    let mut sum = 0;
     let mut at = section;
+    // No range: how many steps lead to the pump is known only at its end, as each goes to the parent.
     while 0 < at {
         sum += losses[at];
-        at = parents[at] as usize;
+        at = usize::from(parents[at]);
     }
     sum
 }
@@ -44,7 +45,7 @@ pub fn reach(s: Section, more: u32) -> i32
     requires { more ≤ 268365825 }
     ensures { result ≡ s.elevation +ℤ pos (s.free + more) }
 {
-    (s.elevation as i32) + ((s.free as u32 + more) as i32)
+    i32::from(s.elevation) + (u32::from(s.free) + more) as i32
 }
 
 // The reach of the section with this number, whose fields are `s`, with its path loss.
@@ -62,22 +63,16 @@ fn dictating(job: Job, losses: [u32; 64]) -> Greatest
     ensures { (result.reach ≡ greatest_to (count_of job) (reach_of job (λ i. get_or losses i 0)))
         × (result.section ≡ dictating_of job (λ i. get_or losses i 0)) }
 {
-    let count = job.header.sections as usize;
     let parents = tree::parents_of(job);
     let mut best = Greatest {
         reach: reach_at(job.sections[1], &parents, &losses, 1),
         section: 1,
     };
-    let mut i: usize = 2;
-    while i <= count {
-        let r = reach_at(job.sections[i], &parents, &losses, i);
-        if best.reach < r {
-            best = Greatest {
-                reach: r,
-                section: i,
-            };
+    for section in 2..=usize::from(job.header.sections) {
+        let reach = reach_at(job.sections[section], &parents, &losses, section);
+        if best.reach < reach {
+            best = Greatest { reach, section };
         }
-        i += 1;
     }
     best
 }
@@ -89,15 +84,11 @@ pub fn heads_of(job: Job, losses: [u32; 64]) -> Heads
         × (result.dictating ≡ dictating_of job (λ i. get_or losses i 0)) }
 {
     let best = dictating(job, losses);
-    let required = (job.header.meter as i32) + best.reach;
-    let over = required - (job.header.guaranteed as i32);
-    let mut pump: u32 = 0;
-    if 0 < over {
-        pump = over as u32;
-    }
+    let required = i32::from(job.header.meter) + best.reach;
+    let over = required - i32::from(job.header.guaranteed);
     Heads {
         required,
-        pump,
+        pump: over.max(0) as u32,
         dictating: best.section,
     }
 }

@@ -14,16 +14,16 @@ use Rattle.demand.proofs.Totals.{hot_day_top}
 use Rattle.demand.proofs.Validity.{valid_hours}
 use Rattle.heating.specs.Heat.{watts_of}
 
--- what the heat flow of so many l/h comes to on the way
-pub product_top : (litres t : ℕ) → litres ≤ 66583560 → 116 * litres * (55 - t) ≤ 424803112800
-product_top litres t h = mul-le-mul {n₂ = 7723692960} {m₂ = 55} (omega arith) (omega arith)
+-- what the heat flow of so many l/h, warmed by so many degrees, comes to on the way
+product_top : (litres degrees : ℕ) → litres ≤ 66583560 → degrees ≤ 55 → 116 * litres * degrees ≤ 424803112800
+product_top litres degrees h k = mul-le-mul {n₂ = 7723692960} {m₂ = 55} (omega arith) (omega arith)
 
-pub heat_top : (litres t : ℕ) → litres ≤ 66583560 → up (116 * litres * (55 - t)) 100 ≤ 4248031128
-heat_top litres t h = up_le (116 * litres * (55 - t)) 4248031128 (omega arith) (product_top litres t h)
+pub heat_top : (litres degrees : ℕ) → litres ≤ 66583560 → degrees ≤ 55 → up (116 * litres * degrees) 100 ≤ 4248031128
+heat_top litres degrees h k = up_le (116 * litres * degrees) 4248031128 (omega arith) (product_top litres degrees h k)
 
 pub watts_top : (litres t loss : ℕ) → litres ≤ 66583560 → loss ≤ 1000000 → watts_of litres t loss ≤ 4249031128
 unfolding watts_of
-watts_top litres t loss h k = omega (arith, heat_top litres t h)
+watts_top litres t loss h k = omega (arith, heat_top litres (55 - t) h (omega arith))
 
 -- the mean hour of a hot line
 pub hot_mean_top : {job : Job} → Valid job → service_of job ≡ 2 → ((kind : ℕ) → 0 < kind → kind ≤ 12 → residents_of job kind < 65536) →

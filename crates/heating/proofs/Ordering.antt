@@ -1,13 +1,13 @@
 -- The numbers of the heat call, each check after those before it.
 -- Assumes nothing.
-use mathlib.Core.Path.{◌≡◌, sym, ◌∙◌}
+use mathlib.Core.Path.{◌≡◌, ◌∙◌}
 use mathlib.Core.Bool.{true, false}
 use mathlib.Core.List.{List, []}
 use Prim.Native.Nat.{ℕ, ◌≤◌, ◌<◌}
 use native.Mathlib.Omega.{arith}
 use lib.Dec.{leb}
 use borrow.Author.Tests.{leb-true, le-leb, eqb-true, eq-eqb, ne_eqb, not-false, ltb-false}
-use Rattle.basis.proofs.Bools.{left, right, never}
+use Rattle.basis.proofs.Bools.{left, right}
 use Rattle.answer.proofs.First.{first_none, first_found, first_next, short_found, short_next, first_clear, first_split}
 use Rattle.fields.specs.Fields.{service_of}
 use Rattle.record.specs.Record.{decode}
@@ -29,9 +29,6 @@ heat_in t loss e =
 pub in_heat : (t loss : ℕ) → HeatIn t loss → heat_ok t loss ≡ true
 unfolding heat_ok
 in_heat t loss h = rw (le-leb t 30 h.cold, le-leb loss 1000000 h.lost)
-
-pub heat_out : (t loss : ℕ) → (HeatIn t loss → ⊥) → false ≡ heat_ok t loss
-heat_out t loss n = sym (never (heat_ok t loss) (λ e. n (heat_in t loss e)))
 
 -- what holds where the call finds nothing
 pub record Clear (b : List ℕ) (t loss room : ℕ) : Type 0 where

@@ -7,16 +7,27 @@ use native.Mathlib.Omega.{arith}
 use lib.ListN.{length, take}
 use lib.Seq.{take_at}
 use borrow.Author.Tests.{eq-eqb, ne_eqb}
+use Rattle.std.specs.Prelude.{Result, Ok, Err, IfOk}
 use Rattle.basis.specs.Stored.{stored}
 use Rattle.basis.proofs.Stored.{stored_front, stored_length}
+use Rattle.answer.specs.declared.Refusal.{Refusal}
+use Rattle.answer.specs.Answer.{refusal_number, number_of}
 use Rattle.answer.specs.Checks.{buffer_after}
+use Rattle.answer.proofs.Some.{refusal_some}
 use Rattle.fields.specs.declared.Job.{Job}
 use Rattle.fields.specs.Fields.{blank_job, version_of, count_of}
-use Rattle.record.specs.Record.{length_of, encode, kept}
+use Rattle.record.specs.Record.{length_of, decode, encode, kept}
 use Rattle.record.proofs.Lengths.{encode_length}
-use Rattle.job.specs.Calls.{read_no, read_job, write_no, WrittenRead}
-use Rattle.job.proofs.Decided.{writable}
+use Rattle.job.specs.Calls.{read_no, read_job, write_no, job_in, WrittenRead}
+use Rattle.job.proofs.Decided.{read_accepted, writable}
 use Rattle.job.proofs.RoundTrip.{SixteenBits, accepted_again, same_fields}
+
+-- the fields that a reading gives are those that the reader's promise has
+pub job_read : (r : Result Job Refusal) (b : List ℕ) → number_of r ≡ read_no b → IfOk r (λ job. job ≡ decode b) → job_in r ≡ read_job b
+unfolding read_job
+job_read (Ok job) b number fields = fields ∙ sym (read_accepted b (sym number))
+job_read (Err refusal) b number fields =
+    sym (rw (← number, ne_eqb (refusal_number refusal) 0 (λ none. omega (arith, refusal_some refusal))))
 
 -- what the writer gives: a number, and the buffer after it
 module _ (job : Job) (out₀ : List ℕ) {out : List ℕ} {n : ℕ} (number : n ≡ write_no job (length out₀))

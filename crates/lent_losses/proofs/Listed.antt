@@ -3,13 +3,17 @@
 use mathlib.Core.Path.{◌≡◌, sym, ◌∙◌}
 use mathlib.Core.Bool.{true, false}
 use mathlib.Core.List.{List}
-use Prim.Native.Nat.{ℕ, ◌*◌, ◌≤◌, ◌<◌}
-use lib.ListN.{length}
+use Prim.Native.Nat.{ℕ, ◌+◌, ◌-◌, ◌*◌, ◌≤◌, ◌<◌}
+use native.Mathlib.Nat.{add-sub_cancel}
+use native.Mathlib.Omega.{arith}
+use lib.ListN.{length, set, replicate}
 use lib.Dec.{leb, eqb}
 use borrow.Author.Tests.{eq-eqb, ne_eqb, eqb-true, le-leb, lt-leb, leb-true}
 use Rattle.basis.specs.Range.{all_to}
+use Rattle.basis.specs.Slots.{slots}
 use Rattle.basis.proofs.Bools.{left}
-use Rattle.basis.proofs.Each.{all_at, all_each, all_false}
+use Rattle.basis.proofs.Each.{all_none, all_more, all_at, all_each, all_false}
+use Rattle.basis.proofs.Slots.{slots_none, slots_more}
 use Rattle.lent_losses.specs.LentLosses.{loss_in, losses_ok}
 
 module _ (count : ℕ) (losses : List ℕ) where
@@ -39,3 +43,30 @@ module _ (count : ℕ) (losses : List ℕ) where
     pub losses_top : (i : ℕ) → 0 < i → i ≤ count → loss_in losses i ≤ 4259775
     losses_top i low high =
         leb-true (loss_in losses i) 4259775 (all_at count (λ j. leb (loss_in losses j) 4259775) (sym (losses_all losses_long) ∙ ok) i low high)
+
+-- what stands before section i: the losses below it pass 19 and stand at their places
+pub record Listed (losses at : List ℕ) (i : ℕ) : Type 0 where
+  pub small : all_to (i - 1) (λ j. leb (loss_in losses j) 4259775) ≡ true
+  pub placed : at ≡ slots 64 1 i 0 (loss_in losses)
+
+module _ (losses : List ℕ) where
+  pub listed_none : Listed losses (replicate 64 0) 1
+  listed_none = record { small = all_none _; placed = slots_none 64 1 0 _ }
+
+  -- one loss more
+  pub listed_more : {at : List ℕ} {i loss : ℕ} → Listed losses at i → 0 < i → i < 64 → loss ≡ loss_in losses i → loss ≤ 4259775 →
+      Listed losses (set at i loss) (i + 1)
+  listed_more {at} {i} {loss} r low high e small =
+      record {
+        small =
+            rw (add-sub_cancel i 1)
+            (all_more (i - 1) i (λ j. leb (loss_in losses j) 4259775) (omega arith) r.small (le-leb (loss_in losses i) 4259775 (rw (← e) small)));
+        placed = rw (e, r.placed) (slots_more 64 1 i 0 (loss_in losses) (omega arith) high);
+      }
+
+  -- and at the end all of them
+  pub listed_all : (count : ℕ) {at : List ℕ} {i : ℕ} → Listed losses at i → i ≡ count + 1 → length losses ≡ 4 * count →
+      (losses_ok count losses ≡ true) × (at ≡ slots 64 1 (count + 1) 0 (loss_in losses))
+  listed_all count {i = i} r e long =
+      let n : i - 1 ≡ count = omega arith in
+      (losses_all count losses long ∙ (rw n at r.small), rw e at r.placed)

@@ -6,11 +6,13 @@ use mathlib.Core.List.{List, []}
 use Prim.Native.Nat.{ℕ, ◌≤◌, ◌<◌}
 use native.Mathlib.Omega.{arith}
 use borrow.Author.Tests.{not-false}
+use Rattle.answer.specs.Answer.{refusal_number}
+use Rattle.answer.specs.declared.Refusal.{Refusal}
 use Rattle.answer.proofs.First.{first_none, first_found, first_next, short_found, short_next, first_clear, first_split}
 use Rattle.fields.specs.Fields.{count_of}
 use Rattle.record.specs.Record.{decode}
 use Rattle.acceptance.specs.Acceptance.{job_checks, job_no}
-use Rattle.acceptance.proofs.Accepting.{job_numbered, job_stops, job_passes}
+use Rattle.acceptance.proofs.Accepting.{job_numbered, job_stops, job_refused, job_passes}
 use Rattle.rated_bytes.specs.RatedBytes.{heads_length}
 use Rattle.lent_losses.specs.LentLosses.{losses_ok}
 use Rattle.lent_losses.specs.Calls.{heads_no}
@@ -30,6 +32,10 @@ module _ (b losses : List ℕ) (room : ℕ) where
   pub heads_refused : (job_no b ≡ 0 → ⊥) → heads_no b losses room ≡ job_no b
   unfolding heads_no
   heads_refused n = job_stops b _ n
+
+  pub heads_exit : (r : Refusal) → refusal_number r ≡ job_no b → refusal_number r ≡ heads_no b losses room
+  unfolding heads_no
+  heads_exit r e = job_refused b _ r e
 
   module _ (accepted : job_no b ≡ 0) where
     pub heads_listed : losses_ok (count_of (decode b)) losses ≡ false → heads_no b losses room ≡ 19

@@ -1,7 +1,7 @@
 // The heads call: required head, pump head and dictating section with losses that the caller gives.
 #![tactic(auto)]
 
-ghost use Rattle.std.specs.Prelude.{◌≡◌, true, ◌+◌, ◌≤◌, length};
+ghost use Rattle.std.specs.Prelude.{◌≡◌, true, false, ◌+◌, ◌≤◌, length, MatchOption};
 ghost use Rattle.basis.specs.Slots.{slots};
 ghost use Rattle.answer.specs.Answer.{number_of};
 ghost use Rattle.answer.specs.Checks.{buffer_after};
@@ -10,58 +10,48 @@ ghost use Rattle.lent_losses.specs.LentLosses.{loss_in, losses_ok};
 ghost use Rattle.lent_losses.specs.Calls.{heads_no, lent_bytes};
 
 use acceptance::accept;
-use answer::Answer;
+use answer::Refusal;
 use rated_bytes::put_heads;
+use wire::Field;
 
-// The losses at the sections' places, and whether 19 finds nothing.
-#[derive(Clone, Copy)]
-struct Losses {
-    ok: bool,
-    at: [u32; 64],
-}
+// The most that a section loses, in cm.
+const MOST_LOSS: u32 = 4_259_775;
 
-// Where 19 finds something, nothing is promised of the losses, which are then not used.
-fn read_losses(given: &[u8], count: usize) -> Losses
+// The bytes of a heads result.
+const HEADS_LENGTH: usize = 9;
+
+// The losses at the sections' places, where 19 finds nothing.
+fn read_losses(given: &[u8], count: usize) -> Option<[u32; 64]>
     requires { count ≤ 63 }
-    ensures ok { result.ok ≡ losses_ok count given.now }
-    ensures at { result.ok ≡ true → result.at ≡ slots 64 1 (count + 1) 0 (loss_in given.now) }
+    ensures { MatchOption result (losses_ok count given.now ≡ false)
+        (λ losses. (losses_ok count given.now ≡ true) × (losses ≡ slots 64 1 (count + 1) 0 (loss_in given.now))) }
 {
-    let mut at = [0u32; 64];
     if given.len() != 4 * count {
-        return Losses { ok: false, at };
+        return None;
     }
-    let mut i: usize = 1;
-    while i <= count {
-        let loss = wire::be32(given, 4 * (i - 1));
-        if 4259775 < loss {
-            return Losses { ok: false, at };
+    let mut losses = [0; 64];
+    for i in 1..=count {
+        let loss = u32::at(given, 4 * (i - 1));
+        if MOST_LOSS < loss {
+            return None;
         }
-        at[i] = loss;
-        i += 1;
+        losses[i] = loss;
     }
-    Losses { ok: true, at }
+    Some(losses)
 }
 
-// Required head, pump head and dictating section, or a number and the buffer as it was.
-pub fn heads(b: &[u8], given: &[u8], out: &mut [u8]) -> Answer
+/// Required head, pump head and dictating section, or a number and the buffer as it was.
+pub fn heads(b: &[u8], given: &[u8], out: &mut [u8]) -> Result<(), Refusal>
     ensures number { number_of result ≡ heads_no b.now given.now (length out.old) }
     ensures buffer { out.new ≡ buffer_after (number_of result)
         (lent_bytes (decode b.now) given.now) out.old }
 {
-    let accepted = accept(b);
-    let answer = accepted.answer;
-    if answer::number(answer) != 0 {
-        return answer;
+    let job = accept(b)?;
+    let count = usize::from(job.header.sections);
+    let losses = read_losses(given, count).ok_or(Refusal::LossList)?;
+    if out.len() < HEADS_LENGTH {
+        return Err(Refusal::ResultShort);
     }
-    let job = accepted.job;
-    let losses = read_losses(given, job.header.sections as usize);
-    if !losses.ok {
-        return Answer::LossList;
-    }
-    if out.len() < 9 {
-        return Answer::ResultShort;
-    }
-    let at = losses.at;
-    put_heads(out, job, at);
-    answer
+    put_heads(out, job, losses);
+    Ok(())
 }

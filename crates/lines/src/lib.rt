@@ -1,55 +1,66 @@
 // The lines of the sheet: a word, figures after a space each, and a newline.
 #![tactic(auto)]
 
-ghost use Rattle.std.specs.Prelude.{◌+◌, ◌≤◌, length};
-ghost use Rattle.text.specs.Pieces.{Wrote};
-ghost use Rattle.lines.specs.Lines.{house_line, section_line, head_line, refused_line};
+ghost use Rattle.std.specs.Prelude.{◌≡◌, ◌+◌, ◌*◌, ◌≤◌, ◌++◌, length, map};
+ghost use Rattle.text.specs.Figures.{decimal};
+ghost use Rattle.lines.specs.Lines.{spaced, house_line, section_line, head_line, refused_line};
 
-use text::{put_byte, put_figure, put_signed, put_word};
+use text::Text;
 
 // Hour, day and mean hour.
-pub fn put_house(out: &mut [u8], at: usize, hour: u32, day: u32, mean: u32) -> usize
-    requires { at + 39 ≤ length out.old }
-    ensures { Wrote 39 out.old out.new at result (house_line hour day mean) }
+#[tactic(auto, using(crate::proofs::Spaced::pieces), unfolding(crate::specs::Lines::house_line))]
+pub fn put_house(text: &mut Text, hour: u32, day: u32, mean: u32)
+    requires { length text.old + 39 ≤ 4096 }
+    ensures bytes { text.new ≡ text.old ++ house_line hour day mean }
+    ensures room { length text.new ≤ length text.old + 39 }
 {
-    let at = put_word(out, at, b"house");
-    let at = put_figure(out, at, hour);
-    let at = put_figure(out, at, day);
-    let at = put_figure(out, at, mean);
-    put_byte(out, at, b'\n')
+    text.push_word(b"house");
+    put_figures(text, &[hour, day, mean]);
 }
 
 // Number, flow, velocity and loss of a section.
-pub fn put_section(out: &mut [u8], at: usize, i: u32, flow: u32, velocity: u32, loss: u32) -> usize
-    requires { at + 52 ≤ length out.old }
-    ensures { Wrote 52 out.old out.new at result (section_line i flow velocity loss) }
+#[tactic(auto, using(crate::proofs::Spaced::pieces), unfolding(crate::specs::Lines::section_line))]
+pub fn put_section(text: &mut Text, i: u32, flow: u32, velocity: u32, loss: u32)
+    requires { length text.old + 52 ≤ 4096 }
+    ensures bytes { text.new ≡ text.old ++ section_line i flow velocity loss }
+    ensures room { length text.new ≤ length text.old + 52 }
 {
-    let at = put_word(out, at, b"section");
-    let at = put_figure(out, at, i);
-    let at = put_figure(out, at, flow);
-    let at = put_figure(out, at, velocity);
-    let at = put_figure(out, at, loss);
-    put_byte(out, at, b'\n')
+    text.push_word(b"section");
+    put_figures(text, &[i, flow, velocity, loss]);
 }
 
 // Required head, pump head and dictating section.
-pub fn put_head(out: &mut [u8], at: usize, required: i32, pump: u32, dictating: u32) -> usize
-    requires { at + 39 ≤ length out.old }
-    ensures { Wrote 39 out.old out.new at result (head_line required pump dictating) }
+#[tactic(auto, using(crate::proofs::Spaced::pieces), unfolding(crate::specs::Lines::head_line, crate::specs::Lines::spaced))]
+pub fn put_head(text: &mut Text, required: i32, pump: u32, dictating: u32)
+    requires { length text.old + 39 ≤ 4096 }
+    ensures bytes { text.new ≡ text.old ++ head_line required pump dictating }
+    ensures room { length text.new ≤ length text.old + 39 }
 {
-    let at = put_word(out, at, b"head");
-    let at = put_signed(out, at, required);
-    let at = put_figure(out, at, pump);
-    let at = put_figure(out, at, dictating);
-    put_byte(out, at, b'\n')
+    text.push_word(b"head");
+    text.push_signed(required);
+    put_figures(text, &[pump, dictating]);
 }
 
 // A refusal's number.
-pub fn put_refused(out: &mut [u8], at: usize, number: u32) -> usize
-    requires { at + 19 ≤ length out.old }
-    ensures { Wrote 19 out.old out.new at result (refused_line number) }
+#[tactic(auto, using(crate::proofs::Spaced::pieces), unfolding(crate::specs::Lines::refused_line))]
+pub fn put_refused(text: &mut Text, number: u32)
+    requires { length text.old + 19 ≤ 4096 }
+    ensures bytes { text.new ≡ text.old ++ refused_line number }
+    ensures room { length text.new ≤ length text.old + 19 }
 {
-    let at = put_word(out, at, b"refused");
-    let at = put_figure(out, at, number);
-    put_byte(out, at, b'\n')
+    text.push_word(b"refused");
+    put_figures(text, &[number]);
+}
+
+// The figures of a line, and its newline.
+#[tactic(auto, using(crate::proofs::Spaced::pieces))]
+fn put_figures(text: &mut Text, figures: &[u32])
+    requires { length text.old + (11 * length figures.now + 1) ≤ 4096 }
+    ensures bytes { text.new ≡ text.old ++ spaced (map decimal figures.now) }
+    ensures room { length text.new ≤ length text.old + (11 * length figures.now + 1) }
+{
+    for n in figures {
+        text.push_figure(*n);
+    }
+    text.push(b'\n');
 }

@@ -7,12 +7,14 @@ use Prim.Native.Nat.{ℕ, ◌≤◌, ◌<◌}
 use native.Mathlib.Omega.{arith}
 use lib.ListN.{length}
 use borrow.Author.Tests.{not-false}
+use Rattle.answer.specs.declared.Refusal.{Refusal}
+use Rattle.answer.specs.Answer.{refusal_number}
 use Rattle.answer.specs.Checks.{first_no}
 use Rattle.answer.proofs.First.{first_none, first_found, first_next, short_found, short_next, first_clear, first_split}
 use Rattle.record.specs.Record.{decode}
 use Rattle.demand.specs.Demand.{mean_of, house_flow}
 use Rattle.acceptance.specs.Acceptance.{job_checks, job_no}
-use Rattle.acceptance.proofs.Accepting.{job_numbered, job_stops, job_passes}
+use Rattle.acceptance.proofs.Accepting.{job_numbered, job_refused, job_passes}
 use Rattle.meters.specs.Meters.{meters_ok, none_qualifies}
 use Rattle.metering.specs.Calls.{meter_length, meter_no}
 
@@ -32,9 +34,9 @@ module _ (b meters : List ℕ) (room : ℕ) where
       let last = first_clear _ 18 _ (omega arith) room.1 in
       record { accepted = parts.0; listed = not-false _ list.0; some = last.0 }
 
-  pub meter_refused : (job_no b ≡ 0 → ⊥) → meter_no b meters room ≡ job_no b
+  pub meter_refused : (r : Refusal) → refusal_number r ≡ job_no b → refusal_number r ≡ meter_no b meters room
   unfolding meter_no
-  meter_refused n = job_stops b _ n
+  meter_refused r e = job_refused b _ r e
 
   module _ (accepted : job_no b ≡ 0) where
     pub meter_listed : meters_ok meters ≡ false → meter_no b meters room ≡ 17

@@ -9,7 +9,7 @@ ghost use Rattle.record.specs.Edited.{meter_place, edited};
 ghost use Rattle.metering.specs.Calls.{meter_length, meter_no, meter_bytes};
 
 use acceptance::accept;
-use answer::Answer;
+use answer::Refusal;
 
 // The place, then the record with the loss in its meter loss field.
 fn put_result(out: &mut [u8], place: usize, b: &[u8], loss: u32)
@@ -20,28 +20,23 @@ fn put_result(out: &mut [u8], place: usize, b: &[u8], loss: u32)
     encoding::put_edited(out, 1, b, record::METER, loss as u16);
 }
 
-// The place of the meter that wins and the job record with its loss at the front of the buffer, or a number and the buffer as it was.
-pub fn meter(b: &[u8], meters: &[u8], out: &mut [u8]) -> Answer
+/// The place of the meter that wins and the job record with its loss at the front of the buffer, or a number and the buffer as it was.
+pub fn meter(b: &[u8], meters: &[u8], out: &mut [u8]) -> Result<(), Refusal>
     ensures number { number_of result ≡ meter_no b.now meters.now (length out.old) }
     ensures buffer { out.new ≡ buffer_after (number_of result) (meter_bytes b.now meters.now) out.old }
 {
-    let accepted = accept(b);
-    let answer = accepted.answer;
-    if answer::number(answer) != 0 {
-        return answer;
-    }
+    let job = accept(b)?;
     if !meters::meters_ok(meters) {
-        return Answer::MeterList;
+        return Err(Refusal::MeterList);
     }
     if out.len() <= b.len() {
-        return Answer::ResultShort;
+        return Err(Refusal::ResultShort);
     }
-    let q = demand::house_flow(accepted.job);
-    let place = meters::winner(meters, q, demand::mean_of(accepted.job));
-    if place == 0 {
-        return Answer::NoMeter;
-    }
+    let q = demand::house_flow(job);
+    let Some(place) = meters::winner(meters, q, demand::mean_of(job)) else {
+        return Err(Refusal::NoMeter);
+    };
     let loss = meters::loss_of(meters::meter_at(meters, place), q);
     put_result(out, place, b, loss);
-    answer
+    Ok(())
 }

@@ -4,45 +4,43 @@
 ghost use Rattle.std.specs.Prelude.{◌≡◌, ◌≤◌};
 ghost use Rattle.norms.specs.Norms.{norm_of};
 
-use numbers::{lesser, long16};
-
-// Each table has the twelve kinds for one service after another. The back end writes a constant table out wherever it is named, so the
-// numbers have 16 bits and not 64.
+// Each table has a row of the twelve kinds for each service. The back end writes a constant table out wherever it is named, so the numbers
+// have 16 bits and not 64.
 
 // Litres per resident on the greatest day.
-const DAY: [u16; 36] = [
+const DAY: [[u16; 12]; 3] = [
     // total
-    400, 100, 160, 120, 230, 200, 250, 300, 115, 15, 16, 20,
+    [400, 100, 160, 120, 230, 200, 250, 300, 115, 15, 16, 20],
     // cold
-    270, 40, 70, 50, 90, 100, 100, 120, 40, 9, 9, 12,
+    [270, 40, 70, 50, 90, 100, 100, 120, 40, 9, 9, 12],
     // hot
-    130, 60, 90, 70, 140, 100, 150, 180, 75, 6, 7, 8,
+    [130, 60, 90, 70, 140, 100, 150, 180, 75, 6, 7, 8],
 ];
 
 // Tenths of a litre per resident in the greatest hour.
-const HOUR: [u16; 36] = [
+const HOUR: [[u16; 12]; 3] = [
     // total
-    200, 104, 120, 125, 190, 224, 280, 300, 84, 26, 40, 27,
+    [200, 104, 120, 125, 190, 224, 280, 300, 84, 26, 40, 27],
     // cold
-    91, 41, 45, 43, 70, 120, 130, 140, 30, 14, 20, 15,
+    [91, 41, 45, 43, 70, 120, 130, 140, 30, 14, 20, 15],
     // hot
-    109, 63, 75, 82, 120, 104, 150, 160, 54, 12, 20, 12,
+    [109, 63, 75, 82, 120, 104, 150, 160, 54, 12, 20, 12],
 ];
 
 // Hundredths of a litre a second of a fixture.
-const FIXTURE: [u16; 24] = [
+const FIXTURE: [[u16; 12]; 2] = [
     // total
-    30, 20, 20, 30, 20, 30, 30, 30, 20, 20, 14, 14,
+    [30, 20, 20, 30, 20, 30, 30, 30, 20, 20, 14, 14],
     // either line
-    20, 14, 14, 20, 14, 20, 20, 20, 14, 14, 10, 10,
+    [20, 14, 14, 20, 14, 20, 20, 20, 14, 14, 10, 10],
 ];
 
 // Litres an hour of a fixture.
-const HOURLY: [u16; 24] = [
+const HOURLY: [[u16; 12]; 2] = [
     // total
-    300, 100, 100, 300, 115, 250, 280, 300, 100, 80, 80, 100,
+    [300, 100, 100, 300, 115, 250, 280, 300, 100, 80, 80, 100],
     // either line
-    200, 60, 60, 200, 80, 180, 190, 200, 60, 60, 60, 60,
+    [200, 60, 60, 200, 80, 180, 190, 200, 60, 60, 60, 60],
 ];
 
 // D, Q, Z and O of a kind.
@@ -60,12 +58,12 @@ pub fn norm_of(service: u8, kind: usize) -> Norm
     ensures { result ≡ norm_of service kind }
 {
     let c = kind - 1;
-    let of_resident = 12 * lesser(service as usize, 2) + c;
-    let of_fixture = 12 * lesser(service as usize, 1) + c;
+    let of_resident = usize::from(service).min(2);
+    let of_fixture = usize::from(service).min(1);
     Norm {
-        day: long16(DAY[of_resident]),
-        hour: long16(HOUR[of_resident]),
-        fixture: long16(FIXTURE[of_fixture]),
-        hourly: long16(HOURLY[of_fixture]),
+        day: u64::from(DAY[of_resident][c]),
+        hour: u64::from(HOUR[of_resident][c]),
+        fixture: u64::from(FIXTURE[of_fixture][c]),
+        hourly: u64::from(HOURLY[of_fixture][c]),
     }
 }

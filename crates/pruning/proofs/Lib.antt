@@ -1,3 +1,4 @@
 pub mod Keeping
 pub mod Trims
+pub mod Rows
 pub mod Pruning

@@ -1,106 +1,129 @@
 -- One turn of the loop that takes sizes of a section out.
 -- Assumes nothing.
-use mathlib.Core.Path.{◌≡◌, sym, ◌∙◌}
-use mathlib.Core.Bool.{Bool, true}
-use mathlib.Core.List.{List}
-use Prim.Native.Nat.{ℕ, ◌+◌, ◌*◌, ◌≤◌, ◌<◌, min}
-use native.Mathlib.Omega.{arith}
-use lib.Dec.{leb}
-use borrow.Author.Tests.{leb-true}
-use Rattle.basis.proofs.Bools.{left, right}
-use borrow.Author.Count.{below_more}
-use lib.ListN.{length, get_or, set, length-set}
-use lib.Seq.{get_or-set_same, get_or-set_other}
+use Rattle.std.proofs.Common.{◌≡◌, sym, subst, ◌∙◌, List, ℕ, ◌+◌, ◌*◌, ◌≤◌, ◌<◌, Option, None, Some, MatchOption, ⊎_elim, arith, length, get_or, set, get_or-set_same, get_or-set_other, below_more}
+use Rattle.std.proofs.Math.ListN.{length-set}
 use Rattle.nets.specs.Net.{Net}
 use Rattle.pruning.specs.Keeps.{Keeps}
 use Rattle.nets.specs.Tables.{top, net_of, Sound}
-use Rattle.pruning.specs.Steps.{as_good, Trimmed}
+use Rattle.nets.specs.NetIn.{net_in}
+use Rattle.nets.specs.declared.Tables.{Tables}
+use Rattle.pruning.specs.Steps.{Alike, AsGood, Needless, Trimmed}
 use Rattle.pruning.proofs.Keeping.{keeps_self, keeps_then, sound_like, keeps_long, keeps_worse}
 
 module _ (sections sizes : ℕ) (parents needs before costs : List ℕ) (a s : ℕ) where
   abbrev with : List ℕ → Net
   with losses = net_of sections sizes parents needs losses costs
 
-  -- after the sizes 1 .. t: `last` is the last that was kept, 0 where there is none, and no size loses less than `least`
-  pub record Trims (losses : List ℕ) (least last t : ℕ) : Type 0 where
+  -- a size below t that was kept
+  pub record IsKept (losses : List ℕ) (t k : ℕ) : Type 0 where
+    pub low : 0 < k
+    pub below : k < t
+    pub real : get_or losses (s * 13 + k) 0 < top
+
+  -- after the sizes below t, where `last` is the last that was kept
+  pub record Trims (losses : List ℕ) (last : Option ℕ) (t : ℕ) : Type 0 where
     pub long : length losses ≡ 832
     pub keeps : Keeps a (with before) (with losses)
-    pub each : (u : ℕ) → u < t + 1 → 0 < u → least ≤ get_or losses (s * 13 + u) 0
-    pub fits : least < top → least + get_or needs s 0 ≤ a
-    pub most : least ≤ top
-    pub behind : last ≤ t
-    pub real : 0 < last → get_or losses (s * 13 + last) 0 < top
+    pub fits : (u : ℕ) → u < t → 0 < u → get_or losses (s * 13 + u) 0 < top → get_or losses (s * 13 + u) 0 + get_or needs s 0 ≤ a
+    pub kept : MatchOption last (Unit {0}) (IsKept losses t)
 
 module _ {sections sizes : ℕ} {parents needs before costs : List ℕ} {a s : ℕ} where
-  pub trims_none : length before ≡ 832 → Trims sections sizes parents needs before costs a s before top 0 0
+  pub trims_none : length before ≡ 832 → Trims sections sizes parents needs before costs a s before None 1
   trims_none l =
       record {
         long = l;
         keeps = keeps_self a (net_of sections sizes parents needs before costs);
-        each = λ u b p. absurd (omega arith);
-        fits = λ m. absurd (omega arith);
-        most = omega arith;
-        behind = omega arith;
-        real = λ m. absurd (omega arith);
+        fits = λ u b p. absurd (omega arith);
+        kept = tt;
       }
 
-  module _ {losses : List ℕ} {least last t : ℕ} (st : Trims sections sizes parents needs before costs a s losses least last t) where
-    pub trims_end : sizes ≤ t → Trimmed (net_of sections sizes parents needs losses costs) a s least
-    trims_end e = record { each = λ u p l. st.each u (omega arith) p; fits = st.fits; most = st.most }
+  module _ {losses : List ℕ} {last : Option ℕ} {t : ℕ} (st : Trims sections sizes parents needs before costs a s losses last t) where
+    pub trims_end : sizes < t → Trimmed (net_of sections sizes parents needs losses costs) a s
+    trims_end e = record { fits = λ u p l. st.fits u (omega arith) p }
 
-    pub trims_kept : {l m : ℕ} → l ≡ get_or losses (s * 13 + (t + 1)) 0 → l + get_or needs s 0 ≤ a → a < top → m ≡ min least l →
-        Trims sections sizes parents needs before costs a s losses m (t + 1) (t + 1)
-    trims_kept {m = m} e b r i =
+    pub trims_kept : 0 < t → get_or losses (s * 13 + t) 0 + get_or needs s 0 ≤ a → a < top →
+        Trims sections sizes parents needs before costs a s losses (Some t) (t + 1)
+    trims_kept p b r =
         record {
           long = st.long;
           keeps = st.keeps;
-          each = below_more (λ u. 0 < u → m ≤ get_or losses (s * 13 + u) 0) (t + 1) (λ u k p. omega (arith, st.each u k p)) (λ p. omega arith);
-          fits = λ k. omega arith;
-          most = omega (arith, st.most);
-          behind = omega arith;
-          real = λ p. omega arith;
+          fits = below_more (λ u. 0 < u → get_or losses (s * 13 + u) 0 < top → get_or losses (s * 13 + u) 0 + get_or needs s 0 ≤ a) t st.fits (λ p m. b);
+          kept = record { low = p; below = omega arith; real = omega arith };
         }
 
-    -- the next size is taken out
-    module _ (sound : Sound (net_of sections sizes parents needs before costs)) (low : 0 < s) (high : s ≤ sections) (more : t < sizes) where
+    -- size t is taken out
+    module _ (sound : Sound (net_of sections sizes parents needs before costs)) (low : 0 < s) (high : s ≤ sections) (first : 0 < t) (more : t ≤ sizes) where
       abbrev without : List ℕ
-      without = set losses (s * 13 + (t + 1)) top
+      without = set losses (s * 13 + t) top
 
       ok : Sound (net_of sections sizes parents needs losses costs)
       ok = sound_like sound
 
-      out : get_or without (s * 13 + (t + 1)) 0 ≡ top
-      out = get_or-set_same losses (s * 13 + (t + 1)) top 0 (omega (arith, st.long, sound.few, sound.sizes))
+      out : get_or without (s * 13 + t) 0 ≡ top
+      out = get_or-set_same losses (s * 13 + t) top 0 (omega (arith, st.long, sound.few, sound.sizes))
 
-      others : (j u : ℕ) → u ≤ sizes → (j ≡ s → u ≡ t + 1 → ⊥) → get_or without (j * 13 + u) 0 ≡ get_or losses (j * 13 + u) 0
+      others : (j u : ℕ) → u ≤ sizes → (j ≡ s → u ≡ t → ⊥) → get_or without (j * 13 + u) 0 ≡ get_or losses (j * 13 + u) 0
       others j u b n =
-          get_or-set_other losses (s * 13 + (t + 1)) (j * 13 + u) top 0 (λ e. n (omega (arith, sound.sizes)) (omega (arith, sound.sizes)))
+          get_or-set_other losses (s * 13 + t) (j * 13 + u) top 0 (λ e. n (omega (arith, sound.sizes)) (omega (arith, sound.sizes)))
+
+      -- the last that was kept still is
+      still : (last : Option ℕ) → MatchOption last (Unit {0}) (IsKept sections sizes parents needs before costs a s losses t) →
+          MatchOption last (Unit {0}) (IsKept sections sizes parents needs before costs a s without (t + 1))
+      still None k = tt
+      still (Some u) k =
+          record { low = k.low; below = omega (arith, k.below); real = omega (arith, k.below, others s u (omega (arith, k.below)) (λ i e. omega (arith, k.below)), k.real) }
 
       -- where that keeps what counts
       drops : Keeps a (net_of sections sizes parents needs losses costs) (net_of sections sizes parents needs without costs) →
-          Trims sections sizes parents needs before costs a s without least last (t + 1)
+          Trims sections sizes parents needs before costs a s without last (t + 1)
       drops k =
           record {
-            long = length-set losses (s * 13 + (t + 1)) top ∙ st.long;
+            long = length-set losses (s * 13 + t) top ∙ st.long;
             keeps = keeps_then a st.keeps k;
-            each = below_more (λ u. 0 < u → least ≤ get_or without (s * 13 + u) 0) (t + 1)
-                (λ u b p. omega (arith, others s u (omega arith) (λ i e. omega arith), st.each u b p))
-                (λ p. omega (arith, out, st.most));
-            fits = st.fits;
-            most = st.most;
-            behind = omega (arith, st.behind);
-            real = λ p. omega (arith, others s last (omega (arith, st.behind)) (λ i e. omega (arith, st.behind)), st.real p);
+            fits = below_more (λ u. 0 < u → get_or without (s * 13 + u) 0 < top → get_or without (s * 13 + u) 0 + get_or needs s 0 ≤ a) t
+                (λ u b p m. let e = others s u (omega arith) (λ i e. omega arith) in omega (arith, e, st.fits u b p (omega arith)))
+                (λ p m. absurd (omega (arith, out)));
+            kept = still last st.kept;
           }
 
-      pub trims_long : a < get_or losses (s * 13 + (t + 1)) 0 + get_or needs s 0 → Trims sections sizes parents needs before costs a s without least last (t + 1)
-      trims_long b = drops (keeps_long ok a s (t + 1) low high out others b)
+      worse : (last : Option ℕ) → MatchOption last (Unit {0}) (IsKept sections sizes parents needs before costs a s losses t) →
+          MatchOption last ⊥ (λ k. AsGood (net_of sections sizes parents needs losses costs) s k t) →
+          Keeps a (net_of sections sizes parents needs losses costs) (net_of sections sizes parents needs without costs)
+      worse None k g = absurd g
+      worse (Some u) k g =
+          keeps_worse ok a s t low high out others u k.low (omega (arith, k.below)) (λ i. omega (arith, k.below)) k.real g.loss g.cost
 
-      pub trims_worse : 0 < last → {r : Bool} → r ≡ as_good losses costs (s * 13 + last) (s * 13 + (t + 1)) → r ≡ true →
-          Trims sections sizes parents needs before costs a s without least last (t + 1)
-      trims_worse p i j =
-          let b = st.behind in
-          let l : Bool = leb (get_or losses (s * 13 + last) 0) (get_or losses (s * 13 + (t + 1)) 0) in
-          let k : Bool = leb (get_or costs (s * 13 + last) 0) (get_or costs (s * 13 + (t + 1)) 0) in
-          drops
-          (keeps_worse ok a s (t + 1) low high out others last p (omega arith) (λ i. omega arith) (st.real p)
-          (leb-true _ _ (left l k (sym i ∙ j))) (leb-true _ _ (right l k (sym i ∙ j))))
+      pub trims_out : Needless (net_of sections sizes parents needs losses costs) a s last t → Trims sections sizes parents needs before costs a s without last (t + 1)
+      trims_out n = drops (⊎_elim (λ b. keeps_long ok a s t low high out others b) (λ g. worse last st.kept g) n)
+
+-- the net of tables that are alike
+pub net_alike : {before now : Tables} → Alike before now → net_in now ≡ net_of before.sections before.sizes before.parents now.needs now.losses before.costs
+net_alike like = let h = like.sections in let i = like.sizes in let j = like.parents in let k = like.costs in cc
+
+-- the loop at size t, from the tables before it
+pub record Trimming (before : Tables) (a s : ℕ) (now : Tables) (last : Option ℕ) (t : ℕ) : Type 0 where
+  pub alike : Alike before now
+  pub needs : now.needs ≡ before.needs
+  pub trims : Trims before.sections before.sizes before.parents before.needs before.losses before.costs a s now.losses last t
+
+module _ {before now : Tables} {a s t : ℕ} {last : Option ℕ} (st : Trimming before a s now last t) where
+  -- the net that they hold
+  pub held : net_in now ≡ net_of before.sections before.sizes before.parents before.needs now.losses before.costs
+  held = rw (← st.needs) (net_alike st.alike)
+
+  pub turn_end : before.sizes < t → Keeps a (net_in before) (net_in now) × Trimmed (net_in now) a s
+  turn_end l = (subst (λ N. Keeps a (net_in before) N) (sym held) st.trims.keeps, subst (λ N. Trimmed N a s) (sym held) (trims_end st.trims l))
+
+  pub turn_out : {after : Tables} {last' : Option ℕ} → Alike before after → after.needs ≡ before.needs → after.losses ≡ set now.losses (s * 13 + t) top → last' ≡ last →
+      Needless (net_in now) a s last t → 0 < s → s ≤ before.sections → 0 < t → t ≤ before.sizes → Trimming before a s after last' (t + 1)
+  turn_out like needs taken same n low high first more =
+      record {
+        alike = like;
+        needs = needs;
+        trims = rw (taken, same) (trims_out st.trims before.sound low high first more (subst (λ N. Needless N a s last t) held n));
+      }
+
+  pub turn_kept : {after : Tables} {last' : Option ℕ} → Alike before after → after.needs ≡ before.needs → after.losses ≡ now.losses → last' ≡ Some t →
+      get_or now.losses (s * 13 + t) 0 + get_or now.needs s 0 ≤ a → a < top → 0 < t → Trimming before a s after last' (t + 1)
+  turn_kept like needs kept same b r p =
+      record { alike = like; needs = needs; trims = rw (kept, same) (trims_kept st.trims p (rw st.needs at b) r) }

@@ -3,68 +3,45 @@
 
 mod sizes;
 
-ghost use Rattle.std.specs.Prelude.{◌≡◌, true, false, ◌≤◌};
-ghost use Rattle.nets.specs.Net.{None};
-ghost use Rattle.nets.specs.Tables.{net_of, Sound};
-ghost use Rattle.pruning.specs.Steps.{Pruned};
+ghost use Rattle.std.specs.Prelude.{◌≡◌, ◌+◌, ◌≤◌, ◌<◌, ◌^◌, MatchOption, slice_index, slice_set};
+ghost use Rattle.nets.specs.Net.{None as NoneSuits};
+ghost use Rattle.nets.specs.NetIn.{net_in};
+ghost use Rattle.pruning.specs.Steps.{Alike, Pruned, Raised};
 
-use nets::TOP;
-use numbers::{greater, wide8, wide32};
-use sizes::trim;
+use nets::Tables;
+use sizes::{least_loss, trim};
 
-// The tables with fewer sizes and greater needs; or, where a section has no size left, that no list suits.
-#[derive(Clone, Copy)]
-pub struct Smaller {
-    pub some: bool,
-    pub needs: [u32; 64],
-    pub losses: [u32; 832],
+// The tables with no need at the pump's end.
+fn without_own(tables: &Tables) -> Tables
+    ensures alike { Alike tables.now result }
+    ensures losses { result.losses ≡ tables.now.losses }
+    ensures needs { result.needs ≡ slice_set tables.now.needs 0 0 }
+{
+    let mut freed = *tables;
+    freed.needs[0] = 0;
+    freed
 }
 
-// From the last section to the first.
-pub fn prune(
-    parents: &[u8; 64],
-    asked: [u32; 64],
-    table: [u32; 832],
-    costs: &[u32; 832],
-    sections: usize,
-    sizes: usize,
-    head: usize,
-) -> Smaller
-    requires { Sound (net_of sections sizes parents.now asked table costs.now) × (head ≤ 7000) }
-    ensures none { result.some ≡ false → None (net_of sections sizes parents.now asked table costs.now) head }
-    ensures some { result.some ≡ true → Pruned sections sizes parents.now asked table costs.now head result.needs
-        result.losses }
+// The parent's end needs at least what section s needs at its end and loses.
+fn raise(tables: &mut Tables, s: usize, least: u32)
+    requires section { (0 < s) × (s ≤ tables.old.sections) }
+    requires fits { least + slice_index tables.old.needs s < 2 ^ 32 }
+    ensures { Raised tables.old tables.new s least }
 {
-    let mut needs = asked;
-    let mut losses = table;
-    needs[0] = 0;
-    let mut s = sections;
-    while 0 < s {
-        let least = trim(
-            parents,
-            &needs,
-            &mut losses,
-            costs,
-            sections,
-            sizes,
-            head,
-            s,
-        );
-        if least == TOP as usize {
-            return Smaller {
-                some: false,
-                needs,
-                losses,
-            };
-        }
-        let p = wide8(parents[s]);
-        let old = wide32(needs[p]);
-        needs[p] = greater(old, wide32(needs[s]) + least) as u32;
-        s -= 1;
+    let p = usize::from(tables.parents[s]);
+    tables.needs[p] = tables.needs[p].max(tables.needs[s] + least);
+}
+
+// The tables with fewer sizes and greater needs, from the last section to the first. Where a section has no size left, no list suits.
+pub fn prune(tables: &Tables, head: usize) -> Option<Tables>
+    requires { head ≤ 7000 }
+    ensures { MatchOption result (NoneSuits (net_in tables.now) head) (Pruned tables.now head) }
+{
+    let mut pruned = without_own(tables);
+    for s in (1..=tables.sections).rev() {
+        trim(&mut pruned, head, s);
+        let least = least_loss(&pruned, s)?;
+        raise(&mut pruned, s, least);
     }
-    Smaller {
-        some: true,
-        needs,
-        losses,
-    }
+    Some(pruned)
 }

@@ -1,57 +1,64 @@
 // The sizes of a section that no cheapest list needs are taken out.
-ghost use Rattle.std.specs.Prelude.{◌≡◌, ◌≤◌, ◌<◌, length};
+ghost use Rattle.std.specs.Prelude.{◌≡◌, true, false, ◌+◌, ◌*◌, ◌≤◌, ◌<◌, ◌↔◌, IsTrue, MatchOption, slice_index, EachIndex, SomeIndex};
+ghost use Rattle.std.specs.Option.{ForSome};
+ghost use Rattle.nets.specs.Tables.{top};
+ghost use Rattle.nets.specs.NetIn.{net_in};
 ghost use Rattle.pruning.specs.Keeps.{Keeps};
-ghost use Rattle.nets.specs.Tables.{net_of, Sound};
-ghost use Rattle.pruning.specs.Steps.{as_good, Trimmed};
+ghost use Rattle.pruning.specs.Steps.{Alike, AsGood, Emptied, LeastLoss, Needless, Trimmed};
 
-use nets::TOP;
-use numbers::{lesser, wide32};
+use nets::{TOP, Tables};
 
-// Whether the entry at `kept` loses and costs no more than the one at `at`.
-fn as_good(losses: &[u32; 832], costs: &[u32; 832], kept: usize, at: usize) -> bool
-    requires { (kept < 832) × (at < 832) }
-    ensures { result ≡ as_good losses.now costs.now kept at }
+// Whether size `kept` of section s loses and costs no more than size t.
+fn as_good(tables: &Tables, s: usize, kept: usize, t: usize) -> bool
+    requires { (s ≤ tables.now.sections) × (kept ≤ tables.now.sizes) × (t ≤ tables.now.sizes) }
+    ensures { IsTrue result ↔ AsGood (net_in tables.now) s kept t }
 {
-    losses[kept] <= losses[at] && costs[kept] <= costs[at]
+    let kept = s * 13 + kept;
+    let at = s * 13 + t;
+    tables.losses[kept] <= tables.losses[at] && tables.costs[kept] <= tables.costs[at]
 }
 
-// Takes out the sizes of section s that lose too much, and those that lose and cost no less than the last one kept. No size that is left loses less than the result.
-pub fn trim(
-    parents: &[u8; 64],
-    needs: &[u32; 64],
-    losses: &mut [u32; 832],
-    costs: &[u32; 832],
-    sections: usize,
-    sizes: usize,
-    head: usize,
-    s: usize,
-) -> usize
-    requires sound { Sound (net_of sections sizes parents.now needs.now losses.old costs.now) }
-    requires losses_len { (length losses.old ≡ 832) × (0 < s) × (s ≤ sections) × (head ≤ 7000) }
-    ensures long { length losses.new ≡ 832 }
-    ensures keeps { Keeps head (net_of sections sizes parents.now needs.now losses.old costs.now)
-        (net_of sections sizes parents.now needs.now losses.new costs.now) }
-    ensures trimmed { Trimmed (net_of sections sizes parents.now needs.now losses.new costs.now)
-        head s result }
+// Whether size t of section s loses too much, or loses and costs no less than the last one kept.
+fn is_needless(tables: &Tables, head: usize, s: usize, last: Option<usize>, t: usize) -> bool
+    requires sections { (s ≤ tables.now.sections) × (t ≤ tables.now.sizes) }
+    requires last { ForSome last (λ k. k < t) }
+    ensures needless { result ≡ true → Needless (net_in tables.now) head s last t }
+    ensures kept { result ≡ false → slice_index tables.now.losses (s * 13 + t) + slice_index tables.now.needs s ≤ head }
 {
-    let at = s * 13;
-    let need = wide32(needs[s]);
-    let mut least = TOP as usize;
-    let mut last: usize = 0;
-    let mut t: usize = 0;
-    while t < sizes {
-        t += 1;
-        let loss = wide32(losses[at + t]);
-        if head < loss + need {
-            losses[at + t] = TOP;
+    let over = head < tables.losses[s * 13 + t] as usize + tables.needs[s] as usize;
+    over || last.is_some_and(|kept| as_good(tables, s, kept, t))
+}
+
+// Takes out the sizes of section s that lose too much, and those that lose and cost no less than the last one kept.
+pub fn trim(tables: &mut Tables, head: usize, s: usize)
+    requires { (0 < s) × (s ≤ tables.old.sections) × (head ≤ 7000) }
+    ensures alike { Alike tables.old tables.new }
+    ensures needs { tables.new.needs ≡ tables.old.needs }
+    ensures keeps { Keeps head (net_in tables.old) (net_in tables.new) }
+    ensures trimmed { Trimmed (net_in tables.new) head s }
+{
+    let mut last: Option<usize> = None;
+    for t in 1..=tables.sizes {
+        if is_needless(tables, head, s, last, t) {
+            tables.losses[s * 13 + t] = TOP;
         } else {
-            if 0 < last && as_good(losses, costs, at + last, at + t) {
-                losses[at + t] = TOP;
-            } else {
-                last = t;
-                least = lesser(least, loss);
-            }
+            last = Some(t);
         }
     }
-    least
+}
+
+// The least of some losses, where that may be taken.
+fn least_of(losses: &[u32]) -> Option<u32>
+    ensures { MatchOption result (EachIndex losses.now (λ k. top ≤ slice_index losses.now k))
+        (λ least. (least < top) × SomeIndex losses.now (λ k. slice_index losses.now k ≡ least) × EachIndex losses.now (λ k. least ≤ slice_index losses.now k)) }
+{
+    losses.iter().copied().min().filter(|l| *l < TOP)
+}
+
+// The least loss of the sizes of section s that may be taken.
+pub fn least_loss(tables: &Tables, s: usize) -> Option<u32>
+    requires { s ≤ tables.now.sections }
+    ensures { MatchOption result (Emptied (net_in tables.now) s) (LeastLoss (net_in tables.now) s) }
+{
+    least_of(tables.losses_of(s))
 }

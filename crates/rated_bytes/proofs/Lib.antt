@@ -1,2 +1,3 @@
 pub mod Written
 pub mod Same
+pub mod Figures

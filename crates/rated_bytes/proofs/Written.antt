@@ -1,13 +1,14 @@
 -- The rating result and its halves written one part after another: the lengths of the parts, and the whole of them.
 -- Assumes nothing.
 use mathlib.Core.Path.{◌≡◌, refl, sym, ap, ◌∙◌}
-use mathlib.Core.List.{List, ◌++◌}
+use mathlib.Core.List.{List, [], ◌∷◌, ◌++◌}
 use Prim.Native.Nat.{ℕ, ◌+◌, ◌-◌, ◌≤◌}
-use lib.ListN.{length, drop, length-drop}
+use native.Mathlib.Omega.{arith}
+use lib.ListN.{length, drop, set, length-drop}
 use Rattle.basis.specs.Part.{part}
 use Rattle.basis.specs.Stored.{stored}
 use Rattle.basis.proofs.Part.{part_end}
-use Rattle.basis.proofs.Stored.{stored_next}
+use Rattle.basis.proofs.Stored.{stored_next, stored_set}
 use Rattle.wire.specs.Wire.{bytes_of}
 use Rattle.fields.specs.declared.Job.{Job}
 use Rattle.rated_bytes.specs.RatedBytes.{heads_bytes}
@@ -40,3 +41,13 @@ pub result_stored : (l : List ℕ) (job : Job) (loss : ℕ → ℕ) (sections : 
     stored (stored l 0 (heads_bytes job loss)) 9 sections ≡ stored l 0 (heads_bytes job loss ++ sections)
 result_stored l job loss sections h =
     let e : 9 ≡ 0 + length (heads_bytes job loss) = rw (heads_length_lem job loss) in stored_next l 0 (heads_bytes job loss) 9 sections e h
+
+-- two numbers of four bytes and a byte, one after another
+pub heads_stored : (l : List ℕ) (required pump dictating : ℕ) → 9 ≤ length l →
+    set (stored (stored l 0 (bytes_of 4 required)) 4 (bytes_of 4 pump)) 8 dictating ≡
+    stored l 0 (bytes_of 4 required ++ (bytes_of 4 pump ++ (dictating ∷ [])))
+unfolding bytes_of
+heads_stored l required pump dictating h =
+    let first : stored (stored l 0 (bytes_of 4 required)) 4 (bytes_of 4 pump) ≡ stored l 0 (bytes_of 4 required ++ bytes_of 4 pump) =
+    stored_next l 0 (bytes_of 4 required) 4 (bytes_of 4 pump) refl (omega arith) in
+    rw first (stored_set l 0 (bytes_of 4 required ++ bytes_of 4 pump) 8 dictating refl (omega arith))

@@ -1,15 +1,16 @@
 -- The text for a job, a catalogue and a size list: that of a refusal, and that of a rating from figures at the sections' places.
 -- Assumes nothing.
-use mathlib.Core.Path.{◌≡◌, ◌∙◌}
-use mathlib.Core.List.{List}
-use Prim.Native.Nat.{ℕ, ◌+◌, ◌≤◌}
+use mathlib.Core.Path.{◌≡◌, sym, ◌∙◌}
+use mathlib.Core.List.{List, ◌++◌, append_assoc}
+use Prim.Native.Nat.{ℕ, zero, suc, ◌+◌, ◌-◌, ◌≤◌, ◌<◌}
 use native.Mathlib.Omega.{arith}
 use lib.ListN.{get_or}
+use Rattle.std.proofs.lemmas.List.{append-nil}
 use borrow.Author.Tests.{eq-eqb, ne_eqb}
 use Rattle.basis.specs.Range.{concat_to}
 use Rattle.basis.specs.Sections.{size_of}
 use Rattle.basis.specs.Slots.{slots}
-use Rattle.basis.proofs.Concat.{concat_ext}
+use Rattle.basis.proofs.Concat.{concat_none, concat_more, concat_ext}
 use Rattle.basis.proofs.Slots.{slots_in}
 use Rattle.fields.specs.declared.Job.{Job}
 use Rattle.fields.specs.Fields.{count_of}
@@ -17,11 +18,31 @@ use Rattle.demand.specs.Demand.{section_flow}
 use Rattle.demand.proofs.Validity.{valid_rooted}
 use Rattle.heads.proofs.Same.{required_same, pump_same, dictating_same}
 use Rattle.sizing.specs.Losses.{reading_of, losses_of}
+use Rattle.rated_bytes.specs.declared.Figure.{Figure}
+use Rattle.rated_bytes.specs.Figures.{flows_of, velocities_of, losses_of as all_losses}
+use Rattle.rated_bytes.proofs.Figures.{blank, flow_at, velocity_at, loss_at}
 use Rattle.rating.specs.Calls.{rate_no}
 use Rattle.rating.specs.Steps.{RatedJob}
 use Rattle.rating.proofs.Rated.{velocity_at_lem, loss_at_lem, rated_count}
 use Rattle.lines.specs.Lines.{section_line, refused_line}
 use Rattle.rated_text.specs.RatedText.{lines_of, rated_text, text_of}
+
+-- a text to which f 1, f 2, .. are added one after another
+module _ (f : ℕ → List ℕ) (old : List ℕ) where
+  pub lines_none : old ≡ old ++ concat_to 0 f
+  lines_none = rw (concat_none f) (sym (append-nil old))
+
+  pub lines_more : {text new : List ℕ} (i : ℕ) → 0 < i → text ≡ old ++ concat_to (i - 1) f → new ≡ text ++ f i → new ≡ old ++ concat_to i f
+  lines_more zero h p q = absurd (omega arith)
+  lines_more (suc n) h p q =
+      let e : suc n - 1 ≡ n = omega arith in
+      rw (concat_more n f) (q ∙ rw (rw e at p) (append_assoc old (concat_to n f) (f (suc n))))
+
+-- a section's line from its figures
+pub line_at : (figures : List Figure) (i : ℕ) {velocity : ℕ} (text new : List ℕ) → velocity ≡ (get_or figures i blank).velocity →
+    new ≡ text ++ section_line i (get_or figures i blank).flow velocity (get_or figures i blank).loss →
+    new ≡ text ++ section_line i (get_or (flows_of figures) i 0) (get_or (velocities_of figures) i 0) (get_or (all_losses figures) i 0)
+line_at figures i text new v p = rw (← flow_at figures i, ← velocity_at figures i, ← loss_at figures i, ← v) p
 
 -- the sections' lines with their flows at the sections' places
 pub flows_at : (job : Job) (v w : ℕ → ℕ) → count_of job ≤ 63 →

@@ -1,3 +1,4 @@
 pub mod Ordering
 pub mod Upto
 pub mod Rated
+pub mod Listed

@@ -6,18 +6,24 @@ use mathlib.Core.Bool.{true, false, not}
 use mathlib.Core.List.{List, [], ◌∷◌}
 use Prim.Native.Nat.{ℕ, ◌≤◌, ◌<◌}
 use Rattle.basis.proofs.Split.{either, eq_or_ne}
+use Rattle.answer.specs.declared.Refusal.{Refusal}
+use Rattle.answer.specs.Answer.{refusal_number}
 use Rattle.answer.specs.Checks.{first_no, too_short}
 use Rattle.answer.proofs.First.{first_none, first_found, first_next, short_found, short_next}
 use Rattle.record.specs.Record.{decode}
 use Rattle.sizing.specs.Losses.{list_ok, over_any}
 use Rattle.rating.specs.Calls.{sized_checks, sized_no}
 use Rattle.acceptance.specs.Acceptance.{input_no}
-use Rattle.acceptance.proofs.Accepting.{input_stops, input_passes}
+use Rattle.acceptance.proofs.Accepting.{input_stops, input_exit, input_passes}
 
 module _ (b cat list : List ℕ) (room long : ℕ) where
   pub sized_inputs : (input_no b cat ≡ 0 → ⊥) → sized_no b cat list room long ≡ input_no b cat
   unfolding sized_no sized_checks
   sized_inputs n = input_stops b cat _ n
+
+  pub sized_exit : (r : Refusal) → refusal_number r ≡ input_no b cat → refusal_number r ≡ sized_no b cat list room long
+  unfolding sized_no sized_checks
+  sized_exit r e = input_exit b cat _ r e
 
   module _ (none : input_no b cat ≡ 0) where
     past : sized_no b cat list room long ≡

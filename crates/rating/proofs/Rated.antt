@@ -35,9 +35,6 @@ module _ (job : Job) (cat list : List ℕ) {f v w : List ℕ} (rated : RatedAt j
   loss_at_lem i a h =
       rw rated.losses (slots_in 64 1 (count_of job + 1) 0 (losses_of job cat list) i 0 (omega arith) (omega arith) (omega arith))
 
-  pub velocity_thin : (i : ℕ) → 0 < i → i ≤ count_of job → get_or v i 0 ≤ 65535
-  velocity_thin i a h = rw (velocity_at_lem i a h) (rated.small i a (omega arith)).velocity
-
   pub loss_small : (i : ℕ) → 0 < i → i ≤ count_of job → get_or w i 0 ≤ 4259775
   loss_small i a h = rw (loss_at_lem i a h) (rated.small i a (omega arith)).loss
 

@@ -1,10 +1,10 @@
 -- What the contracts inside rating say.
 -- Assumes nothing.
-use Rattle.std.specs.Prelude.{◌≡◌, true, ℕ, ◌+◌, ◌≤◌, ◌<◌, List, replicate}
+use Rattle.std.specs.Prelude.{◌≡◌, true, ℕ, ◌+◌, ◌≤◌, ◌<◌, List}
 use Rattle.basis.specs.Slots.{slots}
 use Rattle.basis.specs.Sections.{size_of}
 use Rattle.fields.specs.declared.Job.{Job}
-use Rattle.fields.specs.Fields.{blank_job, count_of}
+use Rattle.fields.specs.Fields.{count_of}
 use Rattle.record.specs.Record.{decode}
 use Rattle.demand.specs.Demand.{section_flow, Accepted}
 use Rattle.catalogue.specs.Steps.{AcceptedCat}
@@ -34,10 +34,3 @@ pub record RatedJob (b cat list : List ℕ) (room long : ℕ) (job : Job) (f v w
   pub accepted : Accepted job
   pub fits : long ≤ room
   pub at : RatedAt job cat list f v w
-
--- after a refusal: all zero
-pub record Blank (job : Job) (f v w : List ℕ) : Type 0 where
-  pub fields : job ≡ blank_job
-  pub flows : f ≡ replicate 64 0
-  pub velocities : v ≡ replicate 64 0
-  pub losses : w ≡ replicate 64 0

@@ -1,90 +1,72 @@
 // The rating call, and the losses call, which gives no heads.
-ghost use Rattle.std.specs.Prelude.{◌≡◌, ◌+◌, ◌*◌, ◌≤◌, length};
+ghost use Rattle.std.specs.Prelude.{◌≡◌, ◌+◌, ◌*◌, ◌≤◌, length, IfOk};
 ghost use Rattle.answer.specs.Answer.{number_of};
 ghost use Rattle.answer.specs.Checks.{buffer_after};
 ghost use Rattle.fields.specs.Fields.{count_of};
 ghost use Rattle.record.specs.Record.{decode};
+ghost use Rattle.rated_bytes.specs.Figures.{flows_of, velocities_of, losses_of};
 ghost use Rattle.rating.specs.Calls.{sized_no, rate_no, rate_bytes, losses_no, losses_bytes};
-ghost use Rattle.rating.specs.Steps.{RatedJob, Blank};
+ghost use Rattle.rating.specs.Steps.{RatedJob};
 
-use crate::refusal::{Outcome, refused};
 use crate::sections::{list_ok, rate_sections};
 use acceptance::accept_both;
-use answer::Answer;
-use rated_bytes::{put_result, put_sections};
+use answer::Refusal;
+use fields::Job;
+use rated_bytes::{Figure, put_result, put_sections};
 
-// What the sections come to with a result buffer of so many bytes, of which the result takes `front` and `each` for each section.
-pub fn outcome(b: &[u8], cat: &[u8], list: &[u8], room: usize, front: usize, each: usize) -> Outcome
-    requires { (front ≤ 9) × (each ≤ 10) }
-    ensures number { number_of result.answer ≡ sized_no b.now cat.now list.now room
-        (front + each * count_of (decode b.now)) }
-    ensures rated { number_of result.answer ≡ 0 → RatedJob b.now cat.now list.now room
-        (front + each * count_of (decode b.now)) result.job result.flows result.velocities result.losses }
-    ensures refused { (number_of result.answer ≡ 0 → ⊥) → Blank result.job result.flows result.velocities result.losses }
-{
-    let accepted = accept_both(b, cat);
-    let answer = accepted.answer;
-    if answer::number(answer) != 0 {
-        return refused(answer);
-    }
-    let job = accepted.job;
-    if !list_ok(job, cat, list) {
-        return refused(Answer::SizeList);
-    }
-    let count = job.header.sections as usize;
-    if room < front + each * count {
-        return refused(Answer::ResultShort);
-    }
-    let rated = rate_sections(job, cat, list);
-    if rated.over {
-        return refused(Answer::SizeTooSmall);
-    }
-    let flows = rated.flows;
-    let velocities = rated.velocities;
-    let losses = rated.losses;
-    Outcome {
-        answer,
-        job,
-        flows,
-        velocities,
-        losses,
-    }
+/// A rated job, with the figures of its sections at their places.
+#[derive(Clone, Copy)]
+pub struct Rating {
+    pub job: Job,
+    pub figures: [Figure; 64],
 }
 
-// Required head, pump head, dictating section, then velocity and loss of each section; or a number and the buffer as it was.
-pub fn rate(b: &[u8], cat: &[u8], list: &[u8], out: &mut [u8]) -> Answer
+/// What the sections come to with a result buffer of so many bytes, of which the result takes `front` and `each` for each section.
+pub fn outcome(
+    b: &[u8],
+    cat: &[u8],
+    list: &[u8],
+    room: usize,
+    front: usize,
+    each: usize,
+) -> Result<Rating, Refusal>
+    requires { (front ≤ 9) × (each ≤ 10) }
+    ensures number { number_of result ≡ sized_no b.now cat.now list.now room
+        (front + each * count_of (decode b.now)) }
+    ensures rated { IfOk result (λ o. RatedJob b.now cat.now list.now room (front + each * count_of (decode b.now)) o.job
+        (flows_of o.figures) (velocities_of o.figures) (losses_of o.figures)) }
+{
+    let job = accept_both(b, cat)?;
+    if !list_ok(job, cat, list) {
+        return Err(Refusal::SizeList);
+    }
+    let count = usize::from(job.header.sections);
+    if room < front + each * count {
+        return Err(Refusal::ResultShort);
+    }
+    let figures = rate_sections(job, cat, list).ok_or(Refusal::SizeTooSmall)?;
+    Ok(Rating { job, figures })
+}
+
+/// Required head, pump head, dictating section, then velocity and loss of each section; or a number and the buffer as it was.
+pub fn rate(b: &[u8], cat: &[u8], list: &[u8], out: &mut [u8]) -> Result<(), Refusal>
     ensures number { number_of result ≡ rate_no b.now cat.now list.now (length out.old) }
     ensures buffer { out.new ≡ buffer_after (number_of result)
         (rate_bytes (decode b.now) cat.now list.now) out.old }
 {
-    let found = outcome(b, cat, list, out.len(), 9, 6);
-    let answer = found.answer;
-    if answer::number(answer) != 0 {
-        return answer;
-    }
-    let job = found.job;
-    let flows = found.flows;
-    let velocities = found.velocities;
-    let losses = found.losses;
-    put_result(out, job, flows, velocities, losses);
-    answer
+    let rated = outcome(b, cat, list, out.len(), 9, 6)?;
+    put_result(out, rated.job, &rated.figures);
+    Ok(())
 }
 
-// Flow, velocity and loss of each section, without the heads; or a number and the buffer as it was.
-pub fn losses(b: &[u8], cat: &[u8], list: &[u8], out: &mut [u8]) -> Answer
+/// Flow, velocity and loss of each section, without the heads; or a number and the buffer as it was.
+pub fn losses(b: &[u8], cat: &[u8], list: &[u8], out: &mut [u8]) -> Result<(), Refusal>
     ensures number { number_of result ≡ losses_no b.now cat.now list.now (length out.old) }
     ensures buffer { out.new ≡ buffer_after (number_of result)
         (losses_bytes (decode b.now) cat.now list.now) out.old }
 {
-    let found = outcome(b, cat, list, out.len(), 0, 10);
-    let answer = found.answer;
-    if answer::number(answer) != 0 {
-        return answer;
-    }
-    let count = found.job.header.sections as usize;
-    let flows = found.flows;
-    let velocities = found.velocities;
-    let losses = found.losses;
-    put_sections(out, 0, 0, count, flows, velocities, losses);
-    answer
+    let rated = outcome(b, cat, list, out.len(), 0, 10)?;
+    let count = usize::from(rated.job.header.sections);
+    put_sections(out, 0, 0, count, &rated.figures);
+    Ok(())
 }

@@ -2,8 +2,6 @@
 #![tactic(auto)]
 
 mod call;
-mod refusal;
 mod sections;
 
-pub use call::{losses, outcome, rate};
-pub use refusal::Outcome;
+pub use call::{Rating, losses, outcome, rate};

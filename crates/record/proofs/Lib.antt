@@ -2,3 +2,4 @@ pub mod Lengths
 pub mod Service
 pub mod RoundTrip
 pub mod Edited
+pub mod Written

@@ -5,7 +5,7 @@ use mathlib.Core.Logic.{⊎_elim}
 use mathlib.Core.Bool.{Bool, true, false, ◌&&◌}
 use mathlib.Core.List.{List}
 use Prim.Native.Nat.{ℕ, zero, suc, ◌+◌, ◌-◌, ◌*◌, ◌≤◌, ◌<◌, min}
-use native.Mathlib.Nat.{mul-le-mul, mul-le-mul_right, suc-mul, eq-zero-or-pos}
+use native.Mathlib.Nat.{mul-le-mul_right, suc-mul}
 use native.Mathlib.Omega.{arith}
 use lib.Dec.{leb, ltb}
 use lib.ListN.{get_or, set, replicate, length-set, length-replicate, get_or-replicate}
@@ -29,9 +29,6 @@ rows_apart p q w l = omega (arith, mul-le-mul_right w l, suc-mul p w)
 
 pub row_fits : (p n w : ℕ) → p ≤ n → p * w + w ≤ (n + 1) * w
 row_fits p n w l = rows_apart p (n + 1) w (omega arith)
-
-pub row_small : (p a : ℕ) → p < 64 → a ≤ 7000 → p * (a + 1) ≤ 441063
-row_small p a b l = mul-le-mul {n₁ = p} {m₁ = a + 1} {n₂ = 63} {m₂ = 7001} (omega arith) (omega arith)
 
 -- after no section
 pub filling_none : {N : Net} {a : ℕ} {high : ℕ → ℕ} {ws : List ℕ} → N.sections ≤ 63 → Filling N a high ws (replicate 64 false) N.sections
@@ -65,6 +62,13 @@ row_kept w q r inside p h b n =
     (lt_or_ge p q)
 
 module _ {N : Net} {a : ℕ} {high : ℕ → ℕ} {room : ℕ} (ok : Fillable N a high room) where
+  -- what a section's end can use is at most the head, and its row within the workspace
+  pub row_ends : (p : ℕ) → p ≤ N.sections → high p + 1 ≤ 7001
+  row_ends p l = omega (arith, ok.usable.most p l, ok.narrow)
+
+  pub row_within : (p : ℕ) → p ≤ N.sections → 4 * (p * (a + 1) + (high p + 1)) ≤ room
+  row_within p l = omega (arith, row_fits p N.sections (a + 1) l, ok.usable.most p l, ok.rows)
+
   -- the option of a size, where the section's row holds what the plan says
   pub option_row : (ws : List ℕ) (s h : ℕ) → s ≤ N.sections → h ≤ a → ((x : ℕ) → N.need s ≤ x → x ≤ high s → cell_at ws (s * (a + 1) + x) ≡ cell (plan_of N high) s s x) → (t : ℕ) →
       option_at (N.loss s) (N.cost s) (N.need s) (row_at ws (s * (a + 1)) 0 (high s)) h t ≡ option (plan_of N high) s (cell (plan_of N high) s s) h t
@@ -131,21 +135,22 @@ module _ {N : Net} {a : ℕ} {high : ℕ → ℕ} {room : ℕ} (ok : Fillable N 
         get_or-set_same begun s true false (omega (arith, fill.long, ok.sound.few)),
       )
 
-  -- section s is added to its parent's row: p and low are as the code has them
-  pub fill_turn : (s : ℕ) {ws ws' : List ℕ} {begun : List Bool} {p low : ℕ} → Filling N a high ws begun s → get_or begun s false ≡ true → 0 < s → s ≤ N.sections →
-      p ≡ N.parent s → low ≡ N.need p →
-      Filled ws ws' (p * (a + 1)) low (high p + 1)
-      (λ h. min mark (standing (get_or begun p false) ws (p * (a + 1)) h + least_to N.sizes (option_at (N.loss s) (N.cost s) (N.need s) (row_at ws (s * (a + 1)) 0 (high s)) h))) →
+  -- section s is added to its parent's row: p is as the code has it
+  pub fill_turn : (s : ℕ) {ws ws' : List ℕ} {begun : List Bool} {p : ℕ} {best : ℕ → ℕ} → Filling N a high ws begun s → get_or begun s false ≡ true → 0 < s → s ≤ N.sections →
+      p ≡ N.parent s →
+      ((h : ℕ) → N.need p ≤ h → h < high p + 1 → best h ≡ least_to N.sizes (option_at (N.loss s) (N.cost s) (N.need s) (row_at ws (s * (a + 1)) 0 (high s)) h)) →
+      Filled ws ws' (p * (a + 1)) (N.need p) (high p + 1) (λ h. min mark (standing (get_or begun p false) ws (p * (a + 1)) h + best h)) →
       Filling N a high ws' (set begun p true) (s - 1)
-  fill_turn zero fill own z b ep el r = absurd (omega arith)
-  fill_turn (suc s) {ws} {ws'} {begun} {p} fill own z b ep el r =
+  fill_turn zero fill own z b ep is r = absurd (omega arith)
+  fill_turn (suc s) {ws} {ws'} {begun} {p} fill own z b ep is r =
       let e : suc s - 1 ≡ s = omega arith in
       let low : p ≤ N.sections = omega (arith, ok.sound.lower (suc s) (omega arith) b) in
       rw e
-      (filling_row s p fill (rw el at r) low
+      (filling_row s p fill r low
       (λ h n m.
       rw (
         stands fill p h low n m,
+        is h n (omega arith),
         least_row ws (suc s) h b (omega (arith, ok.usable.most p low)) (λ x y k. fill.at (suc s) x b own y k),
       )
       (rw ep (sym (cell_parent (plan_of N high) s h b))))
@@ -174,13 +179,6 @@ module _ {N : Net} {a : ℕ} {high : ℕ → ℕ} {room : ℕ} (ok : Fillable N 
     -- a row to which something was added holds at most the mark
     pub fill_most : (p : ℕ) → p ≤ N.sections → get_or begun p false ≡ true → (h : ℕ) → N.need p ≤ h → h ≤ high p → cell_at ws (p * (a + 1) + h) ≤ mark
     fill_most p l own h n b = omega (arith, fill.at p h l own n b, cell_most (plan_of N high) s p h)
-
-  -- after all sections
-  pub fill_done : {ws : List ℕ} {begun : List Bool} → Filling N a high ws begun 0 → get_or begun 0 false ≡ true → Holds N a high ws
-  fill_done fill own =
-      record {
-        at = λ p h l n b. ⊎_elim (λ (e : p ≡ 0). rw e (fill.at 0 h (omega arith) own (rw e at n) (rw e at b))) (λ m. fill.at p h l (fill.done p m l) n b) (eq-zero-or-pos p);
-      }
 
   -- only sections with higher numbers raise a section's row, so that it is complete after these
   row_done : (d s q x : ℕ) → s + d ≡ q → q ≤ N.sections → cell (plan_of N high) s q x ≡ cell (plan_of N high) q q x

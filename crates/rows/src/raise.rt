@@ -1,13 +1,15 @@
 // A section is added to its parent's row.
-ghost use Rattle.std.specs.Prelude.{◌≡◌, true, ℕ, ◌+◌, ◌*◌, ◌≤◌, ◌<◌, min, length, get_or};
-ghost use Rattle.plan.specs.Plan.{mark, least_to};
+ghost use Rattle.std.specs.Prelude.{◌≡◌, true, false, ℕ, ◌+◌, ◌-◌, ◌*◌, ◌≤◌, ◌<◌, min, length, get_or, set};
+ghost use Rattle.nets.specs.Tables.{top};
+ghost use Rattle.plan.specs.Plan.{mark};
 ghost use Rattle.cells.specs.Cells.{cell_at};
 ghost use Rattle.rows.specs.Steps.{row_of, options_of, Offerable, Lowest, Flat};
 ghost use Rattle.cells.specs.Steps.{Filled, standing};
 
 use cells::{add, fresh, get, offer, place};
-use numbers::{greater, lesser, wide32};
+use nets::Tables;
 use plan::MARK;
+use std::ops::Range;
 
 // A section's row: from what its end needs to the most that it can use; where its sizes stand in the tables, and where the row starts in the workspace. The stride lays a row for each size apart (L9); at 0 the sizes share one row.
 #[derive(Clone, Copy)]
@@ -19,13 +21,23 @@ pub struct Row {
     pub stride: usize,
 }
 
+impl Row {
+    // The heads of which it has the costs.
+    pub fn heads(self) -> Range<usize>
+        requires { self.high ≤ top }
+        ensures { (result.start ≡ self.need) × (result.end ≡ self.high + 1) }
+    {
+        self.need..self.high + 1
+    }
+}
+
 // The row of section s: rows of head + 1 cells one after another, the pump's first.
-pub fn row_of(needs: &[u32; 64], highs: &[usize; 64], head: usize, s: usize) -> Row
+pub fn row_of(tables: &Tables, highs: &[usize; 64], head: usize, s: usize) -> Row
     requires { (s < 64) × (head ≤ 7000) }
-    ensures { (result ≡ row_of needs.now highs.now head s) × (get_or needs.now s 0 ≤ 4294967295) }
+    ensures { (result ≡ row_of tables.now.needs highs.now head s) × (get_or tables.now.needs s 0 ≤ 4294967295) }
 {
     Row {
-        need: wide32(needs[s]),
+        need: tables.needs[s] as usize,
         high: highs[s],
         at: s * 13,
         first: s * (head + 1),
@@ -40,118 +52,84 @@ struct Level {
     cost: u32,
 }
 
-// Where a size that costs at least v need not be offered any more.
-fn stop(level: Level, v: u32, end: usize) -> usize
-    requires { level.head ≤ end }
-    ensures { (result ≤ end) × (result < end → (level.head ≤ result) × (level.cost ≤ v)) }
-{
-    if level.cost <= v { level.head } else { end }
+impl Level {
+    // Where a size that costs at least v need not be offered any more.
+    fn stop(self, v: u32, end: usize) -> usize
+        requires { self.head ≤ end }
+        ensures { (result ≤ end) × (result < end → (self.head ≤ result) × (self.cost ≤ v)) }
+    {
+        if self.cost <= v { self.head } else { end }
+    }
 }
 
-// Offers size t + 1 after the sizes 1 to t, unless it loses too much.
+// Offers size t to the parent's heads after the sizes before it, unless it loses too much.
 fn offer_next(
     ws: &[u8],
     best: &mut [u32; 7001],
-    losses: &[u32; 832],
-    costs: &[u32; 832],
-    s: Row,
+    tables: &Tables,
+    row: Row,
+    parent: Row,
     t: usize,
-    start: usize,
-    end: usize,
     level: Level,
 ) -> Level
-    requires offerable { Offerable s (t + 1) start end costs.now ws.now }
-    requires lowest_2 { Lowest best.old start end t (options_of s losses.now costs.now ws.now) × Flat best.old start end level.head level.cost }
-    ensures lowest { Lowest best.new start end (t + 1) (options_of s losses.now costs.now ws.now) }
-    ensures flat { Flat best.new start end result.head result.cost }
+    requires offerable { (0 < t) × Offerable row t parent.need (parent.high + 1) tables.now.costs ws.now }
+    requires lowest_2 { Lowest best.old parent.need (parent.high + 1) (t - 1) (options_of row tables.now.losses tables.now.costs ws.now)
+        × Flat best.old parent.need (parent.high + 1) level.head level.cost }
+    ensures lowest { Lowest best.new parent.need (parent.high + 1) t (options_of row tables.now.losses tables.now.costs ws.now) }
+    ensures flat { Flat best.new parent.need (parent.high + 1) result.head result.cost }
 {
-    let at = s.at + (t + 1);
-    let need = s.need;
-    let high = s.high;
-    let loss = wide32(losses[at]);
-    if end <= loss + need {
+    let end = parent.high + 1;
+    let loss = tables.losses[row.at + t] as usize;
+    if end <= loss + row.need {
         return level;
     }
-    let row = s.first + (t + 1) * s.stride;
-    let cost = costs[at];
-    let least = get(ws, row + high) + cost;
-    let from = greater(start, loss + need);
+    let first = row.first + t * row.stride;
+    let cost = tables.costs[row.at + t];
+    let least = get(ws, first + row.high) + cost;
+    let start = parent.need.max(loss + row.need);
     offer(
         ws,
         best,
-        row,
-        high,
+        first,
+        row.high,
         loss,
         cost,
-        from,
-        stop(level, least, end),
+        start..level.stop(least, end),
     );
     Level {
-        head: lesser(end, loss + high),
+        head: end.min(loss + row.high),
         cost: least,
     }
 }
 
-// The best cost of the sizes 1 to n at each head from start to end.
-fn bests(
-    ws: &[u8],
-    best: &mut [u32; 7001],
-    losses: &[u32; 832],
-    costs: &[u32; 832],
-    s: Row,
-    n: usize,
-    start: usize,
-    end: usize,
-)
-    requires { Offerable s n start end costs.now ws.now × (length best.old ≡ 7001) }
-    ensures { Lowest best.new start end n (options_of s losses.now costs.now ws.now) }
+// The best cost of a section's sizes at each of its parent's heads.
+pub fn bests(ws: &[u8], best: &mut [u32; 7001], tables: &Tables, row: Row, parent: Row)
+    requires { Offerable row tables.now.sizes parent.need (parent.high + 1) tables.now.costs ws.now }
+    ensures { Lowest best.new parent.need (parent.high + 1) tables.now.sizes (options_of row tables.now.losses tables.now.costs ws.now) }
 {
-    fresh(best, start, end);
+    fresh(best, parent.heads());
     let mut level = Level {
-        head: end,
+        head: parent.high + 1,
         cost: MARK,
     };
-    let mut t: usize = 0;
-    while t < n {
-        level = offer_next(ws, best, losses, costs, s, t, start, end, level);
-        t += 1;
+    for t in 1..=tables.sizes {
+        level = offer_next(ws, best, tables, row, parent, t, level);
     }
 }
 
-// Adds the best costs to what stands in the cells from up + start to up + end, or writes them there where nothing does yet.
-fn hand_up(ws: &mut [u8], best: &[u32; 7001], begun: bool, up: usize, start: usize, end: usize)
-    requires end_bound { (end ≤ 7001) × (4 * (up + end) ≤ length ws.old) }
-    requires h_bound { begun ≡ true → (h : ℕ) → start ≤ h → h < end → cell_at ws.old (up + h) ≤ mark }
-    requires by_index { (h : ℕ) → start ≤ h → h < end → get_or best.now h 0 ≤ mark }
-    ensures { Filled ws.old ws.new up start end
-        (λ h. min mark (standing begun ws.old up h + get_or best.now h 0)) }
+// Adds the best costs to what stands in row p, or writes them there where nothing does yet.
+pub fn hand_up(ws: &mut [u8], best: &[u32; 7001], begun: &mut [bool; 64], p: usize, row: Row)
+    requires end_bound { (p < 64) × (row.high + 1 ≤ 7001) × (4 * (row.first + (row.high + 1)) ≤ length ws.old) }
+    requires h_bound { get_or begun.old p false ≡ true → (h : ℕ) → row.need ≤ h → h < row.high + 1 → cell_at ws.old (row.first + h) ≤ mark }
+    requires by_index { (h : ℕ) → row.need ≤ h → h < row.high + 1 → get_or best.now h 0 ≤ mark }
+    ensures filled { Filled ws.old ws.new row.first row.need (row.high + 1)
+        (λ h. min mark (standing (get_or begun.old p false) ws.old row.first h + get_or best.now h 0)) }
+    ensures begun { begun.new ≡ set begun.old p true }
 {
-    if begun {
-        add(ws, best, up, start, end);
+    if begun[p] {
+        add(ws, best, row.first, row.heads());
     } else {
-        place(ws, best, up, start, end);
+        place(ws, best, row.first, row.heads());
     }
-}
-
-// Adds the cheapest of the sizes 1 to n to what stands in each of the cells from up + start to up + end, its parent's row.
-pub fn raise(
-    ws: &mut [u8],
-    best: &mut [u32; 7001],
-    losses: &[u32; 832],
-    costs: &[u32; 832],
-    s: Row,
-    n: usize,
-    begun: bool,
-    up: usize,
-    start: usize,
-    end: usize,
-)
-    requires offerable { Offerable s n start end costs.now ws.old × (length best.old ≡ 7001) × (4 * (up + end) ≤ length ws.old) }
-    requires h_bound { begun ≡ true → (h : ℕ) → start ≤ h → h < end → cell_at ws.old (up + h) ≤ mark }
-    ensures filled { Filled ws.old ws.new up start end
-        (λ h. min mark (standing begun ws.old up h + least_to n (options_of s losses.now costs.now ws.old h))) }
-    ensures long { length best.new ≡ 7001 }
-{
-    bests(ws, best, losses, costs, s, n, start, end);
-    hand_up(ws, best, begun, up, start, end);
+    begun[p] = true;
 }

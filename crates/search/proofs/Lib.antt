@@ -1,3 +1,5 @@
-pub mod Picks
 pub mod Usables
+pub mod Picks
 pub mod Reading
+pub mod Pump
+pub mod Pruned

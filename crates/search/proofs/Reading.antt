@@ -1,22 +1,18 @@
 -- The sizes read back from the rows, one section more at a time, with the heads at the ends.
 -- Assumes nothing.
-use mathlib.Core.Path.{◌≡◌, refl, sym}
-use mathlib.Core.Logic.{⊎_elim}
-use mathlib.Core.List.{List}
-use Prim.Native.Nat.{ℕ, suc, ◌+◌, ◌-◌, ◌*◌, ◌≤◌, ◌<◌, min}
+use Rattle.std.proofs.Common.{◌≡◌, refl, sym, ⊎_elim, List, ℕ, suc, ◌+◌, ◌-◌, ◌*◌, ◌≤◌, ◌<◌, min, Option, None, Some, MatchOption, rules, arith, add-one, length, get_or, set, take, get_or-set_same, get_or-set_other}
+use Rattle.std.specs.Option.{IsSome}
 use native.Mathlib.Nat.{eq-zero-or-pos}
-use native.Mathlib.Omega.{arith}
-use native.Mathlib.Numerals.{add-one}
-use lib.ListN.{length, get_or, set, take, length-set}
-use lib.Seq.{get_or-set_same, get_or-set_other, get_or-take, length-take-le}
+use lib.ListN.{length-set}
+use lib.Seq.{get_or-take, length-take-le}
 use Rattle.basis.specs.Sections.{size_of}
 use Rattle.nets.specs.Net.{Net, Found}
-use Rattle.plan.specs.Plan.{mark, cell, plan_of}
+use Rattle.plan.specs.Plan.{mark, least_to, cell, plan_of}
 use Rattle.plan.proofs.Potential.{Good, good_none, good_ext, good_real, good_more, next_least, Cheap, cheap_ok}
 use Rattle.plan.proofs.Optimum.{ok_fits, cost_of_lem, best_of, pump_most}
 use Rattle.rows.specs.Steps.{option_at, row_at, Fillable, Holds}
 use Rattle.search.specs.Steps.{Picked}
-use Rattle.search.proofs.Picks.{picked_cheap}
+use Rattle.search.proofs.Picks.{picked_cheap, picked_least}
 
 -- what has been read back for the sections 1 .. s
 pub record ReadBack (N : Net) (high : ℕ → ℕ) (list heads : List ℕ) (s : ℕ) : Type 0 where
@@ -65,25 +61,38 @@ module _ {N : Net} {a : ℕ} {high : ℕ → ℕ} {room : ℕ} (ok : Fillable N 
       }
 
   -- the same with the numbers that the code has read
-  pub read_turn : {t p l v : ℕ} → Taken N high (s + 1) (get_or heads p 0) t → s < N.sections → cell (plan_of N high) 0 0 (high 0) < mark →
-      p ≡ N.parent (s + 1) → l ≡ N.loss (s + 1) t → v ≡ min (get_or heads p 0 - l) (high (s + 1)) →
-      ReadBack N high (set list s t) (set heads (s + 1) v) (s + 1)
-  read_turn {t} {p} {l} {v} tk b c ep el ev =
-      let par : p ≡ N.parent (suc s) = rw add-one at ep in
-      let loss : l ≡ N.loss (suc s) t = rw add-one at el in
-      let is : v ≡ min (get_or heads p 0 - l) (high (suc s)) = rw add-one at ev in
-      rw add-one (read_more t v b c (rw (par, add-one) at tk.cheap) (rw (par, loss) at is))
+  pub read_turn : {q t p l v : ℕ} → q ≡ s + 1 → Taken N high q (get_or heads p 0) t → q ≤ N.sections → cell (plan_of N high) 0 0 (high 0) < mark →
+      p ≡ N.parent q → l ≡ N.loss q t → v ≡ min (high q) (get_or heads p 0 - l) → ReadBack N high (set list s t) (set heads q v) q
+  read_turn {q} {t} {p} {l} {v} eq tk b c ep el ev =
+      let e : q ≡ suc s = rw add-one at eq in
+      let is : v ≡ min (get_or heads (N.parent q) 0 - N.loss q t) (high q) = rw (← ep, ← el) (omega arith) in
+      let cheap : Cheap (plan_of N high) q (get_or heads (N.parent q) 0) t = rw (← ep) tk.cheap in
+      rw e (read_more t v (omega arith) c (rw e at cheap) (rw e at is))
 
-  -- the size that is picked from the filled rows for section s + 1, whose parent is p
-  pub read_take : {ws : List ℕ} {t p : ℕ} → Holds N a high ws → s < N.sections → cell (plan_of N high) 0 0 (high 0) < mark → p ≡ N.parent (s + 1) →
-      Picked N.sizes (option_at (N.loss (s + 1)) (N.cost (s + 1)) (N.need (s + 1)) (row_at ws ((s + 1) * (a + 1)) 0 (high (s + 1))) (get_or heads p 0)) t →
-      Taken N high (s + 1) (get_or heads p 0) t
-  read_take {p = p} hold l m ep pick =
-      let q = ok.sound.lower (s + 1) (omega arith) (omega arith) in
-      let real : next_least (plan_of N high) (s + 1) (get_or heads p 0) < mark =
-      rw (ep, add-one) (good_real (plan_of N high) ok.sound.lower (high 0) (size_of list) (λ j. get_or heads j 0) s l m st.good) in
-      let cheap = picked_cheap ok hold (s + 1) (get_or heads p 0) (omega arith) (omega (arith, read_low p (omega arith), ok.usable.most p (omega arith))) real pick in
-      record { cheap = cheap; fits = omega (arith, ok_fits N high (s + 1) _ (get_or heads p 0) (cheap_ok (plan_of N high) cheap real)); few = pick.high }
+  -- the size that is picked from the filled rows for the next section q, whose parent is p
+  module _ {ws : List ℕ} {q p : ℕ} (hold : Holds N a high ws) (eq : q ≡ s + 1) (l : q ≤ N.sections) (m : cell (plan_of N high) 0 0 (high 0) < mark) (ep : p ≡ N.parent q) where
+    abbrev costs : ℕ → ℕ
+    costs = option_at (N.loss q) (N.cost q) (N.need q) (row_at ws (q * (a + 1)) 0 (high q)) (get_or heads p 0)
+
+    real : next_least (plan_of N high) q (get_or heads p 0) < mark
+    real =
+        let e : q ≡ suc s = rw add-one at eq in
+        rw (ep, e) (good_real (plan_of N high) ok.sound.lower (high 0) (size_of list) (λ j. get_or heads j 0) s (omega arith) m st.good)
+
+    low : get_or heads p 0 ≤ a
+    low =
+        let up = ok.sound.lower q (omega arith) l in
+        omega (arith, read_low p (omega arith), ok.usable.most p (omega arith))
+
+    pub read_take : {t : ℕ} → Picked N.sizes costs t → Taken N high q (get_or heads p 0) t
+    read_take pick =
+        let cheap = picked_cheap ok hold q (get_or heads p 0) l low pick in
+        record { cheap = cheap; fits = omega (arith, ok_fits N high q _ (get_or heads p 0) (cheap_ok (plan_of N high) cheap real)); few = pick.high }
+
+    -- one size will do
+    pub read_some : (o : Option ℕ) → MatchOption o (least_to N.sizes costs ≡ mark) (Picked N.sizes costs) → IsSome o
+    read_some None k = absurd (omega (arith, real, picked_least ok hold q (get_or heads p 0) l low, k))
+    read_some (Some t) k = search rules
 
   -- after the last section the sizes are a list of least cost
   pub read_all : s ≤ N.sections → N.sections ≤ s → Found N a (cell (plan_of N high) 0 0 (high 0)) (take N.sections list)

@@ -49,7 +49,7 @@ module _ {N : Net} {a : ℕ} (few : N.sections ≤ 63) (lower : (s : ℕ) → 0 
 
   -- section s has what it needs, and its parent what it and its losses ask
   pub usable_more : {highs : List ℕ} {s : ℕ} → UsableAbove N a highs s → ((s t : ℕ) → N.allowed s t ≡ ltb (N.loss s t) top) → {high p v : ℕ} (far : ℕ) → 0 < s → s ≤ N.sections →
-      high ≡ max (get_or highs s 0) (min a (N.need s)) → p ≡ N.parent s → ((t : ℕ) → t < N.sizes + 1 → 0 < t → N.loss s t < top → N.loss s t ≤ far) →
+      high ≡ max (get_or highs s 0) (min a (N.need s)) → p ≡ N.parent s → ((k : ℕ) → k < N.sizes → N.loss s (k + 1) < top → N.loss s (k + 1) ≤ far) →
       v ≡ max (get_or (set highs s high) p 0) (min a (high + far)) → UsableAbove N a (set (set highs s high) p v) (s - 1)
   usable_more {highs} {s} st marked {high} {p} {v} far low l eh ep all ev =
       let q = lower s low l in
@@ -65,7 +65,8 @@ module _ {N : Net} {a : ℕ} (few : N.sections ≤ 63) (lower : (s : ℕ) → 0 
         below = λ j t m k x y z.
             ⊎_elim
             (λ (e : j ≡ s).
-            let f : N.loss s t ≤ far = all t (omega arith) x (ltb-true (N.loss s t) top (sym (marked s t) ∙ rw e at z)) in
+            let one : (t - 1) + 1 ≡ t = omega arith in
+            let f : N.loss s t ≤ far = rw one at (all (t - 1) (omega arith) (rw one (ltb-true (N.loss s t) top (sym (marked s t) ∙ rw e at z)))) in
             rw e (rw (← ep, same, raised) (omega arith)))
             (λ n. two.below j t (omega arith) k x y z)
             (eq_or_ne j s);

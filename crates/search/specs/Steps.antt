@@ -3,8 +3,9 @@
 use Rattle.std.specs.Prelude.{◌≡◌, ℕ, ◌≤◌, ◌<◌}
 use Rattle.plan.specs.Plan.{mark, least_to}
 
--- a place of 1 .. n that has the least of f, where that is below the mark
+-- a place of 1 .. n that has the least of f, which is below the mark
 pub record Picked (n : ℕ) (f : ℕ → ℕ) (t : ℕ) : Type 0 where
-  pub low : least_to n f < mark → 0 < t
+  pub low : 0 < t
   pub high : t ≤ n
-  pub at : least_to n f < mark → f t ≡ least_to n f
+  pub at : f t ≡ least_to n f
+  pub real : least_to n f < mark

@@ -1,4 +1,2 @@
-pub mod Pieces
-pub mod Digits
-pub mod Signs
+pub mod Decimal
 pub mod ReadBack

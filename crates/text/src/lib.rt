@@ -1,58 +1,94 @@
-// Text in a buffer: a byte, a word, and figures in decimal. Each writer gives back the place after its piece.
+// The text of a sheet, in fixed memory: bytes, words, and figures in decimal, one after another.
 #![tactic(auto)]
 
-ghost use Rattle.std.specs.Prelude.{[], ◌∷◌, ◌+◌, ◌≤◌, length};
+ghost use Rattle.std.specs.Prelude.{◌≡◌, [], ◌∷◌, ◌++◌, ◌+◌, ◌<◌, ◌≤◌, length};
 ghost use Rattle.text.specs.Figures.{decimal, signed_decimal};
-ghost use Rattle.text.specs.Pieces.{Wrote};
 
-// One byte.
-pub fn put_byte(out: &mut [u8], at: usize, b: u8) -> usize
-    requires { at + 1 ≤ length out.old }
-    ensures { Wrote 1 out.old out.new at result (b ∷ []) }
-{
-    out[at] = b;
-    at + 1
+use itoa::{Buffer, Integer};
+use std::marker::Model;
+
+/// At most 4,096 bytes of text. Clauses see the bytes.
+#[derive(Drop)]
+pub struct Text {
+    bytes: [u8; 4096],
+    length: usize,
 }
 
-// The bytes of a word.
-pub fn put_word(out: &mut [u8], at: usize, word: &[u8]) -> usize
-    requires { at + length word.now ≤ length out.old }
-    ensures { Wrote (length word.now) out.old out.new at result word.now }
-{
-    wire::put(out, at, word);
-    at + word.len()
+impl Model for Text {
+    ghost use Rattle.std.specs.Prelude.{List, ℕ, take, ◌≤◌};
+
+    ghost Value = { List ℕ };
+
+    ghost view = { λ t. take t.length t.bytes };
+
+    ghost invariant = { λ t. t.length ≤ 4096 };
 }
 
-// A figure: the digits of its tenth part, where that is not 0, and then its last digit.
-fn put_decimal(out: &mut [u8], at: usize, n: u32) -> usize
-    requires { at + 10 ≤ length out.old }
-    ensures { Wrote 10 out.old out.new at result (decimal n) }
-{
-    if n < 10 {
-        return put_byte(out, at, (48 + n) as u8);
+impl Text {
+    // No text.
+    pub fn new() -> Text
+        ensures { result ≡ [] }
+    {
+        Text {
+            bytes: [0; 4096],
+            length: 0,
+        }
     }
-    let last = put_decimal(out, at, n / 10);
-    put_byte(out, last, (48 + n % 10) as u8)
-}
 
-// A space and a figure.
-pub fn put_figure(out: &mut [u8], at: usize, n: u32) -> usize
-    requires { at + 11 ≤ length out.old }
-    ensures { Wrote 11 out.old out.new at result (32 ∷ decimal n) }
-{
-    let next = put_byte(out, at, b' ');
-    put_decimal(out, next, n)
-}
-
-// The same with a minus sign where it is negative: from its bits, which are then 2 to the 32 more.
-pub fn put_signed(out: &mut [u8], at: usize, z: i32) -> usize
-    requires { at + 12 ≤ length out.old }
-    ensures { Wrote 12 out.old out.new at result (32 ∷ signed_decimal z) }
-{
-    let bits = wire::bits32(z) as u64;
-    if bits < 2147483648 {
-        return put_figure(out, at, bits as u32);
+    // The bytes so far.
+    pub fn as_bytes(&self) -> &[u8]
+        ensures bytes { result.now ≡ self.now }
+        ensures room { length result.now ≤ 4096 }
+    {
+        &self.bytes[..self.length]
     }
-    let next = put_word(out, at, b" -");
-    put_decimal(out, next, (4294967296 - bits) as u32)
+
+    // One byte.
+    pub fn push(&mut self, b: u8)
+        requires { length self.old + 1 ≤ 4096 }
+        ensures { self.new ≡ self.old ++ b ∷ [] }
+    {
+        self.bytes[self.length] = b;
+        self.length += 1;
+    }
+
+    // The bytes of a word.
+    pub fn push_word(&mut self, word: &[u8])
+        requires { length self.old + length word.now ≤ 4096 }
+        ensures { self.new ≡ self.old ++ word.now }
+    {
+        let end = self.length + word.len();
+        self.bytes[self.length..end].copy_from_slice(word);
+        self.length = end;
+    }
+
+    // A space and a figure.
+    #[tactic(auto, using(crate::proofs::Decimal::figures))]
+    pub fn push_figure(&mut self, n: u32)
+        requires { length self.old + 11 ≤ 4096 }
+        ensures bytes { self.new ≡ self.old ++ (32 ∷ decimal n) }
+        ensures room { length self.new ≤ length self.old + 11 }
+    {
+        self.push_spaced(n);
+    }
+
+    // The same with a minus sign where it is negative.
+    #[tactic(auto, using(crate::proofs::Decimal::figures))]
+    pub fn push_signed(&mut self, z: i32)
+        requires { length self.old + 12 ≤ 4096 }
+        ensures bytes { self.new ≡ self.old ++ (32 ∷ signed_decimal z) }
+        ensures room { length self.new ≤ length self.old + 12 }
+    {
+        self.push_spaced(z);
+    }
+
+    // A space and a number as the standard library writes it.
+    fn push_spaced<I: Integer>(&mut self, n: I)
+        requires { length self.old + (1 + I.MAX_STR_LEN) ≤ 4096 }
+        ensures bytes { self.new ≡ self.old ++ (32 ∷ I.text n) }
+        ensures room { length (I.text n) ≤ I.MAX_STR_LEN }
+    {
+        self.push(b' ');
+        self.push_word(Buffer::new().format(n).as_bytes());
+    }
 }

@@ -2,73 +2,48 @@
 -- Assumes nothing.
 use mathlib.Core.Path.{◌≡◌, refl, sym, ◌∙◌}
 use mathlib.Core.Logic.{⊎_elim}
-use mathlib.Core.Bool.{false}
 use mathlib.Core.List.{List}
 use Prim.Native.Nat.{ℕ, ◌+◌, ◌-◌, ◌*◌, ◌^◌, ◌%◌, ◌≤◌, ◌<◌}
 use native.Mathlib.Omega.{arith}
-use native.Mathlib.Nat.{one-mul, mod-eq_of_lt}
-use lib.Dec.{leb}
-use lib.Pow.{pow-lt}
 use lib.ListN.{get_or, set, replicate, length-set, get_or-replicate}
 use lib.Seq.{get_or-set_same, get_or-set_other}
-use borrow.Author.Tests.{le-leb, lt-leb, eq-eqb, ne_eqb}
-use Rattle.basis.specs.Range.{within}
-use Rattle.basis.proofs.Split.{lt_or_ge, eq_or_ne}
+use Rattle.std.proofs.lemmas.Nat.{one_shl}
+use Rattle.std.proofs.lemmas.Bool.Decides.{nat_tests}
+use Rattle.basis.proofs.Split.{eq_or_ne}
 use Rattle.fields.specs.declared.Job.{Job}
 use Rattle.fields.specs.Fields.{section_of}
 use Rattle.tree.specs.Tree.{own_of}
 use Rattle.tree.specs.Rows.{cell, Filled, Singles, Zeros, Owned}
 
-none : (i : ℕ) → within 1 0 i ≡ false
-none i = ⊎_elim (λ p. rw (le-leb 1 i p, lt-leb i 0 p)) (λ z. rw (lt-leb 1 i (omega arith))) (lt_or_ge 0 i)
-
 pub filled_start : (f v : ℕ → ℕ) → ((i : ℕ) → i < 64 → v i ≡ 0) → Filled 0 f v
-filled_start f v zero = record { at = λ i h. zero i h ∙ rw (none i) }
-
-next : (i j : ℕ) → 0 < j → (i ≡ j → ⊥) → leb i (j + 1 - 1) ≡ leb i (j - 1)
-next i j p ne =
-    ⊎_elim
-    (λ lt. rw (le-leb i (j + 1 - 1) (omega arith), le-leb i (j - 1) (omega arith)))
-    (λ ge. rw (lt-leb i (j + 1 - 1) (omega arith), lt-leb i (j - 1) (omega arith)))
-    (lt_or_ge i j)
+filled_start f v zero = record { at = λ i h. grind (arith, nat_tests, zero i h) }
 
 pub filled_more : {f v : ℕ → ℕ} {j : ℕ} → Filled (j - 1) f v → 0 < j → (w : ℕ → ℕ) → w j ≡ f j →
     ((i : ℕ) → (i ≡ j → ⊥) → w i ≡ v i) → Filled (j + 1 - 1) f w
 filled_more {f} {v} {j} done p w here else =
     record {
-      at = λ i h. ⊎_elim
-          (λ e. rw e (rw (le-leb 1 j p, le-leb j (j + 1 - 1) (omega arith)) here))
-          (λ ne. rw (else i ne, next i j p ne) (done.at i h))
-          (eq_or_ne i j);
+      at = λ i h. let old = done.at i h in grind (arith, nat_tests, else i);
     }
 
 -- a place past those that are filled
 rest : {f v : ℕ → ℕ} {j : ℕ} → Filled (j - 1) f v → 0 < j → j < 64 → v j ≡ 0
-rest {f} {v} {j} done p h = done.at j h ∙ rw (le-leb 1 j p, lt-leb j (j - 1) (omega arith))
+rest {f} {v} {j} done p h = let old = done.at j h in grind (arith, nat_tests)
 
 -- a shift of one
 pub shifted : (j : ℕ) → j < 64 → (1 * 2 ^ j) % 2 ^ 64 ≡ 2 ^ j
-shifted j h = rw (one-mul (2 ^ j)) (mod-eq_of_lt (pow-lt h))
+shifted j h = one_shl j 64 h
 
 pub singles_start : Singles 0 (replicate 64 0)
 singles_start =
     record { long = refl; own = filled_start (λ j. 2 ^ j) (λ i. get_or (replicate 64 0) i 0) (λ i h. get_or-replicate 64 i 0 0 h) }
 
-pub singles_more : {l : List ℕ} {j : ℕ} → Singles (j - 1) l → 0 < j → j < 64 → Singles (j + 1 - 1) (set l j (2 ^ j))
-singles_more {l} {j} s p h =
-    record {
-      long = length-set l _ _ ∙ s.long;
-      own = filled_more s.own p (λ i. get_or (set l j (2 ^ j)) i 0) (get_or-set_same l j (2 ^ j) 0 (omega (arith, s.long)))
-          (λ i ne. get_or-set_other l j i (2 ^ j) 0 ne);
-    }
-
 own_at : (job : Job) (kind j : ℕ) → (section_of job j).kind ≡ kind → own_of job kind j ≡ (section_of job j).fixtures
 unfolding own_of
-own_at job kind j e = rw (eq-eqb (section_of job j).kind kind e)
+own_at job kind j e = grind (arith, nat_tests)
 
 own_not : (job : Job) (kind j : ℕ) → ((section_of job j).kind ≡ kind → ⊥) → own_of job kind j ≡ 0
 unfolding own_of
-own_not job kind j ne = rw (ne_eqb (section_of job j).kind kind ne)
+own_not job kind j ne = grind (arith, nat_tests)
 
 pub zeros : Zeros (replicate 768 0)
 zeros = record { long = refl; zero = λ x h. get_or-replicate 768 x 0 0 h }

@@ -3,7 +3,6 @@ pub mod Parents
 pub mod Climb
 pub mod Filled
 pub mod Members
-pub mod Row
 pub mod Taken
 pub mod Served
 pub mod Upward

@@ -1,17 +1,19 @@
 -- A sum over the sections of a set, bit by bit from a section's own up.
 -- Assumes nothing.
-use mathlib.Core.Path.{◌≡◌, refl, sym, ap, ◌∙◌}
+use mathlib.Core.Path.{◌≡◌, sym, ap, ◌∙◌}
 use mathlib.Core.Logic.{⊎_elim}
 use mathlib.Core.Bool.{Bool, true, false, cond}
 use Prim.Native.Nat.{ℕ, zero, suc, ◌+◌, ◌-◌, ◌*◌, ◌^◌, ◌/◌, ◌%◌, ◌≤◌, ◌<◌}
 use native.Mathlib.Omega.{arith}
-use native.Mathlib.Nat.{mul-le-mul_right, add-mul-div_left, div-eq_of_lt, div-lt_iff_lt-mul}
+use native.Mathlib.Nat.{add-mul-div_left, div-eq_of_lt}
 use lib.Dec.{ltb}
 use borrow.Author.Tests.{lt-ltb}
-use lib.Pow.{pow_pos, pow-add, pow_mono, shr-shr}
+use Rattle.std.proofs.lemmas.Nat.{and_mask, and_le_r}
+use Rattle.std.specs.Int.Bits.{bit_and}
+use lib.Pow.{pow_pos, pow-add}
 use Rattle.basis.specs.Range.{sum_to}
-use Rattle.basis.proofs.Split.{eq_or_ne, lt_or_ge, either}
-use Rattle.basis.proofs.Sum.{sum_none, sum_more, sum_some, sum_pow, sum_at, sum_nothing}
+use Rattle.basis.proofs.Split.{eq_or_ne}
+use Rattle.basis.proofs.Sum.{sum_none, sum_more, sum_some, sum_pow, sum_nothing}
 
 -- a power of 2 added or not: what it does to its own bit, and to a lower one
 own_bit : (x n : ℕ) → x < 2 ^ n → (t : Bool) → (x + cond t (2 ^ n) 0) / 2 ^ n % 2 ≡ cond t 1 0
@@ -58,62 +60,28 @@ bit_times true true x = omega arith
 bit_times true false x = omega arith
 bit_times false t x = omega arith
 
--- no terms past m
-sum_short : (n m : ℕ) (f : ℕ → ℕ) → m ≤ n → ((k : ℕ) → m < k → k ≤ n → f k ≡ 0) → sum_to n f ≡ sum_to m f
-sum_short zero m f h none = let e : m ≡ 0 = omega arith in rw e
-sum_short (suc n) m f h none =
-    ⊎_elim
-    (λ e. rw e)
-    (λ ne. sum_more n f ∙ rw (none (suc n) (omega arith) (omega arith), sum_short n m f (omega arith) (λ k p q. none k p (omega arith))) (omega arith))
-    (eq_or_ne m (suc n))
-
--- the sum over the sections of a set that come before j, and the bits of the others
-pub record Passed (n : ℕ) (b : ℕ → Bool) (f : ℕ → ℕ) (j rest sum : ℕ) : Type 0 where
-  pub left : rest ≡ members b n / 2 ^ j
+-- the sum over the sections of a set that come before j
+pub record Passed (b : ℕ → Bool) (f : ℕ → ℕ) (j sum : ℕ) : Type 0 where
   pub taken : sum ≡ sum_to (j - 1) (λ k. cond (b k) (f k) 0)
-  pub within : j ≤ n + 1
   pub small : sum ≤ j * 65535
 
-module _ {n : ℕ} {b : ℕ → Bool} {f : ℕ → ℕ} where
-  pub passed_start : (i : ℕ) → i ≤ n + 1 → ((k : ℕ) → 0 < k → k < i → b k ≡ false) → Passed n b f i (members b n / 2 ^ i) 0
-  passed_start i h none =
-      record {
-        left = refl;
-        taken = sym (sum_nothing (i - 1) _ (λ k p q. rw (none k p (omega arith))));
-        within = h;
-        small = omega arith;
-      }
+module _ {b : ℕ → Bool} {f : ℕ → ℕ} where
+  pub passed_start : (i : ℕ) → ((k : ℕ) → 0 < k → k < i → b k ≡ false) → Passed b f i 0
+  passed_start i none =
+      record { taken = sym (sum_nothing (i - 1) _ (λ k p q. rw (none k p (omega arith)))); small = omega arith }
 
-  module _ {j rest sum : ℕ} (w : Passed n b f j rest sum) where
-    pub passed_in : 0 < rest → j ≤ n
-    passed_in h =
-        ⊎_elim
-        (λ lt. let z : members b n / 2 ^ j ≡ 0 = div-eq_of_lt (omega (arith, members_top b n, pow_mono {i = suc n} {j = j} lt)) in
-        absurd (omega (arith, w.left)))
-        (λ ge. ge)
-        (lt_or_ge n j)
+  -- the section at place j, if the set has it
+  module _ {n j sum : ℕ} (w : Passed b f j sum) (h : j ≤ n) where
+    bit : bit_and (members b n / 2 ^ j) 1 ≡ cond (ltb 0 j) (cond (b j) 1 0) 0
+    bit = and_mask (members b n / 2 ^ j) 1 ∙ bit_at b n j h
 
-    pub passed_more : 0 < rest → f j < 65536 → Passed n b f (j + 1) (rest / 2) (sum + rest % 2 * f j)
-    passed_more h s =
-        let bit : rest % 2 ≡ cond (ltb 0 j) (cond (b j) 1 0) 0 = rw w.left (bit_at b n j (passed_in h)) in
-        let one : rest % 2 ≤ 1 = omega arith in
-        record {
-          left = rw w.left (shr-shr (members b n) j 1);
-          taken = rw (sum_next (λ k. cond (b k) (f k) 0) j, ← w.taken, bit, bit_times (ltb 0 j) (b j) (f j));
-          within = omega (arith, passed_in h);
-          small = omega (arith, w.small, s, mul-le-mul_right (f j) one);
-        }
+    next : sum_to (j + 1 - 1) (λ k. cond (b k) (f k) 0) ≡ sum + bit_and (members b n / 2 ^ j) 1 * f j
+    next = rw (sum_next (λ k. cond (b k) (f k) 0) j, ← w.taken, bit, bit_times (ltb 0 j) (b j) (f j))
 
-    none : (k : ℕ) → rest ≡ 0 → 0 < k → j ≤ k → k ≤ n → cond (b k) (f k) 0 ≡ 0
-    none k z a p q =
-        ⊎_elim
-        (λ t.
-        let at : cond (b k) (2 ^ k) 0 ≤ members b n = sum_at n k (λ k. cond (b k) (2 ^ k) 0) a q in
-        let has : 2 ^ k ≤ members b n = rw t at at in
-        let low : members b n < 1 * 2 ^ j = (div-lt_iff_lt-mul (pow_pos j)).0 (rw (← w.left) (omega arith)) in
-        absurd (omega (arith, pow_mono {i = j} {j = k} p)))
-        (λ e. rw e)
-        (either (b k))
+    pub passed_in : bit_and (members b n / 2 ^ j) 1 ≡ 1 → f j < 65536 → Passed b f (j + 1) (sum + f j)
+    passed_in e s = record { taken = rw (next, e) (omega arith); small = omega (arith, w.small, s) }
 
-    pub passed_end : rest ≡ 0 → sum ≡ sum_to n (λ k. cond (b k) (f k) 0)
-    passed_end z = w.taken ∙ sym (sum_short n (j - 1) _ (omega (arith, w.within)) (λ k p q. none k z (omega arith) (omega arith) q))
+    pub passed_over : (bit_and (members b n / 2 ^ j) 1 ≡ 1 → ⊥) → Passed b f (j + 1) sum
+    passed_over e =
+        let z : bit_and (members b n / 2 ^ j) 1 ≡ 0 = omega (arith, and_le_r (members b n / 2 ^ j) 1) in
+        record { taken = rw (next, z) (omega arith); small = omega (arith, w.small) }

@@ -9,8 +9,9 @@ use native.Mathlib.Nat.{mul-le-mul_right}
 use lib.Dec.{eqb}
 use lib.Pow.{pow_pos}
 use borrow.Author.Tests.{eq-eqb, ne_eqb}
+use Rattle.std.proofs.lemmas.Bool.Decides.{nat_tests}
 use Rattle.basis.specs.Range.{sum_to}
-use Rattle.basis.proofs.Split.{lt_or_ge, eq_or_ne, either}
+use Rattle.basis.proofs.Split.{lt_or_ge, eq_or_ne}
 use Rattle.basis.proofs.Sum.{
   sum_none,
   sum_more,
@@ -94,11 +95,7 @@ module _ {job : Job} (r : Rooted job) where
   module _ (small : (j : ℕ) → 0 < j → j ≤ count_of job → (section_of job j).fixtures < 65536) where
     own_top : (kind j : ℕ) → 0 < j → j ≤ count_of job → own_of job kind j ≤ 65535
     unfolding own_of
-    own_top kind j a b =
-        ⊎_elim
-        (λ e. rw e (omega (arith, small j a b)))
-        (λ e. rw e (omega arith))
-        (either (eqb (section_of job j).kind kind))
+    own_top kind j a b = let s = small j a b in grind (arith, nat_tests)
 
     house_top : (kind : ℕ) → house_of job kind ≤ count_of job * 65535
     unfolding house_of
@@ -151,11 +148,7 @@ exchange (suc m) n f =
     (sum_ext n _ _ (λ j p q. sym (sum_more m (λ k. f k j))))
 
 either_way : (a b : ℕ) → eqb a b ≡ eqb b a
-either_way a b =
-    ⊎_elim
-    (λ e. rw (eq-eqb a b e, eq-eqb b a (sym e)))
-    (λ ne. rw (ne_eqb a b ne, ne_eqb b a (λ e. ne (sym e))))
-    (eq_or_ne a b)
+either_way a b = grind (arith, nat_tests)
 
 -- a section's fixtures are all of its kind
 own_all : (job : Job) (j : ℕ) → (section_of job j).kind ≤ 12 → ((section_of job j).kind ≡ 0 → (section_of job j).fixtures ≡ 0) →

@@ -7,8 +7,9 @@ use Prim.Native.Nat.{ℕ, max, ◌+◌, ◌-◌, ◌≤◌, ◌<◌}
 use native.Mathlib.Omega.{arith}
 use lib.Dec.{eqb}
 use borrow.Author.Tests.{eq-eqb, ne_eqb, le-leb, lt-leb}
+use Rattle.std.proofs.lemmas.Bool.Decides.{nat_tests}
 use Rattle.basis.specs.Range.{within, sum_to}
-use Rattle.basis.proofs.Split.{lt_or_ge, eq_or_ne, either}
+use Rattle.basis.proofs.Split.{lt_or_ge}
 use Rattle.basis.proofs.Sum.{sum_ext, sum_add, sum_if, sum_one, sum_out, sum_some}
 use Rattle.tree.specs.Rows.{Filled}
 use Rattle.tree.proofs.Climb.{climb, climb_stop, fall}
@@ -24,12 +25,7 @@ pub record Taken (n : ℕ) (up f : ℕ → ℕ) (t : ℕ) (v : ℕ → ℕ) : Ty
 -- a term of the sum once section i is taken, by the x that it had come to
 term : (x i p s v : ℕ) → s < i →
     cond (eqb (cond (eqb x i) p x) s) v 0 ≡ cond (eqb x s) v 0 + cond (eqb s p) (cond (eqb x i) v 0) 0
-term x i p s v h =
-    ⊎_elim
-    (λ e. rw (eq-eqb x i e, ne_eqb x s (λ q. omega arith))
-    (⊎_elim (λ q. rw (eq-eqb s p q, eq-eqb p s (sym q)) (omega arith)) (λ q. rw (ne_eqb s p q, ne_eqb p s (λ r. q (sym r))) (omega arith)) (eq_or_ne s p)))
-    (λ ne. rw (ne_eqb x i ne) (⊎_elim (λ q. rw q (omega arith)) (λ q. rw q (omega arith)) (either (eqb s p))))
-    (eq_or_ne x i)
+term x i p s v h = grind (arith, nat_tests)
 
 max_left : (a b : ℕ) → b ≤ a → max a b ≡ a
 max_left a b h = omega arith

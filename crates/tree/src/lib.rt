@@ -7,33 +7,30 @@ ghost use Rattle.fields.specs.Fields.{count_of};
 ghost use Rattle.tree.specs.Tree.{parent_of, set_of, fixtures_below, Rooted};
 ghost use Rattle.tree.specs.Rows.{Kinds, RowsFit, RowAdded, Zeros, Owned, Counted, Singles};
 
-use fields::Job;
+use fields::{Job, Section};
 
 // Each section's parent, at the section's place.
+#[tactic(auto, using(crate::proofs::Parents::parents_start, crate::proofs::Parents::parents_more))]
 pub fn parents_of(job: Job) -> [u8; 64]
     requires { count_of job ≤ 63 }
     ensures { result ≡ slots 64 1 (count_of job + 1) 0 (parent_of job) }
 {
-    let count = job.header.sections as usize;
     let mut parents = [0u8; 64];
-    let mut i: usize = 1;
-    while i <= count {
+    for i in 1..=usize::from(job.header.sections) {
         parents[i] = job.sections[i].parent;
-        i += 1;
     }
     parents
 }
 
 // Section j's own bit at place j.
+#[tactic(auto, using(crate::proofs::Filled::singles_start))]
 fn singles(count: usize) -> [u64; 64]
     requires { count ≤ 63 }
     ensures { Singles count result }
 {
     let mut sets = [0u64; 64];
-    let mut j: usize = 1;
-    while j <= count {
-        sets[j] = 1u64 << j;
-        j += 1;
+    for j in 1..=count {
+        sets[j] = 1 << j;
     }
     sets
 }
@@ -44,13 +41,10 @@ pub fn sets(job: Job) -> [u64; 64]
     requires { Rooted job }
     ensures { (i : ℕ) → i < 64 → get_or result i 0 ≡ set_of job i }
 {
-    let count = job.header.sections as usize;
+    let count = usize::from(job.header.sections);
     let mut sets = singles(count);
-    let mut t = count;
-    while 0 < t {
-        let p = job.sections[t].parent as usize;
-        sets[p] = sets[p] + sets[t];
-        t -= 1;
+    for t in (1..=count).rev() {
+        sets[usize::from(job.sections[t].parent)] += sets[t];
     }
     sets
 }
@@ -61,14 +55,11 @@ pub fn fixtures_below(job: Job, set: u64, i: usize) -> u64
     requires { Rooted job × (i ≤ count_of job) × (set ≡ set_of job i) }
     ensures { result ≡ fixtures_below job i }
 {
-    let mut sum: u64 = 0;
-    let mut rest = set >> i;
-    let mut j = i;
-    while 0 < rest {
-        let s = job.sections[j];
-        sum = sum + rest % 2 * (s.fixtures as u64);
-        rest = rest / 2;
-        j += 1;
+    let mut sum = 0;
+    for j in i..=usize::from(job.header.sections) {
+        if (set >> j) & 1 == 1 {
+            sum += u64::from(job.sections[j].fixtures);
+        }
     }
     sum
 }
@@ -78,10 +69,8 @@ fn add_row(n: &mut [u32; 768], from: usize, to: usize)
     requires { RowsFit n.old «from» to }
     ensures { RowAdded n.old n.new «from» to }
 {
-    let mut k: usize = 0;
-    while k < 12 {
-        n[to * 12 + k] = n[to * 12 + k] + n[from * 12 + k];
-        k += 1;
+    for k in 0..12 {
+        n[to * 12 + k] += n[from * 12 + k];
     }
 }
 
@@ -90,15 +79,11 @@ fn fill(job: Job, n: &mut [u32; 768])
     requires { (count_of job ≤ 63) × Kinds job × Zeros n.old }
     ensures { Owned job (count_of job) n.new }
 {
-    let count = job.header.sections as usize;
-    let mut j: usize = 1;
-    while j <= count {
-        let s = job.sections[j];
-        let kind = s.kind as usize;
+    for j in 1..=usize::from(job.header.sections) {
+        let Section { kind, fixtures, .. } = job.sections[j];
         if 0 < kind {
-            n[j * 12 + (kind - 1)] = s.fixtures as u32;
+            n[j * 12 + (usize::from(kind) - 1)] = u32::from(fixtures);
         }
-        j += 1;
     }
 }
 
@@ -107,15 +92,14 @@ fn gather(job: Job, n: &mut [u32; 768])
     requires { Rooted job × Owned job (count_of job) n.old }
     ensures { Counted job n.new }
 {
-    let mut t = job.header.sections as usize;
-    while 0 < t {
-        let p = job.sections[t].parent as usize;
-        add_row(n, t, p);
-        t -= 1;
+    for t in (1..=usize::from(job.header.sections)).rev() {
+        add_row(n, t, usize::from(job.sections[t].parent));
     }
 }
 
 // The fixtures of each kind at a section's end or at any end below it: kind c + 1 of section i at place i * 12 + c. Row 0 is the house.
+// One list and no array of rows, which would be no plainer: each contract, here and above, would have to say how long every row is.
+#[tactic(auto, using(crate::proofs::Filled::zeros))]
 pub fn counts(job: Job) -> [u32; 768]
     requires { Rooted job × Kinds job }
     ensures { Counted job result }

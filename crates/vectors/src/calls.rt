@@ -1,137 +1,91 @@
 // The calls. A line's bytes are the room of the result buffer (2), the byte that fills what is lent (1), a length (4), the lengths of
 // the next two parts (2 each), and then the parts: in most calls a job, then a catalogue, a list of meters or losses, then a size list.
 // Bytes that are not such give an empty line.
+use crate::jobs;
 use crate::print::Output;
-use crate::{jobs, print};
 use answer::Answer;
+use std::io;
+use std::io::Write;
 
-pub fn answer(to: &mut Output, letter: u8, data: &[u8]) {
-    if data.len() < 11 {
-        return;
-    }
-    let room = wire::be16(data, 0) as usize;
-    let length = wire::be32(data, 3) as usize;
-    let first = wire::be16(data, 7) as usize;
-    let second = wire::be16(data, 9) as usize;
-    cut(
-        to,
-        letter,
-        data[2],
-        length,
-        room,
-        &data[11..],
-        first,
-        second,
-    );
-}
-
-fn cut(
-    to: &mut Output,
-    letter: u8,
+// What a line gives to its call.
+#[derive(Clone, Copy)]
+struct Input<'a> {
     fill: u8,
     length: usize,
-    room: usize,
-    parts: &[u8],
-    first: usize,
-    second: usize,
-) {
-    if parts.len() < first {
-        return;
+    job: &'a [u8],
+    second: &'a [u8],
+    list: &'a [u8],
+}
+
+pub fn answer(to: &mut Output, letter: u8, data: &[u8]) -> io::Result<()> {
+    if data.len() < 11 {
+        return Ok(());
     }
-    let rest = &parts[first..];
-    if rest.len() < second || 8192 < room {
-        return;
+    let room = usize::from(wire::be16(data, 0));
+    let fill = data[2];
+    let length = wire::be32(data, 3) as usize;
+    let first = usize::from(wire::be16(data, 7));
+    let next = usize::from(wire::be16(data, 9));
+    let Some((job, rest)) = data[11..].split_at_checked(first) else {
+        return Ok(());
+    };
+    let Some((second, list)) = rest.split_at_checked(next) else {
+        return Ok(());
+    };
+    if 8192 < room {
+        return Ok(());
     }
-    let mut buffer = [fill; 8192];
-    call(
-        to,
-        letter,
+    let input = Input {
         fill,
         length,
-        &parts[0..first],
-        &rest[0..second],
-        &rest[second..],
-        &mut buffer[0..room],
-    );
+        job,
+        second,
+        list,
+    };
+    let mut buffer = [fill; 8192];
+    call(to, letter, &input, &mut buffer[..room])
 }
 
-fn call(
-    to: &mut Output,
-    letter: u8,
-    fill: u8,
-    length: usize,
-    job: &[u8],
-    second: &[u8],
-    list: &[u8],
-    out: &mut [u8],
-) {
+fn call(to: &mut Output, letter: u8, input: &Input<'_>, out: &mut [u8]) -> io::Result<()> {
+    let record = input.job;
+    let second = input.second;
+    let list = input.list;
     match letter {
-        b'r' => jobs::read(to, job, out),
-        b'w' => jobs::write(to, job, out),
-        b'c' => copy(to, job, out),
-        b'a' => alpha(to, job),
-        b'f' => flow(to, job, out),
-        b'd' => duty(to, job, out),
-        b't' => heat(to, job, second, out),
-        b'm' => meter(to, job, second, out),
-        b'p' => rate(to, job, second, list, out),
-        b'e' => losses(to, job, second, list, out),
-        b'h' => heads(to, job, second, out),
-        b's' => sheet(to, job, length, out),
-        b'l' | b'k' => choose(to, letter, fill, length, job, second, out),
-        _ => {}
+        b'r' => jobs::read(to, record, out),
+        b'w' => jobs::write(to, record, out),
+        b'c' => to.given(job::copy(record, out), out),
+        b'a' => alpha(to, record),
+        b'f' => to.given(flow::flow(record, out), out),
+        b'd' => to.given(flow::duty(record, out), out),
+        b't' => heat(to, record, second, out),
+        b'm' => to.given(metering::meter(record, second, out), out),
+        b'p' => to.given(rating::rate(record, second, list, out), out),
+        b'e' => to.given(rating::losses(record, second, list, out), out),
+        b'h' => to.given(lent_losses::heads(record, second, out), out),
+        b's' => sheet(to, record, input.length, out),
+        b'l' | b'k' => choose(to, letter, input, out),
+        _ => Ok(()),
     }
-}
-
-fn copy(to: &mut Output, record: &[u8], out: &mut [u8]) {
-    let answer = job::copy(record, out);
-    print::given(to, answer, out);
 }
 
 // The coefficient of an m of four bytes.
-fn alpha(to: &mut Output, m: &[u8]) {
-    if m.len() == 4 {
-        let table = coefficient::table2();
-        print::four(to, coefficient::alpha(&table, wire::be32(m, 0)));
+fn alpha(to: &mut Output, m: &[u8]) -> io::Result<()> {
+    if m.len() != 4 {
+        return Ok(());
     }
-}
-
-fn flow(to: &mut Output, record: &[u8], out: &mut [u8]) {
-    let answer = flow::flow(record, out);
-    print::given(to, answer, out);
-}
-
-fn duty(to: &mut Output, record: &[u8], out: &mut [u8]) {
-    let answer = flow::duty(record, out);
-    print::given(to, answer, out);
+    let table = coefficient::table2();
+    write!(to, "{:08x}", coefficient::alpha(&table, wire::be32(m, 0)))
 }
 
 // The temperature and the loss are four bytes each.
-fn heat(to: &mut Output, record: &[u8], asked: &[u8], out: &mut [u8]) {
-    if asked.len() == 8 {
-        let answer = heating::heat(record, wire::be32(asked, 0), wire::be32(asked, 4), out);
-        print::given(to, answer, out);
+fn heat(to: &mut Output, record: &[u8], asked: &[u8], out: &mut [u8]) -> io::Result<()> {
+    if asked.len() != 8 {
+        return Ok(());
     }
-}
-
-fn meter(to: &mut Output, record: &[u8], meters: &[u8], out: &mut [u8]) {
-    let answer = metering::meter(record, meters, out);
-    print::given(to, answer, out);
-}
-
-fn rate(to: &mut Output, record: &[u8], catalogue: &[u8], list: &[u8], out: &mut [u8]) {
-    let answer = rating::rate(record, catalogue, list, out);
-    print::given(to, answer, out);
-}
-
-fn losses(to: &mut Output, record: &[u8], catalogue: &[u8], list: &[u8], out: &mut [u8]) {
-    let answer = rating::losses(record, catalogue, list, out);
-    print::given(to, answer, out);
-}
-
-fn heads(to: &mut Output, record: &[u8], losses: &[u8], out: &mut [u8]) {
-    let answer = lent_losses::heads(record, losses, out);
-    print::given(to, answer, out);
+    to.given(
+        heating::heat(record, wire::be32(asked, 0), wire::be32(asked, 4), out),
+        out,
+    )
 }
 
 // The value of a call is not written out in the proofs of its callers, so the longest arrays have functions of their own.
@@ -140,18 +94,19 @@ fn blank() -> [u8; 131072] {
 }
 
 // The text of the sheet of an input that ends in so many zero bytes.
-fn sheet(to: &mut Output, front: &[u8], zeros: usize, out: &mut [u8]) {
-    let mut input = blank();
-    if input.len() < front.len() {
-        return;
+fn sheet(to: &mut Output, front: &[u8], zeros: usize, out: &mut [u8]) -> io::Result<()> {
+    let mut bytes = blank();
+    let Some((start, rest)) = bytes.split_at_mut_checked(front.len()) else {
+        return Ok(());
+    };
+    if rest.len() < zeros {
+        return Ok(());
     }
-    wire::put(&mut input, 0, front);
-    if input.len() - front.len() < zeros {
-        return;
-    }
-    let n = sheet_text::sheet(&input[0..front.len() + zeros], out);
-    if n <= out.len() {
-        print::hex(to, &out[0..n]);
+    start.copy_from_slice(front);
+    let n = sheet_text::sheet(&bytes[..front.len() + zeros], out);
+    match out.get(..n) {
+        Some(text) => to.hex(text),
+        None => Ok(()),
     }
 }
 
@@ -160,57 +115,26 @@ fn workspace(fill: u8) -> [u8; 1792256] {
     [fill; 1792256]
 }
 
-fn choose(
-    to: &mut Output,
-    letter: u8,
-    fill: u8,
-    length: usize,
-    job: &[u8],
-    catalogue: &[u8],
-    out: &mut [u8],
-) {
-    if 1792256 < length {
-        return;
-    }
-    let mut work = workspace(fill);
-    choose_in(to, letter, fill, job, catalogue, &mut work[0..length], out);
-}
-
 // Of a line `k`, where several lists are equally cheap, only the cost is shown. After a result and after 16 the workspace is free.
-fn choose_in(
-    to: &mut Output,
-    letter: u8,
-    fill: u8,
-    job: &[u8],
-    catalogue: &[u8],
-    work: &mut [u8],
-    out: &mut [u8],
-) {
-    let answer = choosing::choose(job, catalogue, work, out);
+fn choose(to: &mut Output, letter: u8, input: &Input<'_>, out: &mut [u8]) -> io::Result<()> {
+    let mut whole = workspace(input.fill);
+    let Some(work) = whole.get_mut(..input.length) else {
+        return Ok(());
+    };
+    let answer = choosing::choose(input.job, input.second, work, out);
     if letter == b'k' && 4 <= out.len() {
-        print::given(to, answer, &out[0..4]);
+        to.given(answer, &out[..4])?;
     } else {
-        print::given(to, answer, out);
+        to.given(answer, out)?;
     }
     match answer {
-        Answer::Done | Answer::NoSuitableList => {}
-        _ => kept(to, work, fill),
+        Answer::Done | Answer::NoSuitableList => Ok(()),
+        _ => kept(to, work, input.fill),
     }
 }
 
 // 01 where the workspace is as it was, else 00.
-fn kept(to: &mut Output, work: &[u8], fill: u8) {
-    print::byte(to, b' ');
-    print::one(to, holds_only(work, fill) as u8);
-}
-
-fn holds_only(bytes: &[u8], fill: u8) -> bool {
-    let mut i: usize = 0;
-    while i < bytes.len() {
-        if bytes[i] != fill {
-            return false;
-        }
-        i += 1;
-    }
-    true
+fn kept(to: &mut Output, work: &[u8], fill: u8) -> io::Result<()> {
+    let kept = work.iter().all(|b| *b == fill);
+    write!(to, " {:02x}", u8::from(kept))
 }

@@ -9,19 +9,20 @@ mod print;
 mod vector_lines;
 
 use print::Output;
+use std::io;
+use std::io::{Lock, Read, Write};
+use vector_lines::Line;
 
-// Nothing says that the input ends, so the chunks are counted: at most 256 MiB are read.
+// A read that fails ends the input, and output that cannot be written ends the program, as ever.
 fn main(rt: HostRuntime) {
-    let mut input = rt.stdin();
     let mut to = Output::new(rt.stdout());
-    let mut line = [0u8; 8192];
-    let mut used: usize = 0;
-    let mut chunks: usize = 4096;
-    while 0 < chunks {
-        chunks -= 1;
-        if !vector_lines::take_chunk(&mut input, &mut to, &mut line, &mut used) {
-            chunks = 0;
-        }
+    let _ = answer_all(&mut rt.stdin().lock(), &mut to);
+}
+
+fn answer_all(input: &mut impl Read, to: &mut Output) -> io::Result<()> {
+    let mut line = Line::new();
+    for byte in input.bytes().map_while(Result::ok) {
+        line.take(byte, to)?;
     }
-    print::flush(&mut to);
+    to.flush()
 }

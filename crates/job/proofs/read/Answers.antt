@@ -1,6 +1,6 @@
 -- `job::read` meets its contract.
 -- Assumes nothing.
-use mathlib.Core.Path.{◌≡◌, sym, ap, ◌∙◌}
+use mathlib.Core.Path.{sym, ◌∙◌}
 use native.Mathlib.Omega.{arith}
 use Rattle.answer.proofs.Some.{number_at_exit}
 use Rattle.record.specs.Record.{header_at, decode}

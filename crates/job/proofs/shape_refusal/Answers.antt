@@ -1,11 +1,7 @@
 -- `job::shape_refusal` meets its contract: each test after those before it.
 -- Assumes nothing.
-use mathlib.Core.Path.{◌≡◌, sym, ap, ◌∙◌}
-use mathlib.Core.Bool.{true, false}
+use mathlib.Core.Path.{sym, ◌∙◌}
 use native.Mathlib.Omega.{arith}
-use lib.ListN.{length}
-use Rattle.wire.specs.Wire.{be_at}
-use Rattle.rules.specs.Rules.{version_ok, header_ok}
 use Rattle.record.specs.Record.{header_at}
 use Rattle.job.proofs.Shape.{short, not_stated, other_version, out_of_range, other_count, well_formed}
 use Rattle.job.proofs.shape_refusal.Goals as goal

@@ -1,10 +1,8 @@
 -- `job::write_refusal` meets its contract.
 -- Assumes nothing.
-use mathlib.Core.Path.{◌≡◌, sym, ◌∙◌}
-use mathlib.Core.Bool.{true, false}
+use mathlib.Core.Path.{sym, ◌∙◌}
 use native.Mathlib.Omega.{arith}
 use Rattle.answer.proofs.Some.{number_at_exit}
-use Rattle.rules.specs.Rules.{version_ok, header_ok}
 use Rattle.rules.proofs.HeaderBounds.{header_in}
 use Rattle.job.proofs.Decided.{write_version, write_range, write_fields, write_short, write_done}
 use Rattle.job.proofs.write_refusal.Goals as goal

@@ -1,0 +1,13 @@
+-- The costs are added to the cells that the loop has passed.
+-- Assumes nothing.
+use Rattle.std.proofs.Common.{◌+◌, min, get_or}
+use Rattle.plan.specs.Plan.{mark}
+use Rattle.cells.specs.Cells.{cell_at}
+use Rattle.cells.specs.Steps.{Filled}
+use Rattle.cells.proofs.Heads.{Left}
+use Rattle.cells.proofs.write.add.Given as goal
+
+abbrev pub invariant-loop-h : goal.invariant-loop-h
+invariant-loop-h l =
+    Left l.fn.heads l.h-iterator ×
+    Filled l.initial.ws l.ws l.up l.fn.heads.start l.h-iterator.start (λ h. min mark (cell_at l.initial.ws (l.up + h) + get_or l.best h 0))
