@@ -77,6 +77,7 @@ fn size_ok(cat: &[u8], s: usize) -> bool
 }
 
 // 11: every size.
+#[tactic(auto, using(basis::proofs::Each::all_none, basis::proofs::Each::all_more, crate::proofs::ShapeBounds::shape_in, crate::proofs::ShapeBounds::shape_sized), unfolding(crate::specs::Rules::sizes_ok))]
 fn sizes_ok(cat: &[u8]) -> bool
     requires { shape_ok cat.now ≡ true }
     ensures { result ≡ sizes_ok cat.now }
@@ -90,6 +91,7 @@ fn sizes_ok(cat: &[u8]) -> bool
 }
 
 /// Any bytes are accepted or get 10 or 11.
+#[tactic(auto, unfolding(crate::specs::Rules::cat_no, crate::specs::Rules::cat_checks, answer::specs::Checks::first_no))]
 pub fn catalogue_refusal(cat: &[u8]) -> Result<(), Refusal>
     ensures { number_of result ≡ cat_no cat.now }
 {

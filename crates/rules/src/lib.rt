@@ -92,7 +92,7 @@ fn sections_ok(job: Job) -> bool
 }
 
 // Kind 0 on section i, of which the set is its own bit alone.
-#[tactic(auto, using(tree::proofs::Filled::shifted))]
+#[tactic(auto, using(std::proofs::lemmas::Nat::one_shl))]
 fn bare_end(kind: u8, set: u64, i: usize) -> bool
     requires { i < 64 }
     ensures { result ≡ (eqb kind 0 && eqb set (2 ^ i)) }
@@ -129,6 +129,7 @@ fn unmatched_kind(job: Job) -> bool
 }
 
 /// The first of 5, 6 and 7 that the job breaks, if it breaks one.
+#[tactic(auto, using(crate::proofs::Kept::rooted_of, crate::proofs::Kept::kinds_of), unfolding(crate::specs::Rules::field_checks, answer::specs::Checks::first_no))]
 pub fn broken_rule(job: Job) -> Result<(), Refusal>
     requires { count_of job ≤ 63 }
     ensures { number_of result ≡ first_no (field_checks job) }
