@@ -77,6 +77,7 @@ fn size_ok(cat: &[u8], s: usize) -> bool
 }
 
 // 11: every size.
+#[tactic(auto, using(basis::proofs::Each::all_none, basis::proofs::Each::all_more, crate::proofs::ShapeBounds::shape_in, crate::proofs::ShapeBounds::shape_sized), unfolding(crate::specs::Rules::sizes_ok))]
 fn sizes_ok(cat: &[u8]) -> bool
     requires { shape_ok cat.now ≡ true }
     ensures { result ≡ sizes_ok cat.now }

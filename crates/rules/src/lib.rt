@@ -92,7 +92,7 @@ fn sections_ok(job: Job) -> bool
 }
 
 // Kind 0 on section i, of which the set is its own bit alone.
-#[tactic(auto, using(tree::proofs::Filled::shifted))]
+#[tactic(auto, using(std::proofs::lemmas::Nat::one_shl))]
 fn bare_end(kind: u8, set: u64, i: usize) -> bool
     requires { i < 64 }
     ensures { result ≡ (eqb kind 0 && eqb set (2 ^ i)) }
