@@ -1,4 +1,4 @@
-pub mod Halving
+pub mod FirstRow
 pub mod Lines
 pub mod AcceptedCat
 pub mod Places
@@ -7,3 +7,4 @@ pub mod Rising
 pub mod RowBounds
 pub mod ShapeBounds
 pub mod SizeBounds
+pub mod Chunks

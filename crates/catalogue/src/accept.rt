@@ -1,11 +1,12 @@
 // Refusals 10 and 11: any bytes are a catalogue or not.
 ghost use Rattle.std.specs.Prelude.{◌≡◌, ◌+◌, ◌*◌, ◌≤◌, ◌<◌, true, length};
+ghost use Rattle.std.specs.List.{concat};
 ghost use Rattle.answer.specs.Answer.{number_of};
 ghost use Rattle.catalogue.specs.Layout.{rows_of, part_of};
 ghost use Rattle.catalogue.specs.Rules.{shape_ok, row_ok, rises_at, rows_ok, size_ok, sizes_ok, cat_no};
 ghost use Rattle.catalogue.specs.Steps.{Sized};
 
-use crate::layout::{bore, price, row_at, rows_of, size_from, sizes_of};
+use crate::layout::{bore, price, row_at, rows_at, rows_of, sizes_of};
 use answer::Refusal;
 use wire::Field;
 
@@ -26,11 +27,11 @@ fn shape_ok(cat: &[u8]) -> bool
         && cat.len() == 7 + sizes * (4 + 8 * rows)
 }
 
-// A row on its own.
+// Row k on its own.
 #[tactic(auto, unfolding(crate::specs::Rules::row_ok))]
-fn row_ok(rows: &[u8], k: usize) -> bool
-    requires { 8 * k + 8 ≤ length rows.now }
-    ensures { result ≡ row_ok rows.now k }
+fn row_ok(rows: &[[u8; 8]], k: usize) -> bool
+    requires { k < length rows.now }
+    ensures { result ≡ row_ok (concat rows.now) k }
 {
     let row = row_at(rows, k);
     (1..=1_000_000).contains(&row.flow) && 1 <= row.velocity && 1 <= row.slope
@@ -38,24 +39,24 @@ fn row_ok(rows: &[u8], k: usize) -> bool
 
 // Row k, from 1, against the row before it.
 #[tactic(auto, unfolding(crate::specs::Rules::rises_at))]
-fn rises_at(rows: &[u8], k: usize) -> bool
-    requires { (0 < k) × (8 * k + 8 ≤ length rows.now) }
-    ensures { result ≡ rises_at rows.now k }
+fn rises_at(rows: &[[u8; 8]], k: usize) -> bool
+    requires { (0 < k) × (k < length rows.now) }
+    ensures { result ≡ rises_at (concat rows.now) k }
 {
     let before = row_at(rows, k - 1);
     let row = row_at(rows, k);
     before.flow < row.flow && before.velocity <= row.velocity && before.slope <= row.slope
 }
 
-// The first n rows.
-fn rows_ok(rows: &[u8], n: usize) -> bool
-    requires { (1 ≤ n) × (n ≤ 64) × (8 * n ≤ length rows.now) }
-    ensures { result ≡ rows_ok rows.now n }
+// Every row.
+fn rows_ok(rows: &[[u8; 8]]) -> bool
+    requires { 1 ≤ length rows.now }
+    ensures { result ≡ rows_ok (concat rows.now) (length rows.now) }
 {
     if !row_ok(rows, 0) {
         return false;
     }
-    for k in 1..n {
+    for k in 1..rows.len() {
         if !row_ok(rows, k) || !rises_at(rows, k) {
             return false;
         }
@@ -63,18 +64,16 @@ fn rows_ok(rows: &[u8], n: usize) -> bool
     true
 }
 
-// Size s, its rows handed on as a part of the catalogue.
+// Size s.
 #[tactic(auto, unfolding(crate::specs::Rules::size_ok))]
 fn size_ok(cat: &[u8], s: usize) -> bool
     requires { Sized cat.now s × (2 ≤ rows_of cat.now) }
     ensures { result ≡ size_ok cat.now s }
 {
-    let n = usize::from(rows_of(cat));
-    let from = size_from(cat, s) + 4;
     1 <= bore(cat, s)
         && (s == 1 || bore(cat, s - 1) < bore(cat, s))
         && (1..=10000).contains(&price(cat, s))
-        && rows_ok(&cat[from..from + 8 * n], n)
+        && rows_ok(rows_at(cat, s))
 }
 
 // 11: every size.
@@ -91,6 +90,7 @@ fn sizes_ok(cat: &[u8]) -> bool
 }
 
 /// Any bytes are accepted or get 10 or 11.
+#[tactic(auto, unfolding(crate::specs::Rules::cat_no, crate::specs::Rules::cat_checks, answer::specs::Checks::first_no))]
 pub fn catalogue_refusal(cat: &[u8]) -> Result<(), Refusal>
     ensures { number_of result ≡ cat_no cat.now }
 {

@@ -1,8 +1,10 @@
 // Where the fields of a size and of a row stand.
 ghost use Rattle.std.specs.Prelude.{◌≡◌, ◌+◌, ◌*◌, ◌≤◌, ◌<◌, length};
-ghost use Rattle.catalogue.specs.Layout.{sizes_of, rows_of, size_from, bore_of, price_of, flow_at, velocity_at, slope_at};
+ghost use Rattle.std.specs.List.{concat};
+ghost use Rattle.catalogue.specs.Layout.{sizes_of, rows_of, size_from, bore_of, price_of, part_of, flow_at};
 ghost use Rattle.catalogue.specs.Steps.{Sized, row_at, row_before};
 
+use round::Point;
 use wire::Field;
 
 // The number of sizes, and of rows of each size.
@@ -46,6 +48,17 @@ pub fn price(cat: &[u8], s: usize) -> u16
     u16::at(cat, size_from(cat, s) + 2)
 }
 
+// The rows of size s: a part of the catalogue that starts in its middle.
+pub fn rows_at(cat: &[u8], s: usize) -> &[[u8; 8]]
+    requires { Sized cat.now s }
+    ensures part { concat result.now ≡ part_of cat.now s }
+    ensures count { length result.now ≡ rows_of cat.now }
+{
+    let from = size_from(cat, s) + 4;
+    let end = from + 8 * usize::from(rows_of(cat));
+    cat[from..end].as_chunks::<8>().0
+}
+
 // Flow in ml/s, velocity in mm/s and slope in mm per metre.
 #[derive(Clone, Copy)]
 pub struct Row {
@@ -54,33 +67,54 @@ pub struct Row {
     pub slope: u32,
 }
 
-// The flow of row k of a part, from 0.
-#[tactic(auto, unfolding(crate::specs::Layout::flow_at))]
-pub fn row_flow(rows: &[u8], k: usize) -> u32
-    requires { 8 * k + 8 ≤ length rows.now }
-    ensures { result ≡ flow_at rows.now k }
-{
-    u32::at(rows, 8 * k)
+impl Row {
+    // A point of the line of velocities.
+    pub fn on_velocity(self) -> Point
+        ensures { result ≡ record { x = self.flow; y = self.velocity } }
+    {
+        Point {
+            x: self.flow,
+            y: self.velocity,
+        }
+    }
+
+    // A point of the line of slopes.
+    pub fn on_slope(self) -> Point
+        ensures { result ≡ record { x = self.flow; y = self.slope } }
+    {
+        Point {
+            x: self.flow,
+            y: self.slope,
+        }
+    }
 }
 
-// Row k of a part.
-#[tactic(auto, unfolding(crate::specs::Layout::velocity_at, crate::specs::Layout::slope_at))]
-pub fn row_at(rows: &[u8], k: usize) -> Row
-    requires { 8 * k + 8 ≤ length rows.now }
-    ensures { result ≡ row_at rows.now k }
+// The flow of a row.
+#[tactic(auto, unfolding(crate::specs::Layout::flow_at))]
+pub fn row_flow(row: &[u8; 8]) -> u32
+    ensures { result ≡ flow_at row.now 0 }
 {
+    u32::at(row, 0)
+}
+
+// Row k of a part, from 0.
+pub fn row_at(rows: &[[u8; 8]], k: usize) -> Row
+    requires { k < length rows.now }
+    ensures { result ≡ row_at (concat rows.now) k }
+{
+    let row = &rows[k];
     Row {
-        flow: row_flow(rows, k),
-        velocity: u32::from(u16::at(rows, 8 * k + 4)),
-        slope: u32::from(u16::at(rows, 8 * k + 6)),
+        flow: row_flow(row),
+        velocity: u32::from(u16::at(row, 4)),
+        slope: u32::from(u16::at(row, 6)),
     }
 }
 
 // The row before row k; before the first row the lines come from zero.
 #[tactic(auto, unfolding(crate::specs::Steps::row_before))]
-pub fn row_before(rows: &[u8], k: usize) -> Row
-    requires { 8 * k + 8 ≤ length rows.now }
-    ensures { result ≡ row_before rows.now k }
+pub fn row_before(rows: &[[u8; 8]], k: usize) -> Row
+    requires { k < length rows.now }
+    ensures { result ≡ row_before (concat rows.now) k }
 {
     if k == 0 {
         Row {

@@ -1,9 +1,11 @@
 // A row of best costs at each head, to which the sizes of a section are offered one after another.
+// The heads go beside the whole row: in a part of it a place would no longer be the head that the cells are found by.
+// A cost where nothing fits is the mark and no Option, which takes twice the room in a cell and in fixed memory.
 ghost use Rattle.std.specs.Prelude.{◌≡◌, ℕ, ◌+◌, ◌-◌, ◌*◌, ◌≤◌, ◌<◌, min, length, get_or};
 ghost use Rattle.nets.specs.Tables.{top};
 ghost use Rattle.plan.specs.Plan.{mark};
 ghost use Rattle.cells.specs.Cells.{cell_at};
-ghost use Rattle.cells.specs.Steps.{Offered, Filled, standing};
+ghost use Rattle.cells.specs.Steps.{Offered};
 
 use crate::cell::get;
 use plan::MARK;
@@ -28,8 +30,7 @@ fn offer_row(
     cost: u32,
     heads: Range<usize>,
 )
-    requires loss_le_start { (loss ≤ heads.start) × (heads.end ≤ 7001) × (length best.old ≡ 7001) × (4 * (row + (heads.end - loss)) ≤ length ws.now)
-        × (cost ≤ 50000000) }
+    requires loss_le_start { (loss ≤ heads.start) × (heads.end ≤ 7001) × (4 * (row + (heads.end - loss)) ≤ length ws.now) × (cost ≤ 50000000) }
     requires by_index { (h : ℕ) → heads.start ≤ h → h < heads.end → cell_at ws.now (row + (h - loss)) ≤ mark }
     ensures { Offered best.old best.new heads.start heads.end (λ h. cost + cell_at ws.now (row + (h - loss))) }
 {
@@ -38,9 +39,9 @@ fn offer_row(
     }
 }
 
-// Offers one cost at each of the heads.
+// Offers one cost at each of the heads. (One loop for both over a closure is no plainer: the closures need these two contracts again.)
 fn offer_flat(best: &mut [u32; 7001], cost: u32, heads: Range<usize>)
-    requires { (heads.end ≤ 7001) × (length best.old ≡ 7001) }
+    requires { heads.end ≤ 7001 }
     ensures { Offered best.old best.new heads.start heads.end (λ h. cost) }
 {
     for h in heads {

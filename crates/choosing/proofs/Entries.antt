@@ -3,10 +3,16 @@
 use mathlib.Core.Path.{◌≡◌, sym, ap}
 use mathlib.Core.Bool.{true, false}
 use mathlib.Core.List.{List}
-use Prim.Native.Nat.{ℕ, ◌*◌, ◌≤◌, ◌<◌}
+use lib.IntN.{pos, ◌+ℤ◌}
+use Prim.Native.Nat.{ℕ, ◌+◌, ◌*◌, ◌≤◌, ◌<◌}
 use native.Mathlib.Nat.{mul-le-mul}
 use Rattle.fields.specs.declared.Job.{Job}
-use Rattle.fields.specs.Fields.{section_of}
+use Rattle.fields.specs.Fields.{count_of, section_of}
+use Rattle.demand.specs.Demand.{section_flow}
+use Rattle.basis.specs.Slots.{slots}
+use Rattle.basis.proofs.Slots.{slots_in}
+use native.Mathlib.Omega.{arith}
+use lib.ListN.{get_or}
 use Rattle.wire.specs.Wire.{byte_at}
 use Rattle.rules.proofs.HeaderBounds.{HeaderIn, header_in}
 use Rattle.rules.proofs.SectionBounds.{SectionIn}
@@ -17,7 +23,16 @@ use Rattle.sizing.specs.Losses.{reading_of, over_at, loss_at}
 use Rattle.nets.specs.Tables.{top}
 use Rattle.sizing.proofs.Trying.{read_top, tried_over, tried_not}
 use Rattle.choosing.specs.Suitable.{price_at}
-use Rattle.choosing.specs.Steps.{entry_of, loss_entry, Pair}
+use Rattle.choosing.specs.Steps.{shift, entry_of, loss_entry, Pair}
+
+-- what the end of section i needs
+abbrev pub NeedAt : Job → ℕ → ℕ → Type 0
+NeedAt job i v = pos v ≡ (section_of job i).elevation +ℤ pos ((section_of job i).free + shift)
+
+-- the flow of section i in the table of flows
+pub flow_held : (job : Job) (flows : List ℕ) (i : ℕ) → flows ≡ slots 64 1 (count_of job + 1) 0 (section_flow job) → count_of job ≤ 63 → 0 < i → i ≤ count_of job →
+    get_or flows i 0 ≡ section_flow job i
+flow_held job flows i e few low high = rw e (slots_in 64 1 (count_of job + 1) 0 (section_flow job) i 0 (omega arith) (omega arith) (omega arith))
 
 pub entry_over : (job : Job) (cat : List ℕ) (i s : ℕ) → over_at job cat s i ≡ true → top ≡ loss_entry job cat i s
 unfolding loss_entry reading_of

@@ -3,6 +3,10 @@
 use mathlib.Core.Path.{◌≡◌, refl, ◌∙◌}
 use mathlib.Core.Logic.{inl, inr}
 use mathlib.Core.List.{List, ◌++◌}
+use Rattle.std.proofs.Common.{Option, Some, MatchOption, subst, take}
+use Rattle.std.proofs.Common.{None as Nothing}
+use Rattle.fields.specs.Fields.{count_of}
+use Rattle.search.specs.declared.Choice.{Choice}
 use Prim.Native.Nat.{ℕ}
 use native.Mathlib.Omega.{arith}
 use lib.ListN.{length}
@@ -17,7 +21,7 @@ use Rattle.choosing.specs.Calls.{choose_no, choose_bytes, Chosen}
 use Rattle.choosing.specs.Steps.{head_for, TreeOf, Least}
 use Rattle.choosing.proofs.Bridge.{suits_net, net_suits, cost_net}
 
-module _ {job : Job} {cat : List ℕ} {N : Net} (d : TreeOf job cat N) (valid : Valid job) {delivered : ℕ} where
+module _ {job : Job} {cat : List ℕ} {N : Net} (d : TreeOf job cat N) (valid : Valid job) (delivered : ℕ) where
   pub none_suitable : None N (head_for job delivered) → (y : List ℕ) → SuitableAt job cat delivered y → ⊥
   none_suitable n y s = n.none y (suits_net job cat N d valid delivered y s)
 
@@ -30,6 +34,12 @@ module _ {job : Job} {cat : List ℕ} {N : Net} (d : TreeOf job cat N) (valid : 
         cost = f.cost ∙ cost;
         least = λ y s. omega (arith, cost, cost_net job cat N d valid delivered y s.sizes, f.best.least y (suits_net job cat N d valid delivered y s));
       }
+
+  -- what the search gives
+  pub chosen_suitable : (r : Option Choice) → MatchOption r (None N (head_for job delivered)) (λ c. Found N (head_for job delivered) c.cost (take N.sections c.sizes)) →
+      MatchOption r ((y : List ℕ) → SuitableAt job cat delivered y → ⊥) (λ c. Least job cat delivered c.cost (take (count_of job) c.sizes))
+  chosen_suitable Nothing n = none_suitable n
+  chosen_suitable (Some c) f = subst (λ n. Least job cat delivered c.cost (take n c.sizes)) d.sections (least_suitable f)
 
 -- the ends of the call: a number from 1 to 15, 16, and a result
 module _ {b cat out₀ work₀ : List ℕ} where

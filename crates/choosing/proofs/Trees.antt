@@ -11,7 +11,7 @@ use lib.Dec.{ltb}
 use lib.ListN.{get_or}
 use Rattle.basis.proofs.Split.{either}
 use Rattle.fields.specs.declared.Job.{Job}
-use Rattle.fields.specs.Fields.{count_of}
+use Rattle.fields.specs.Fields.{count_of, section_of}
 use Rattle.wire.specs.Wire.{byte_at}
 use Rattle.demand.specs.Demand.{Accepted}
 use Rattle.demand.proofs.Validity.{valid_count, valid_rooted}
@@ -22,11 +22,11 @@ use Rattle.sizing.specs.Losses.{over_at, loss_with, loss_at}
 use Rattle.sizing.proofs.LossBounds.{loss_top}
 use Rattle.nets.specs.Tables.{top, net_of, Sound}
 use Rattle.choosing.specs.Suitable.{price_at}
-use Rattle.choosing.specs.Steps.{loss_entry, Pair, Tabled, EndsOf, TreeOf}
+use Rattle.choosing.specs.Steps.{loss_entry, Pair, Tabled, NeedsOf, TreeOf}
 use Rattle.choosing.proofs.Entries.{entry_over, entry_under, pair_section, pair_head, price_top, slope_top}
 
-module _ {job : Job} {cat parents needs losses costs : List ℕ} (a : Accepted job) (l : AcceptedCat cat) (bytes : (k : ℕ) → byte_at cat k < 256)
-    (e : EndsOf job parents needs) (t : Tabled (loss_entry job cat) (count_of job) (sizes_of cat) losses)
+module _ {job : Job} {cat losses costs : List ℕ} (a : Accepted job) (l : AcceptedCat cat) (bytes : (k : ℕ) → byte_at cat k < 256)
+    (t : Tabled (loss_entry job cat) (count_of job) (sizes_of cat) losses)
     (u : Tabled (λ i s. price_at job cat s i) (count_of job) (sizes_of cat) costs) where
   module _ (i s : ℕ) (first : 0 < i) (last : i ≤ count_of job) (low : 0 < s) (high : s ≤ sizes_of cat) where
     pair : Pair job cat i s
@@ -50,24 +50,26 @@ module _ {job : Job} {cat parents needs losses costs : List ℕ} (a : Accepted j
     price_held : get_or costs (i * 13 + s) 0 ≤ 50000000
     price_held = rw (u.at i s first last low high) (price_top pair)
 
-  pub tree_of : TreeOf job cat (net_of (count_of job) (sizes_of cat) parents needs losses costs)
-  tree_of =
-      record {
-        sections = refl;
-        sizes = refl;
-        parent = e.parent;
-        need = e.need;
-        allowed = marked;
-        loss = loss_held;
-        cost = u.at;
-      }
+  module _ {sections sizes : ℕ} (parents : List ℕ) {needs : List ℕ} (es : sections ≡ count_of job) (ez : sizes ≡ sizes_of cat)
+      (above : (i : ℕ) → 0 < i → i ≤ count_of job → get_or parents i 0 ≡ (section_of job i).parent) (e : NeedsOf job needs) where
+    pub tree_of : TreeOf job cat (net_of sections sizes parents needs losses costs)
+    tree_of =
+        record {
+          sections = es;
+          sizes = ez;
+          parent = above;
+          need = e.need;
+          allowed = marked;
+          loss = loss_held;
+          cost = u.at;
+        }
 
-  pub sound : Sound (net_of (count_of job) (sizes_of cat) parents needs losses costs)
-  sound =
-      record {
-        few = (valid_count a.valid).high;
-        sizes = (cat_counts l).0.high;
-        lower = λ s h k. rw (e.parent s h k) ((valid_rooted a.valid).lower s h k);
-        cheap = λ i s h k m n. price_held i s h k m n;
-        marked = λ i s. refl;
-      }
+    pub sound : Sound (net_of sections sizes parents needs losses costs)
+    sound =
+        record {
+          few = rw es (valid_count a.valid).high;
+          sizes = rw ez (cat_counts l).0.high;
+          lower = λ s h k. let m : s ≤ count_of job = rw (← es) k in rw (above s h m) ((valid_rooted a.valid).lower s h m);
+          cheap = λ i s h k m n. price_held i s h (rw (← es) k) m (rw (← ez) n);
+          marked = λ i s. refl;
+        }

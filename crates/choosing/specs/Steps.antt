@@ -1,6 +1,6 @@
 -- The tree of sections that the search looks at, drawn from a job and a catalogue.
 -- Assumes nothing.
-use Rattle.std.specs.Prelude.{◌≡◌, false, not, cond, List, ℕ, ◌+◌, ◌-◌, ◌*◌, ◌≤◌, ◌<◌, pos, ◌+ℤ◌, length, get_or}
+use Rattle.std.specs.Prelude.{◌≡◌, false, not, Option, Some, None, List, ℕ, ◌+◌, ◌-◌, ◌*◌, ◌≤◌, ◌<◌, pos, ◌+ℤ◌, length, get_or}
 use Rattle.fields.specs.declared.Header.{Header}
 use Rattle.fields.specs.declared.Job.{Job}
 use Rattle.fields.specs.declared.Section.{Section}
@@ -35,8 +35,9 @@ pub record TreeOf (job : Job) (cat : List ℕ) (N : Net) : Type 0 where
   pub cost : (i s : ℕ) → 0 < i → i ≤ count_of job → 0 < s → s ≤ sizes_of cat → N.cost i s ≡ price_at job cat s i
 
 -- what the table of losses holds of a section with a size: its loss, or the mark where it is over its last row or the limit
-abbrev pub entry_of : Tried → ℕ
-entry_of t = cond t.over top t.loss
+abbrev pub entry_of : Option Tried → ℕ
+entry_of None = top
+entry_of (Some t) = t.loss
 
 -- of a section at flow q with size s
 abbrev pub loss_by : Header → Section → List ℕ → ℕ → ℕ → ℕ
@@ -66,9 +67,8 @@ pub record Tabled (f : ℕ → ℕ → ℕ) (n m : ℕ) (l : List ℕ) : Type 0 
   pub long : length l ≡ 832
   pub at : (i s : ℕ) → 0 < i → i ≤ n → 0 < s → s ≤ m → get_or l (i * 13 + s) 0 ≡ f i s
 
--- parents and needs at the sections' places
-pub record EndsOf (job : Job) (parents needs : List ℕ) : Type 0 where
-  pub parent : (i : ℕ) → 0 < i → i ≤ count_of job → get_or parents i 0 ≡ (section_of job i).parent
+-- needs at the sections' places
+pub record NeedsOf (job : Job) (needs : List ℕ) : Type 0 where
   pub need : (i : ℕ) → 0 < i → i ≤ count_of job → pos (get_or needs i 0) ≡ (section_of job i).elevation +ℤ pos ((section_of job i).free + shift)
 
 -- a list that suits at a delivered head, at the cost c, and no list that suits there costs less

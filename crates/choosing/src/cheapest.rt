@@ -1,40 +1,44 @@
 // The cheapest suitable list of an accepted job with an accepted catalogue.
-ghost use Rattle.std.specs.Prelude.{◌≡◌, true, false, List, ℕ, ◌≤◌, length, take};
+ghost use Rattle.std.specs.Prelude.{List, ℕ, ◌≤◌, length, take, MatchOption};
 ghost use Rattle.fields.specs.Fields.{count_of};
 ghost use Rattle.demand.specs.Demand.{Accepted};
 ghost use Rattle.catalogue.specs.Steps.{AcceptedCat};
+ghost use Rattle.nets.specs.NetIn.{net_in};
 ghost use Rattle.choosing.specs.Suitable.{SuitableAt};
 ghost use Rattle.choosing.specs.Calls.{work_length};
-ghost use Rattle.choosing.specs.Steps.{Least};
+ghost use Rattle.choosing.specs.Steps.{Least, TreeOf};
 
-use crate::ends::ends_of;
+use crate::ends::needs_of;
 use crate::options::put_options;
 use fields::Job;
+use nets::Tables;
 use search::Choice;
 
-// A cheapest list that suits at a delivered head, found over the lent workspace. Heads of the search are 1,000 cm more than the job's, so that none is negative.
-pub fn cheapest(job: Job, cat: &[u8], delivered: usize, work: &mut [u8]) -> Choice
-    requires { Accepted job × AcceptedCat cat.now × (delivered ≤ 6000) × (work_length (count_of job) delivered ≤ length work.old) }
-    ensures none { result.found ≡ false → (y : List ℕ) → SuitableAt job cat.now delivered y → ⊥ }
-    ensures found { result.found ≡ true → Least job cat.now delivered result.cost (take (count_of job) result.sizes) }
+// The tree of a job's sections, and what each of the catalogue's sizes loses and costs there.
+fn tables_of(job: &Job, cat: &[u8]) -> Tables
+    requires { Accepted job.now × AcceptedCat cat.now }
+    ensures { TreeOf job.now cat.now (net_in result) }
 {
-    let count = job.header.sections as usize;
-    let sizes = catalogue::sizes_of(cat) as usize;
-    let meter = job.header.meter as usize;
-    let ends = ends_of(job);
-    let parents = ends.parents;
-    let needs = ends.needs;
     let mut losses = [0u32; 832];
     let mut costs = [0u32; 832];
     put_options(job, cat, &mut losses, &mut costs);
-    search::choose(
-        work,
-        &parents,
-        &needs,
-        &losses,
-        &costs,
-        count,
-        sizes,
-        delivered + 1000 - meter,
-    )
+    Tables {
+        sections: usize::from(job.header.sections),
+        sizes: usize::from(catalogue::sizes_of(cat)),
+        parents: tree::parents_of(*job),
+        needs: needs_of(job),
+        losses,
+        costs,
+    }
+}
+
+// A cheapest list that suits at a delivered head, if one does, found over the lent workspace. Heads of the search are 1,000 cm more than the job's, so that none is negative.
+pub fn cheapest(job: Job, cat: &[u8], delivered: usize, work: &mut [u8]) -> Option<Choice>
+    requires { Accepted job × AcceptedCat cat.now × (delivered ≤ 6000) × (work_length (count_of job) delivered ≤ length work.old) }
+    ensures { MatchOption result ((y : List ℕ) → SuitableAt job cat.now delivered y → ⊥)
+        (λ c. Least job cat.now delivered c.cost (take (count_of job) c.sizes)) }
+{
+    let tables = tables_of(&job, cat);
+    let meter = usize::from(job.header.meter);
+    search::choose(work, &tables, delivered + 1000 - meter)
 }

@@ -1,19 +1,12 @@
-// Where each section hangs and what its end needs.
+// What the end of each section needs.
 ghost use Rattle.std.specs.Prelude.{◌≡◌, true, ◌+◌, pos, ◌+ℤ◌};
 ghost use Rattle.rules.specs.Rules.{elevation_ok};
 ghost use Rattle.demand.specs.Demand.{Valid};
-ghost use Rattle.choosing.specs.Steps.{shift, EndsOf};
+ghost use Rattle.choosing.specs.Steps.{shift, NeedsOf};
 
 use fields::{Job, Section};
 
-// The parent of each section, and elevation + free head at its end, 1,000 cm more so that it is not negative; at the section's place.
-#[derive(Clone, Copy)]
-pub struct Ends {
-    pub parents: [u8; 64],
-    pub needs: [u32; 64],
-}
-
-// Elevation + free head + 1,000.
+// Elevation + free head + 1,000, so that it is not negative.
 fn need(s: Section) -> u32
     requires { elevation_ok s.elevation ≡ true }
     ensures { pos result ≡ s.elevation +ℤ pos (s.free + shift) }
@@ -21,17 +14,14 @@ fn need(s: Section) -> u32
     heads::reach(s, 1000) as u32
 }
 
-pub fn ends_of(job: Job) -> Ends
-    requires { Valid job }
-    ensures { EndsOf job result.parents result.needs }
+// What the end of each section needs, at the section's place.
+pub fn needs_of(job: &Job) -> [u32; 64]
+    requires { Valid job.now }
+    ensures { NeedsOf job.now result }
 {
-    let count = job.header.sections as usize;
-    let parents = tree::parents_of(job);
     let mut needs = [0u32; 64];
-    let mut i: usize = 1;
-    while i <= count {
+    for i in 1..=usize::from(job.header.sections) {
         needs[i] = need(job.sections[i]);
-        i += 1;
     }
-    Ends { parents, needs }
+    needs
 }

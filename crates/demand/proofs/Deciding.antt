@@ -11,7 +11,7 @@ use Rattle.fields.specs.Fields.{count_of}
 use Rattle.tree.specs.Tree.{served_of, house_of, fixtures_below, Rooted}
 use Rattle.tree.proofs.Served.{served_house}
 use Rattle.demand.specs.Demand.{m_of, flow_of, fixtures_of, hour_sum_of, needs_table_one, over_sum, over_probability, demand_checks, Valid}
-use Rattle.demand.proofs.Validity.{valid_fixtures}
+use Rattle.demand.proofs.Validity.{valid_rooted, valid_fixtures}
 use Rattle.demand.proofs.Agreeing.{m_same, flow_same, fixtures_same}
 
 -- row 0 of the counts is the house
@@ -31,36 +31,50 @@ pub section_test : {job : Job} → Valid job → (i : ℕ) → {m fixtures : ℕ
     r ≡ needs_table_one (m_of job (served_of job i)) (fixtures_of (served_of job i))
 section_test valid i e m f = e ∙ rw (m, f ∙ valid_fixtures valid i)
 
-module _ (job : Job) where
-  pub over_house : 400000000 < m_of job (house_of job) → first_no (demand_checks job) ≡ 8
+-- what is found of the house: its m, its fixtures and the hour's sum of shares
+pub record Found (job : Job) (m fixtures hour : ℕ) : Type 0 where
+  pub m_is : m ≡ m_of job (house_of job)
+  pub fixtures_is : fixtures ≡ fixtures_of (house_of job)
+  pub hour_is : hour ≡ hour_sum_of job
+
+pub found : {job : Job} → Valid job → {m fixtures hour : ℕ} →
+    m ≡ m_of job (served_of job 0) → fixtures ≡ fixtures_below job 0 → hour ≡ hour_sum_of job → Found job m fixtures hour
+found valid m f h =
+    let r = valid_rooted valid in
+    record { m_is = m ∙ house_m r; fixtures_is = f ∙ valid_fixtures valid 0 ∙ house_fixtures r; hour_is = h }
+
+abbrev any_section : Job → Bool
+any_section job = any_to (count_of job) (λ i. needs_table_one (m_of job (served_of job i)) (fixtures_of (served_of job i)))
+
+module _ {job : Job} {m fixtures hour : ℕ} (k : Found job m fixtures hour) where
+  pub over_house : 400000000 < m → 8 ≡ first_no (demand_checks job)
   unfolding demand_checks first_no over_sum
-  over_house h = rw (lt-ltb 400000000 (m_of job (house_of job)) h)
+  over_house h = rw (← k.m_is, lt-ltb 400000000 m h)
 
-  module _ (m : m_of job (house_of job) ≤ 400000000) where
-    pub over_hour : 400000000 < hour_sum_of job → first_no (demand_checks job) ≡ 8
+  module _ (low : m ≤ 400000000) where
+    pub over_hour : 400000000 < hour → 8 ≡ first_no (demand_checks job)
     unfolding demand_checks first_no over_sum
-    over_hour h = rw (le-ltb 400000000 (m_of job (house_of job)) m, lt-ltb 400000000 (hour_sum_of job) h)
+    over_hour h = rw (← k.m_is, ← k.hour_is, le-ltb 400000000 m low, lt-ltb 400000000 hour h)
 
-    module _ (hour : hour_sum_of job ≤ 400000000) where
+    module _ (few : hour ≤ 400000000) where
       not_over : over_sum job ≡ false
       unfolding over_sum
-      not_over = rw (le-ltb 400000000 (m_of job (house_of job)) m, le-ltb 400000000 (hour_sum_of job) hour)
+      not_over = rw (← k.m_is, ← k.hour_is, le-ltb 400000000 m low, le-ltb 400000000 hour few)
 
-      pub table_one_house : needs_table_one (m_of job (house_of job)) (fixtures_of (house_of job)) ≡ true → first_no (demand_checks job) ≡ 9
+      pub table_one_house : true ≡ needs_table_one m fixtures → 9 ≡ first_no (demand_checks job)
       unfolding demand_checks first_no over_probability
-      table_one_house e = rw (not_over, e)
+      table_one_house e = rw (not_over, ← k.m_is, ← k.fixtures_is, ← e)
 
-      module _ (house : needs_table_one (m_of job (house_of job)) (fixtures_of (house_of job)) ≡ false) where
-        pub table_one_any : any_to (count_of job) (λ i. needs_table_one (m_of job (served_of job i)) (fixtures_of (served_of job i))) ≡ true →
-            first_no (demand_checks job) ≡ 9
+      module _ (house : false ≡ needs_table_one m fixtures) where
+        pub table_one_any : true ≡ any_section job → 9 ≡ first_no (demand_checks job)
         unfolding demand_checks first_no over_probability
-        table_one_any e = rw (not_over, house, e)
+        table_one_any e = rw (not_over, ← k.m_is, ← k.fixtures_is, ← house, ← e)
 
-        module _ (any : any_to (count_of job) (λ i. needs_table_one (m_of job (served_of job i)) (fixtures_of (served_of job i))) ≡ false) where
-          pub table_one_hour : needs_table_one (hour_sum_of job) (fixtures_of (house_of job)) ≡ true → first_no (demand_checks job) ≡ 9
+        module _ (any : false ≡ any_section job) where
+          pub table_one_hour : true ≡ needs_table_one hour fixtures → 9 ≡ first_no (demand_checks job)
           unfolding demand_checks first_no over_probability
-          table_one_hour e = rw (not_over, house, any, e)
+          table_one_hour e = rw (not_over, ← k.m_is, ← k.fixtures_is, ← k.hour_is, ← house, ← any, ← e)
 
-          pub table_one_not : needs_table_one (hour_sum_of job) (fixtures_of (house_of job)) ≡ false → first_no (demand_checks job) ≡ 0
+          pub table_one_not : false ≡ needs_table_one hour fixtures → 0 ≡ first_no (demand_checks job)
           unfolding demand_checks first_no over_probability
-          table_one_not e = rw (not_over, house, any, e)
+          table_one_not e = rw (not_over, ← k.m_is, ← k.fixtures_is, ← k.hour_is, ← house, ← any, ← e)

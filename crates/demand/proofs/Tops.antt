@@ -23,15 +23,19 @@ pub record HourFits (norm : Norm) (residents : ℕ) : Type 0 where
   pub norms : NormIn norm
   pub people : 100000 * norm.hour * residents ≤ 1966050000000
 
+module _ {norm : Norm} (i : NormIn norm) {residents : ℕ} (r : residents < 65536) where
+  pub day_top : norm.day * residents ≤ 26214000
+  day_top = mul-le-mul {n₂ = 400} {m₂ = 65535} (omega arith) (omega arith)
+
 -- of what `norm_of` gives for a kind
 module _ {norm : Norm} (service : ℕ) {kind : ℕ} (e : norm ≡ norm_of service kind) where
   known : (1 ≤ kind) × (kind ≤ 12) → NormIn norm
   known k = rw e (norm_in service kind k.0 k.1)
 
-  module _ {residents : ℕ} where
-    pub share_fits : {n house : ℕ} → (1 ≤ kind) × (kind ≤ 12) × (residents < 65536) × (n ≤ house) × (house ≤ 4128705) → 0 < n →
+  module _ (residents : ℕ) where
+    pub share_fits : {n house : ℕ} → residents < 65536 → (1 ≤ kind) × (kind ≤ 12) × (n ≤ house) × (house ≤ 4128705) → 0 < house →
         ShareFits norm residents n house
-    share_fits {n} {house} r some =
+    share_fits {n} {house} small r some =
         let i : NormIn norm = known (r.0, r.1) in
         let p : 25000 * norm.hour * residents ≤ 491512500000 = mul-le-mul {n₂ = 7500000} {m₂ = 65535} (omega arith) (omega arith) in
         record {
@@ -45,15 +49,13 @@ module _ {norm : Norm} (service : ℕ) {kind : ℕ} (e : norm ≡ norm_of servic
               };
         }
 
-    pub hour_fits : (1 ≤ kind) × (kind ≤ 12) × (residents < 65536) → HourFits norm residents
-    hour_fits r =
-        let i : NormIn norm = known (r.0, r.1) in
+    pub hour_fits : residents < 65536 → (1 ≤ kind) × (kind ≤ 12) → HourFits norm residents
+    hour_fits small r =
+        let i : NormIn norm = known r in
         record { norms = i; people = mul-le-mul {n₂ = 30000000} {m₂ = 65535} (omega arith) (omega arith) }
 
-    pub day_top : (1 ≤ kind) × (kind ≤ 12) × (residents < 65536) → norm.day * residents ≤ 26214000
-    day_top r =
-        let i : NormIn norm = known (r.0, r.1) in
-        mul-le-mul {n₂ = 400} {m₂ = 65535} (omega arith) (omega arith)
+    pub kind_day_top : residents < 65536 → (1 ≤ kind) × (kind ≤ 12) → norm.day * residents ≤ 26214000
+    kind_day_top small r = day_top (known r) small
 
 -- the share, and the share times its norm
 module _ {norm : Norm} {residents n house share : ℕ} (f : ShareFits norm residents n house)

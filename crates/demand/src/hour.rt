@@ -1,7 +1,7 @@
 // The house's hour, day and mean hour.
 ghost use Rattle.std.specs.Prelude.{◌≡◌, ◌*◌, ◌≤◌, ◌<◌};
-ghost use Rattle.norms.specs.Norms.{norm_of};
-ghost use Rattle.demand.specs.Demand.{hour_of, day_of, mean_of, Accepted};
+ghost use Rattle.fields.specs.Fields.{residents_of};
+ghost use Rattle.demand.specs.Demand.{norm_at, hour_of, day_of, mean_of, Accepted};
 
 use crate::sums::hour_sums;
 use fields::Job;
@@ -16,15 +16,16 @@ pub fn hour_of(job: Job) -> u32
     round::divide_up(sums.weighted * alpha, 200000 * sums.shares) as u32
 }
 
-// The greatest day of a kind's residents, for a service. Without residents nothing is looked up.
-fn day_part(service: u8, kind: usize, residents: u64) -> u64
-    requires { (1 ≤ kind) × (kind ≤ 12) × (residents < 65536) }
-    ensures { (result ≡ (norm_of service kind).day * residents) × (result ≤ 26214000) }
+// The greatest day of a kind's residents. Without residents nothing is looked up.
+fn day_part(job: &Job, kind: usize) -> u64
+    requires { (1 ≤ kind) × (kind ≤ 12) }
+    ensures { (result ≡ (norm_at job.now kind).day * residents_of job.now kind) × (result ≤ 26214000) }
 {
+    let residents = u64::from(job.residents[kind - 1]);
     if residents == 0 {
         return 0;
     }
-    let norm = norms::norm_of(service, kind);
+    let norm = norms::norm_of(job.header.service, kind);
     norm.day * residents
 }
 
@@ -34,8 +35,7 @@ pub fn day_of(job: Job) -> u32
 {
     let mut day = 0;
     for kind in 1..=12 {
-        let residents = u64::from(job.residents[kind - 1]);
-        day += day_part(job.header.service, kind, residents);
+        day += day_part(&job, kind);
     }
     day as u32
 }

@@ -1,7 +1,7 @@
 // The heat call: what a hot line's water heater has to give.
 #![tactic(auto)]
 
-ghost use Rattle.std.specs.Prelude.{◌≡◌, ◌≤◌, length};
+ghost use Rattle.std.specs.Prelude.{◌≡◌, ◌≤◌, length, cond, IfOk};
 ghost use Rattle.basis.specs.Stored.{stored};
 ghost use Rattle.answer.specs.Answer.{number_of};
 ghost use Rattle.answer.specs.Checks.{buffer_after};
@@ -19,34 +19,49 @@ use wire::Field;
 // The service of a hot line.
 const HOT: u8 = 2;
 
-// The heat flow of so many l/h in watts. The litres are at most 66,583,560, the most that the day of any hot line can have, and so the
-// watts fit.
-#[tactic(auto, using(crate::proofs::HeatBounds::heat_top), unfolding(crate::specs::Heat::watts_of))]
-fn watts(litres: u32, t: u32, loss: u32) -> u32
-    requires { (litres ≤ 66583560) × (t ≤ 30) × (loss ≤ 1000000) }
-    ensures { result ≡ watts_of litres t loss }
-{
-    let degrees = 55 - u64::from(t);
-    let heat = round::divide_up(116 * u64::from(litres) * degrees, 100);
-    (heat + u64::from(loss)) as u32
+// Cold water's temperature in °C and a stated loss in watts, both in their ranges.
+#[derive(Clone, Copy)]
+struct Asked {
+    t: u32,
+    loss: u32,
+    ghost cold: { t ≤ 30 },
+    ghost lost: { loss ≤ 1000000 },
 }
 
-// 21: temperature and loss are in their ranges.
-#[tactic(auto, unfolding(crate::specs::Heat::heat_ok))]
-fn heat_ok(t: u32, loss: u32) -> bool
-    ensures { result ≡ heat_ok t loss }
-{
-    t <= 30 && loss <= 1000000
+impl Asked {
+    // 21: temperature and loss are in their ranges.
+    #[tactic(auto, unfolding(crate::specs::Heat::heat_ok))]
+    fn new(t: u32, loss: u32) -> Result<Asked, Refusal>
+        ensures number { number_of result ≡ cond (heat_ok t loss) 0 21 }
+        ensures same { IfOk result (λ asked. (asked.t ≡ t) × (asked.loss ≡ loss)) }
+    {
+        if t > 30 || loss > 1000000 {
+            return Err(Refusal::HeatRange);
+        }
+        Ok(Asked { t, loss })
+    }
+
+    // The heat flow of so many l/h in watts. The litres are at most 66,583,560, the most that the day of any hot line can have, and so the
+    // watts fit.
+    #[tactic(auto, using(crate::proofs::HeatBounds::heat_top), unfolding(crate::specs::Heat::watts_of))]
+    fn watts(self, litres: u32) -> u32
+        requires { litres ≤ 66583560 }
+        ensures { result ≡ watts_of litres self.t self.loss }
+    {
+        let degrees = 55 - u64::from(self.t);
+        let heat = round::divide_up(116 * u64::from(litres) * degrees, 100);
+        (heat + u64::from(self.loss)) as u32
+    }
 }
 
 // The mean hour's heat flow, then the greatest hour's.
 #[tactic(auto, using(demand::proofs::DesignFlows::house_hour_top))]
-fn put_result(out: &mut [u8], job: Job, t: u32, loss: u32)
-    requires { Accepted job × (service_of job ≡ 2) × (t ≤ 30) × (loss ≤ 1000000) × (8 ≤ length out.old) }
-    ensures { out.new ≡ stored out.old 0 (heat_bytes job t loss) }
+fn put_result(out: &mut [u8], job: Job, asked: Asked)
+    requires { Accepted job × (service_of job ≡ 2) × (8 ≤ length out.old) }
+    ensures { out.new ≡ stored out.old 0 (heat_bytes job asked.t asked.loss) }
 {
-    let mean = watts(demand::mean_of(job), t, loss);
-    let greatest = watts(demand::hour_of(job), t, loss);
+    let mean = asked.watts(demand::mean_of(job));
+    let greatest = asked.watts(demand::hour_of(job));
     mean.put_at(out, 0);
     greatest.put_at(out, 4);
 }
@@ -61,12 +76,10 @@ pub fn heat(b: &[u8], t: u32, loss: u32, out: &mut [u8]) -> Result<(), Refusal>
     if job.header.service != HOT {
         return Err(Refusal::NotHot);
     }
-    if !heat_ok(t, loss) {
-        return Err(Refusal::HeatRange);
-    }
+    let asked = Asked::new(t, loss)?;
     if out.len() < 8 {
         return Err(Refusal::ResultShort);
     }
-    put_result(out, job, t, loss);
+    put_result(out, job, asked);
     Ok(())
 }

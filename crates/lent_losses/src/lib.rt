@@ -15,7 +15,7 @@ use rated_bytes::put_heads;
 use wire::Field;
 
 // The most that a section loses, in cm.
-const MOST_LOSS: u32 = 4259775;
+const MOST_LOSS: u32 = 4_259_775;
 
 // The bytes of a heads result.
 const HEADS_LENGTH: usize = 9;
@@ -24,23 +24,23 @@ const HEADS_LENGTH: usize = 9;
 fn read_losses(given: &[u8], count: usize) -> Option<[u32; 64]>
     requires { count ≤ 63 }
     ensures { MatchOption result (losses_ok count given.now ≡ false)
-        (λ at. (losses_ok count given.now ≡ true) × (at ≡ slots 64 1 (count + 1) 0 (loss_in given.now))) }
+        (λ losses. (losses_ok count given.now ≡ true) × (losses ≡ slots 64 1 (count + 1) 0 (loss_in given.now))) }
 {
     if given.len() != 4 * count {
         return None;
     }
-    let mut at = [0; 64];
+    let mut losses = [0; 64];
     for i in 1..=count {
         let loss = u32::at(given, 4 * (i - 1));
         if MOST_LOSS < loss {
             return None;
         }
-        at[i] = loss;
+        losses[i] = loss;
     }
-    Some(at)
+    Some(losses)
 }
 
-// Required head, pump head and dictating section, or a number and the buffer as it was.
+/// Required head, pump head and dictating section, or a number and the buffer as it was.
 pub fn heads(b: &[u8], given: &[u8], out: &mut [u8]) -> Result<(), Refusal>
     ensures number { number_of result ≡ heads_no b.now given.now (length out.old) }
     ensures buffer { out.new ≡ buffer_after (number_of result)

@@ -13,7 +13,7 @@ ghost use Rattle.rated_bytes.specs.RatedBytes.{rate_length, heads_length, heads_
 use fields::Job;
 use wire::Field;
 
-// Flow, velocity in mm/s and loss in cm of a section.
+/// Flow, velocity in mm/s and loss in cm of a section.
 #[derive(Clone, Copy, Default)]
 pub struct Figure {
     pub flow: u32,
@@ -34,14 +34,14 @@ impl Figure {
     }
 }
 
-// The losses at their places.
+/// The losses at their places.
 pub fn losses_of(figures: &[Figure; 64]) -> [u32; 64]
     ensures { result ≡ losses_of figures.now }
 {
     figures.map(|figure| figure.loss)
 }
 
-// The heads: required head, pump head and dictating section.
+/// The heads: required head, pump head and dictating section.
 pub fn put_heads(out: &mut [u8], job: Job, losses: [u32; 64])
     requires { Given job losses × (heads_length ≤ length out.old) }
     ensures { out.new ≡ stored out.old 0 (heads_bytes job (λ i. get_or losses i 0)) }
@@ -52,13 +52,14 @@ pub fn put_heads(out: &mut [u8], job: Job, losses: [u32; 64])
     out[8] = heads.dictating as u8;
 }
 
-// Sections 1 to count, from byte `from` on, each without its first `skip` bytes: a rating leaves out the flows.
+/// Sections 1 to count, from byte `from` on, each without its first `skip` bytes: a rating leaves out the flows.
 pub fn put_sections(out: &mut [u8], from: usize, skip: usize, count: usize, figures: &[Figure; 64])
     requires { (count ≤ 63) × (skip ≤ 10) × (from + (10 - skip) * count ≤ length out.old) }
     ensures { out.new ≡ stored out.old from (concat_to count
         (λ i. drop skip (bytes_of 4 (get_or (flows_of figures.now) i 0)
         ++ (bytes_of 2 (get_or (velocities_of figures.now) i 0) ++ bytes_of 4 (get_or (losses_of figures.now) i 0))))) }
 {
+    // By places, and not by chunks of the buffer: a chunk has a byte at least, and `skip` may be 10.
     let width = 10 - skip;
     for i in 1..=count {
         let bytes = figures[i].bytes();
@@ -66,7 +67,7 @@ pub fn put_sections(out: &mut [u8], from: usize, skip: usize, count: usize, figu
     }
 }
 
-// The whole result of a rating.
+/// The whole result of a rating.
 pub fn put_result(out: &mut [u8], job: Job, figures: &[Figure; 64])
     requires { Given job (losses_of figures.now) × (rate_length (count_of job) ≤ length out.old) }
     ensures { out.new ≡ stored out.old 0

@@ -14,14 +14,14 @@ use answer::Refusal;
 use fields::Job;
 use rated_bytes::{Figure, put_result, put_sections};
 
-// A rated job, with the figures of its sections at their places.
+/// A rated job, with the figures of its sections at their places, in an array since a call has no heap.
 #[derive(Clone, Copy)]
 pub struct Rating {
     pub job: Job,
     pub figures: [Figure; 64],
 }
 
-// What the sections come to with a result buffer of so many bytes, of which the result takes `front` and `each` for each section.
+/// What the sections come to with a result buffer of so many bytes, of which the result takes `front` and `each` for each section.
 pub fn outcome(
     b: &[u8],
     cat: &[u8],
@@ -48,7 +48,7 @@ pub fn outcome(
     Ok(Rating { job, figures })
 }
 
-// Required head, pump head, dictating section, then velocity and loss of each section; or a number and the buffer as it was.
+/// Required head, pump head, dictating section, then velocity and loss of each section; or a number and the buffer as it was.
 pub fn rate(b: &[u8], cat: &[u8], list: &[u8], out: &mut [u8]) -> Result<(), Refusal>
     ensures number { number_of result ≡ rate_no b.now cat.now list.now (length out.old) }
     ensures buffer { out.new ≡ buffer_after (number_of result)
@@ -59,7 +59,7 @@ pub fn rate(b: &[u8], cat: &[u8], list: &[u8], out: &mut [u8]) -> Result<(), Ref
     Ok(())
 }
 
-// Flow, velocity and loss of each section, without the heads; or a number and the buffer as it was.
+/// Flow, velocity and loss of each section, without the heads; or a number and the buffer as it was.
 pub fn losses(b: &[u8], cat: &[u8], list: &[u8], out: &mut [u8]) -> Result<(), Refusal>
     ensures number { number_of result ≡ losses_no b.now cat.now list.now (length out.old) }
     ensures buffer { out.new ≡ buffer_after (number_of result)

@@ -36,6 +36,7 @@ pub fn rate_sections(job: Job, cat: &[u8], list: &[u8]) -> Option<[Figure; 64]>
             job.sections[i].decimetres,
             job.header.tenths,
         )?;
+        // A catalogue gives velocities of two bytes.
         figures[i] = Figure {
             flow: flows[i],
             velocity: tried.velocity as u16,

@@ -62,6 +62,13 @@ row_kept w q r inside p h b n =
     (lt_or_ge p q)
 
 module _ {N : Net} {a : ℕ} {high : ℕ → ℕ} {room : ℕ} (ok : Fillable N a high room) where
+  -- what a section's end can use is at most the head, and its row within the workspace
+  pub row_ends : (p : ℕ) → p ≤ N.sections → high p + 1 ≤ 7001
+  row_ends p l = omega (arith, ok.usable.most p l, ok.narrow)
+
+  pub row_within : (p : ℕ) → p ≤ N.sections → 4 * (p * (a + 1) + (high p + 1)) ≤ room
+  row_within p l = omega (arith, row_fits p N.sections (a + 1) l, ok.usable.most p l, ok.rows)
+
   -- the option of a size, where the section's row holds what the plan says
   pub option_row : (ws : List ℕ) (s h : ℕ) → s ≤ N.sections → h ≤ a → ((x : ℕ) → N.need s ≤ x → x ≤ high s → cell_at ws (s * (a + 1) + x) ≡ cell (plan_of N high) s s x) → (t : ℕ) →
       option_at (N.loss s) (N.cost s) (N.need s) (row_at ws (s * (a + 1)) 0 (high s)) h t ≡ option (plan_of N high) s (cell (plan_of N high) s s) h t
@@ -129,13 +136,13 @@ module _ {N : Net} {a : ℕ} {high : ℕ → ℕ} {room : ℕ} (ok : Fillable N 
       )
 
   -- section s is added to its parent's row: p is as the code has it
-  pub fill_turn : (s : ℕ) {ws ws' : List ℕ} {begun : List Bool} {p : ℕ} → Filling N a high ws begun s → get_or begun s false ≡ true → 0 < s → s ≤ N.sections →
+  pub fill_turn : (s : ℕ) {ws ws' : List ℕ} {begun : List Bool} {p : ℕ} {best : ℕ → ℕ} → Filling N a high ws begun s → get_or begun s false ≡ true → 0 < s → s ≤ N.sections →
       p ≡ N.parent s →
-      Filled ws ws' (p * (a + 1)) (N.need p) (high p + 1)
-      (λ h. min mark (standing (get_or begun p false) ws (p * (a + 1)) h + least_to N.sizes (option_at (N.loss s) (N.cost s) (N.need s) (row_at ws (s * (a + 1)) 0 (high s)) h))) →
+      ((h : ℕ) → N.need p ≤ h → h < high p + 1 → best h ≡ least_to N.sizes (option_at (N.loss s) (N.cost s) (N.need s) (row_at ws (s * (a + 1)) 0 (high s)) h)) →
+      Filled ws ws' (p * (a + 1)) (N.need p) (high p + 1) (λ h. min mark (standing (get_or begun p false) ws (p * (a + 1)) h + best h)) →
       Filling N a high ws' (set begun p true) (s - 1)
-  fill_turn zero fill own z b ep r = absurd (omega arith)
-  fill_turn (suc s) {ws} {ws'} {begun} {p} fill own z b ep r =
+  fill_turn zero fill own z b ep is r = absurd (omega arith)
+  fill_turn (suc s) {ws} {ws'} {begun} {p} fill own z b ep is r =
       let e : suc s - 1 ≡ s = omega arith in
       let low : p ≤ N.sections = omega (arith, ok.sound.lower (suc s) (omega arith) b) in
       rw e
@@ -143,6 +150,7 @@ module _ {N : Net} {a : ℕ} {high : ℕ → ℕ} {room : ℕ} (ok : Fillable N 
       (λ h n m.
       rw (
         stands fill p h low n m,
+        is h n (omega arith),
         least_row ws (suc s) h b (omega (arith, ok.usable.most p low)) (λ x y k. fill.at (suc s) x b own y k),
       )
       (rw ep (sym (cell_parent (plan_of N high) s h b))))

@@ -1,10 +1,9 @@
 // All rows, from the last section to the first.
-ghost use Rattle.std.specs.Prelude.{◌≡◌, true, false, ℕ, ◌+◌, ◌-◌, ◌*◌, ◌≤◌, ◌<◌, length, get_or, set};
+ghost use Rattle.std.specs.Prelude.{◌≡◌, true, false, ◌-◌, ◌≤◌, ◌<◌, length, get_or};
 ghost use Rattle.nets.specs.NetIn.{net_in};
-ghost use Rattle.cells.specs.Steps.{Filled, standing};
 ghost use Rattle.rows.specs.Steps.{Fillable, Filling, Holds};
 
-use crate::raise::{raise, row_of};
+use crate::raise::{bests, hand_up, row_of};
 use cells::settle;
 use nets::Tables;
 use plan::MARK;
@@ -43,16 +42,16 @@ fn take_up(
 )
     requires fillable { Fillable (net_in tables.now) head (λ s. get_or highs.now s 0) (length ws.old) }
     requires filling_2 { Filling (net_in tables.now) head (λ s. get_or highs.now s 0) ws.old begun.old s }
-    requires s_nonzero { (0 < s) × (s ≤ tables.now.sections) × (length best.old ≡ 7001) }
-    ensures long { (length ws.new ≡ length ws.old) × (length best.new ≡ 7001) }
+    requires s_nonzero { (0 < s) × (s ≤ tables.now.sections) }
+    ensures long { length ws.new ≡ length ws.old }
     ensures filling { Filling (net_in tables.now) head (λ s. get_or highs.now s 0) ws.new begun.new (s - 1) }
 {
     complete(ws, begun, tables, highs, head, s);
     let row = row_of(tables, highs, head, s);
     let p = usize::from(tables.parents[s]);
     let parent = row_of(tables, highs, head, p);
-    raise(ws, best, tables, row, begun[p], parent);
-    begun[p] = true;
+    bests(ws, best, tables, row, parent);
+    hand_up(ws, best, begun, p, parent);
 }
 
 // Each row from what its end needs to what it can use: a section is added to its parent's, the last first, so that its own row is complete by then.
@@ -62,6 +61,7 @@ pub fn fill(ws: &mut [u8], tables: &Tables, highs: &[usize; 64], head: usize)
     ensures holds { Holds (net_in tables.now) head (λ s. get_or highs.now s 0) ws.new }
 {
     let mut best = [MARK; 7001];
+    // Which rows hold something: tried, a workspace that is cleared first takes longer (docs/PERFORMANCE.md).
     let mut begun = [false; 64];
     for s in (1..=tables.sections).rev() {
         take_up(ws, &mut best, &mut begun, tables, highs, head, s);

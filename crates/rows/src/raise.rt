@@ -1,7 +1,7 @@
 // A section is added to its parent's row.
-ghost use Rattle.std.specs.Prelude.{◌≡◌, true, ℕ, ◌+◌, ◌-◌, ◌*◌, ◌≤◌, ◌<◌, min, length, get_or};
+ghost use Rattle.std.specs.Prelude.{◌≡◌, true, false, ℕ, ◌+◌, ◌-◌, ◌*◌, ◌≤◌, ◌<◌, min, length, get_or, set};
 ghost use Rattle.nets.specs.Tables.{top};
-ghost use Rattle.plan.specs.Plan.{mark, least_to};
+ghost use Rattle.plan.specs.Plan.{mark};
 ghost use Rattle.cells.specs.Cells.{cell_at};
 ghost use Rattle.rows.specs.Steps.{row_of, options_of, Offerable, Lowest, Flat};
 ghost use Rattle.cells.specs.Steps.{Filled, standing};
@@ -103,8 +103,8 @@ fn offer_next(
 }
 
 // The best cost of a section's sizes at each of its parent's heads.
-fn bests(ws: &[u8], best: &mut [u32; 7001], tables: &Tables, row: Row, parent: Row)
-    requires { Offerable row tables.now.sizes parent.need (parent.high + 1) tables.now.costs ws.now × (length best.old ≡ 7001) }
+pub fn bests(ws: &[u8], best: &mut [u32; 7001], tables: &Tables, row: Row, parent: Row)
+    requires { Offerable row tables.now.sizes parent.need (parent.high + 1) tables.now.costs ws.now }
     ensures { Lowest best.new parent.need (parent.high + 1) tables.now.sizes (options_of row tables.now.losses tables.now.costs ws.now) }
 {
     fresh(best, parent.heads());
@@ -117,37 +117,19 @@ fn bests(ws: &[u8], best: &mut [u32; 7001], tables: &Tables, row: Row, parent: R
     }
 }
 
-// Adds the best costs to what stands in a row, or writes them there where nothing does yet.
-fn hand_up(ws: &mut [u8], best: &[u32; 7001], begun: bool, row: Row)
-    requires end_bound { (row.high + 1 ≤ 7001) × (4 * (row.first + (row.high + 1)) ≤ length ws.old) }
-    requires h_bound { begun ≡ true → (h : ℕ) → row.need ≤ h → h < row.high + 1 → cell_at ws.old (row.first + h) ≤ mark }
+// Adds the best costs to what stands in row p, or writes them there where nothing does yet.
+pub fn hand_up(ws: &mut [u8], best: &[u32; 7001], begun: &mut [bool; 64], p: usize, row: Row)
+    requires end_bound { (p < 64) × (row.high + 1 ≤ 7001) × (4 * (row.first + (row.high + 1)) ≤ length ws.old) }
+    requires h_bound { get_or begun.old p false ≡ true → (h : ℕ) → row.need ≤ h → h < row.high + 1 → cell_at ws.old (row.first + h) ≤ mark }
     requires by_index { (h : ℕ) → row.need ≤ h → h < row.high + 1 → get_or best.now h 0 ≤ mark }
-    ensures { Filled ws.old ws.new row.first row.need (row.high + 1)
-        (λ h. min mark (standing begun ws.old row.first h + get_or best.now h 0)) }
+    ensures filled { Filled ws.old ws.new row.first row.need (row.high + 1)
+        (λ h. min mark (standing (get_or begun.old p false) ws.old row.first h + get_or best.now h 0)) }
+    ensures begun { begun.new ≡ set begun.old p true }
 {
-    if begun {
+    if begun[p] {
         add(ws, best, row.first, row.heads());
     } else {
         place(ws, best, row.first, row.heads());
     }
-}
-
-// Adds the cheapest of a section's sizes to what stands in its parent's row.
-pub fn raise(
-    ws: &mut [u8],
-    best: &mut [u32; 7001],
-    tables: &Tables,
-    row: Row,
-    begun: bool,
-    parent: Row,
-)
-    requires offerable { Offerable row tables.now.sizes parent.need (parent.high + 1) tables.now.costs ws.old × (length best.old ≡ 7001)
-        × (4 * (parent.first + (parent.high + 1)) ≤ length ws.old) }
-    requires h_bound { begun ≡ true → (h : ℕ) → parent.need ≤ h → h < parent.high + 1 → cell_at ws.old (parent.first + h) ≤ mark }
-    ensures filled { Filled ws.old ws.new parent.first parent.need (parent.high + 1)
-        (λ h. min mark (standing begun ws.old parent.first h + least_to tables.now.sizes (options_of row tables.now.losses tables.now.costs ws.old h))) }
-    ensures long { length best.new ≡ 7001 }
-{
-    bests(ws, best, tables, row, parent);
-    hand_up(ws, best, begun, parent);
+    begun[p] = true;
 }

@@ -129,6 +129,7 @@ fn unmatched_kind(job: Job) -> bool
 }
 
 /// The first of 5, 6 and 7 that the job breaks, if it breaks one.
+#[tactic(auto, using(crate::proofs::Kept::rooted_of, crate::proofs::Kept::kinds_of), unfolding(crate::specs::Rules::field_checks, answer::specs::Checks::first_no))]
 pub fn broken_rule(job: Job) -> Result<(), Refusal>
     requires { count_of job ≤ 63 }
     ensures { number_of result ≡ first_no (field_checks job) }

@@ -49,17 +49,16 @@ pub fn sets(job: Job) -> [u64; 64]
     sets
 }
 
-// All fixtures at the ends of section i's set, those of the house where i is 0: bit by bit from the section's own up, as no section of the
-// set has a lower number.
+// All fixtures at the ends of section i's set, those of the house where i is 0: bit by bit from the section's own, as no section of the set
+// has a lower number, to the set's highest.
 pub fn fixtures_below(job: Job, set: u64, i: usize) -> u64
     requires { Rooted job × (i ≤ count_of job) × (set ≡ set_of job i) }
     ensures { result ≡ fixtures_below job i }
 {
+    let end = (u64::BITS - set.leading_zeros()) as usize;
     let mut sum = 0;
-    for j in i..=usize::from(job.header.sections) {
-        if (set >> j) & 1 == 1 {
-            sum += u64::from(job.sections[j].fixtures);
-        }
+    for j in i..end {
+        sum += ((set >> j) & 1) * u64::from(job.sections[j].fixtures);
     }
     sum
 }
@@ -98,7 +97,7 @@ fn gather(job: Job, n: &mut [u32; 768])
 }
 
 // The fixtures of each kind at a section's end or at any end below it: kind c + 1 of section i at place i * 12 + c. Row 0 is the house.
-// One list, no array of rows: the contracts here and above speak of one list, and each of rows would say the length of every row too.
+// One list and no array of rows, which would be no plainer: each contract, here and above, would have to say how long every row is.
 #[tactic(auto, using(crate::proofs::Filled::zeros))]
 pub fn counts(job: Job) -> [u32; 768]
     requires { Rooted job × Kinds job }

@@ -4,7 +4,6 @@ use Rattle.std.proofs.Common.{arith, sym, ◌∙◌}
 use Rattle.answer.proofs.Some.{number_at_exit}
 use Rattle.acceptance.proofs.Accepting.{job_refused, accept_accepted}
 use Rattle.heating.specs.Calls.{heat_no}
-use Rattle.heating.proofs.Ordering.{heat_in}
 use Rattle.heating.proofs.heat.Goals as goal
 
 pub returns-in_err-job-clause-number : goal.returns-in_err-job-clause-number
@@ -13,5 +12,4 @@ returns-in_err-job-clause-number c = number_at_exit _ _ c.from_residual.ensures.
 
 pub put_result-requires : goal.put_result-requires
 put_result-requires c =
-    let inside = heat_in c.args.t c.args.loss (sym c.heat_ok.ensures ∙ c.if-not-heat_ok.false) in
-    (rw c.in_ok-job.ensures.job (accept_accepted _ (sym c.in_ok-job.ensures.number)), c.if-job-ne-HOT.false, inside.cold, inside.lost, omega arith)
+    (rw c.in_ok-job.ensures.job (accept_accepted _ (sym c.in_ok-job.ensures.number)), omega arith, omega arith)

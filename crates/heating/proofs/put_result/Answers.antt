@@ -9,8 +9,7 @@ use Rattle.heating.proofs.put_result.Goals as goal
 
 pub watts-mean-requires : goal.watts-mean-requires
 watts-mean-requires c =
-    rw c.mean_of.ensures
-    (hot_mean_top c.requires.0.valid c.requires.1 (λ kind p q. search rules), omega arith, omega arith)
+    rw c.mean_of.ensures (hot_mean_top c.requires.0.valid c.requires.1 (λ kind p q. search rules))
 
 pub returns : goal.returns
 unfolding heat_bytes bytes_of

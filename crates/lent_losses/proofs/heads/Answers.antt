@@ -1,6 +1,6 @@
 -- The heads call: 1 to 9, 19 and 14 in turn, then the heads with the losses that are given.
 -- Assumes nothing.
-use Rattle.std.proofs.Common.{◌≡◌, ℕ, List, ◌+◌, ◌≤◌, true, false, sym, ap, ◌∙◌, refl, rules, arith}
+use Rattle.std.proofs.Common.{◌≡◌, ℕ, List, ◌+◌, true, sym, ap, ◌∙◌, arith}
 use Rattle.basis.specs.Slots.{slots}
 use Rattle.basis.specs.Stored.{stored}
 use Rattle.answer.specs.declared.Refusal.TheVariants.{LossList}
@@ -14,7 +14,6 @@ use Rattle.acceptance.specs.Acceptance.{job_no}
 use Rattle.acceptance.proofs.Accepting.{accept_accepted}
 use Rattle.demand.proofs.Validity.{valid_count}
 use Rattle.lent_losses.specs.LentLosses.{loss_in, losses_ok}
-use Rattle.rated_bytes.specs.RatedBytes.{heads_bytes}
 use Rattle.lent_losses.proofs.Listed.{losses_top}
 use Rattle.lent_losses.proofs.Ordering.{heads_exit, heads_listed, heads_short, heads_done}
 use Rattle.lent_losses.proofs.Placed.{given_of, given_bytes}

@@ -1,9 +1,10 @@
 -- A list that 19 lets pass stands at the sections' places.
 -- Assumes nothing.
-use Rattle.std.proofs.Common.{◌≡◌, ◌+◌, ◌-◌, ◌≤◌, sym, ◌∙◌, rules, arith}
+use Rattle.std.proofs.Common.{◌≡◌, arith}
 use Rattle.lent_losses.specs.LentLosses.{loss_in}
 use Rattle.lent_losses.proofs.Listed.{other_length, one_over, listed_none, listed_more, listed_all}
 use Rattle.lent_losses.proofs.read_losses.Goals as goal
+use Rattle.lent_losses.proofs.read_losses.Goals.{After-at-loss}
 
 pub returns-then-given-count : goal.returns-then-given-count
 returns-then-given-count c = other_length _ _ (λ e. omega arith)
@@ -11,19 +12,23 @@ returns-then-given-count c = other_length _ _ (λ e. omega arith)
 pub loop-i-init : goal.loop-i-init
 loop-i-init c = (omega arith, listed_none _)
 
-pub returns-then-loss-gt-MOST_LOSS : goal.returns-then-loss-gt-MOST_LOSS
+-- the number read is the loss of section i
+read : (c : After-at-loss) → c.at-loss.result ≡ loss_in c.args.given.now c.loop-i.i
 unfolding loss_in
+read c = c.at-loss.ensures
+
+pub returns-then-loss-gt-MOST_LOSS : goal.returns-then-loss-gt-MOST_LOSS
 returns-then-loss-gt-MOST_LOSS c =
-    one_over _ _ (omega arith) c.loop-i.i (omega arith) (omega arith) (rw (← c.at-loss.ensures) (omega arith))
+    one_over _ _ (omega arith) c.loop-i.i (omega arith) (omega arith) (rw (← read (goal.at.returns-then-loss-gt-MOST_LOSS c).After-at-loss) (omega arith))
 
 pub loop-i-preserved : goal.loop-i-preserved
-unfolding loss_in
-loop-i-preserved c = (omega arith, listed_more _ c.loop-i.invariant.1 (omega arith) (omega arith) c.at-loss.ensures (omega arith))
+loop-i-preserved c =
+    (omega arith, listed_more _ c.loop-i.invariant.1 (omega arith) (omega arith) (read (goal.at.loop-i-preserved c).After-at-loss) (omega arith))
 
 pub returns-else-given-count : goal.returns-else-given-count
 returns-else-given-count c = listed_all _ _ c.loop-i.invariant.1 (omega arith) (omega arith)
 
 pub returns-else-loss-gt-MOST_LOSS : goal.returns-else-loss-gt-MOST_LOSS
-unfolding loss_in
 returns-else-loss-gt-MOST_LOSS c =
-    listed_all _ _ (listed_more _ c.loop-i.invariant.1 (omega arith) (omega arith) c.at-loss.ensures (omega arith)) (omega arith) (omega arith)
+    let read_loss = read (goal.at.returns-else-loss-gt-MOST_LOSS c).After-at-loss in
+    listed_all _ _ (listed_more _ c.loop-i.invariant.1 (omega arith) (omega arith) read_loss (omega arith)) (omega arith) (omega arith)

@@ -5,4 +5,4 @@ use Rattle.lent_losses.proofs.Listed.{Listed}
 use Rattle.lent_losses.proofs.read_losses.Given as goal
 
 abbrev pub invariant-loop-i : goal.invariant-loop-i
-invariant-loop-i l = (l.i ≤ l.count + 1) × Listed l.given l.at l.i
+invariant-loop-i l = (l.i ≤ l.count + 1) × Listed l.given l.losses l.i

@@ -1,6 +1,6 @@
 -- `catalogue::accept::rows_ok`: a row that breaks a rule refuses the rows, and where each is seen they keep the rules.
 -- Assumes nothing.
-use Rattle.std.proofs.Common.{◌≡◌, sym, ◌∙◌, arith}
+use Rattle.std.proofs.Common.{◌≡◌, length, sym, arith}
 use Rattle.catalogue.proofs.RowBounds.{seen_first, seen_more, seen_rows, own_refused, rises_refused}
 use Rattle.catalogue.proofs.accept.rows_ok.Goals.{then-not-row_ok-2-via-then-not-row_ok-2, then-not-row_ok-2-via-else-not-row_ok-2+then-not-rises_at}
 use Rattle.catalogue.proofs.accept.rows_ok.Goals as goal
@@ -23,5 +23,5 @@ loop-k-preserved c = seen_more _ c.loop-k.k (omega arith) c.loop-k.invariant (cc
 
 pub returns : goal.returns
 returns c =
-    let e : c.loop-k.k ≡ c.args.n = omega arith in
+    let e : c.loop-k.k ≡ length c.args.rows.now = omega arith in
     sym (seen_rows _ _ (rw e at c.loop-k.invariant))

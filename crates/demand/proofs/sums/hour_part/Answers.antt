@@ -3,14 +3,15 @@
 use Rattle.std.proofs.Common.{◌≡◌, ◌*◌, arith, sym}
 use Rattle.std.proofs.Math.Nat.{mul-zero}
 use Rattle.basis.proofs.Round.{up_zero}
-use Rattle.norms.specs.Norms.{norm_of}
+use Rattle.fields.specs.Fields.{residents_of}
+use Rattle.demand.specs.Demand.{norm_at}
 use Rattle.demand.proofs.Tops.{hour_fits, hour_share_top, hourly_top}
 use Rattle.demand.proofs.sums.hour_part.Goals as goal
 
 pub returns-then-residents-eq0 : goal.returns-then-residents-eq0
 returns-then-residents-eq0 c =
-    let norm = norm_of c.args.service c.args.kind in
-    let none : c.args.residents ≡ 0 = omega arith in
+    let norm = norm_at c.args.job.now c.args.kind in
+    let none : residents_of c.args.job.now c.args.kind ≡ 0 = omega arith in
     rw (c.default.ensures.0, c.default.ensures.1) record {
       share_is = rw (none, mul-zero (100000 * norm.hour)) (sym (up_zero norm.hourly));
       share_top = omega arith;
@@ -18,26 +19,26 @@ returns-then-residents-eq0 c =
       weighted_top = omega arith;
     }
 
-pub overflow_mul-norm : goal.overflow_mul-norm
-overflow_mul-norm c = let f = hour_fits c.args.service c.norm_of-norm.ensures c.requires in omega arith
+pub overflow_mul-hour : goal.overflow_mul-hour
+overflow_mul-hour c = let f = hour_fits _ c.norm_of-hour.ensures c.from-residents.result (omega arith) c.requires in omega arith
 
-pub overflow_mul-norm-2 : goal.overflow_mul-norm-2
-overflow_mul-norm-2 c = let f = hour_fits c.args.service c.norm_of-norm.ensures c.requires in omega arith
+pub overflow_mul-hour-2 : goal.overflow_mul-hour-2
+overflow_mul-hour-2 c = let f = hour_fits _ c.norm_of-hour.ensures c.from-residents.result (omega arith) c.requires in omega arith
 
 pub divide_up-shares-requires : goal.divide_up-shares-requires
-divide_up-shares-requires c = let f = hour_fits c.args.service c.norm_of-norm.ensures c.requires in omega arith
+divide_up-shares-requires c = let f = hour_fits _ c.norm_of-hour.ensures c.from-residents.result (omega arith) c.requires in omega arith
 
 pub overflow_mul-result : goal.overflow_mul-result
 overflow_mul-result c =
-    let f = hour_fits c.args.service c.norm_of-norm.ensures c.requires in
+    let f = hour_fits _ c.norm_of-hour.ensures c.from-residents.result (omega arith) c.requires in
     omega (arith, hourly_top f c.divide_up-shares.ensures)
 
 pub returns : goal.returns
 returns c =
-    let f = hour_fits c.args.service c.norm_of-norm.ensures c.requires in
+    let f = hour_fits _ c.norm_of-hour.ensures c.from-residents.result (omega arith) c.requires in
     record {
-      share_is = rw (← c.norm_of-norm.ensures) c.divide_up-shares.ensures;
+      share_is = rw (← c.norm_of-hour.ensures, ← c.from-residents.ensures) c.divide_up-shares.ensures;
       share_top = hour_share_top f c.divide_up-shares.ensures;
-      weighted_is = rw c.norm_of-norm.ensures;
+      weighted_is = rw c.norm_of-hour.ensures;
       weighted_top = hourly_top f c.divide_up-shares.ensures;
     }

@@ -1,8 +1,9 @@
 -- `demand::sums::part_of` meets its contract: a kind without fixtures adds nothing, and else the products fit, by the bounds of the norms.
 -- Assumes nothing.
-use Rattle.std.proofs.Common.{◌≡◌, ◌<◌, arith, sym}
+use Rattle.std.proofs.Common.{◌≡◌, arith, sym}
 use borrow.Author.Tests.{ne_eqb, lt-ltb}
-use Rattle.norms.specs.Norms.{norm_of}
+use Rattle.fields.specs.Fields.{residents_of}
+use Rattle.demand.specs.Demand.{norm_at}
 use Rattle.demand.proofs.Equations.{share_by}
 use Rattle.demand.proofs.Shares.{by_zero}
 use Rattle.demand.proofs.Tops.{share_fits, share_top, fixture_top}
@@ -13,47 +14,47 @@ unfolding share_by
 returns-then-n-eq0 c =
     let none : c.args.n ≡ 0 = omega arith in
     rw (c.default.ensures.0, c.default.ensures.1.0, c.default.ensures.1.1) record {
-      share_is = rw none (sym (by_zero (norm_of c.args.service c.args.kind) c.args.residents c.args.house));
+      share_is = rw none (sym (by_zero (norm_at c.args.job.now c.args.kind) (residents_of c.args.job.now c.args.kind) c.args.house));
       share_top = omega arith;
       weighted_is = omega arith;
       weighted_top = omega arith;
       tap_is = rw none;
     }
 
-pub overflow_mul-norm : goal.overflow_mul-norm
-overflow_mul-norm c = let f = share_fits c.args.service c.norm_of-norm.ensures c.requires (omega arith) in omega arith
+pub overflow_mul-hour : goal.overflow_mul-hour
+overflow_mul-hour c = let f = share_fits _ c.norm_of-hour.ensures c.from-residents.result (omega arith) c.requires (omega arith) in omega arith
 
-pub overflow_mul-norm-2 : goal.overflow_mul-norm-2
-overflow_mul-norm-2 c = let f = share_fits c.args.service c.norm_of-norm.ensures c.requires (omega arith) in omega arith
+pub overflow_mul-hour-2 : goal.overflow_mul-hour-2
+overflow_mul-hour-2 c = let f = share_fits _ c.norm_of-hour.ensures c.from-residents.result (omega arith) c.requires (omega arith) in omega arith
 
-pub overflow_mul-norm-3 : goal.overflow_mul-norm-3
-overflow_mul-norm-3 c = let f = share_fits c.args.service c.norm_of-norm.ensures c.requires (omega arith) in omega arith
+pub overflow_mul-hour-3 : goal.overflow_mul-hour-3
+overflow_mul-hour-3 c = let f = share_fits _ c.norm_of-hour.ensures c.from-residents.result (omega arith) c.requires (omega arith) in omega arith
 
-pub overflow_mul-norm-4 : goal.overflow_mul-norm-4
-overflow_mul-norm-4 c = let f = share_fits c.args.service c.norm_of-norm.ensures c.requires (omega arith) in omega arith
+pub overflow_mul-fixture : goal.overflow_mul-fixture
+overflow_mul-fixture c = let f = share_fits _ c.norm_of-hour.ensures c.from-residents.result (omega arith) c.requires (omega arith) in omega arith
 
-pub overflow_mul-norm-5 : goal.overflow_mul-norm-5
-overflow_mul-norm-5 c = let f = share_fits c.args.service c.norm_of-norm.ensures c.requires (omega arith) in omega arith
+pub overflow_mul-fixture-2 : goal.overflow_mul-fixture-2
+overflow_mul-fixture-2 c = let f = share_fits _ c.norm_of-hour.ensures c.from-residents.result (omega arith) c.requires (omega arith) in omega arith
 
 pub divide_up-share-requires : goal.divide_up-share-requires
-divide_up-share-requires c = let f = share_fits c.args.service c.norm_of-norm.ensures c.requires (omega arith) in omega arith
+divide_up-share-requires c = let f = share_fits _ c.norm_of-hour.ensures c.from-residents.result (omega arith) c.requires (omega arith) in omega arith
 
 pub overflow_mul-result : goal.overflow_mul-result
 overflow_mul-result c =
-    let f = share_fits c.args.service c.norm_of-norm.ensures c.requires (omega arith) in
+    let f = share_fits _ c.norm_of-hour.ensures c.from-residents.result (omega arith) c.requires (omega arith) in
     omega (arith, fixture_top f c.divide_up-share.ensures)
 
 pub overflow_mul-result-2 : goal.overflow_mul-result-2
-overflow_mul-result-2 c = let f = share_fits c.args.service c.norm_of-norm.ensures c.requires (omega arith) in omega arith
+overflow_mul-result-2 c = let f = share_fits _ c.norm_of-hour.ensures c.from-residents.result (omega arith) c.requires (omega arith) in omega arith
 
 pub returns : goal.returns
 returns c =
-    let f = share_fits c.args.service c.norm_of-norm.ensures c.requires (omega arith) in
+    let f = share_fits _ c.norm_of-hour.ensures c.from-residents.result (omega arith) c.requires (omega arith) in
     let some : c.args.house ≡ 0 → ⊥ = λ e. omega arith in
     record {
-      share_is = rw (ne_eqb _ _ some, ← c.norm_of-norm.ensures) c.divide_up-share.ensures;
+      share_is = rw (ne_eqb _ _ some, ← c.norm_of-hour.ensures, ← c.from-residents.ensures) c.divide_up-share.ensures;
       share_top = share_top f c.divide_up-share.ensures;
-      weighted_is = rw c.norm_of-norm.ensures;
+      weighted_is = rw c.norm_of-hour.ensures;
       weighted_top = fixture_top f c.divide_up-share.ensures;
-      tap_is = rw (lt-ltb 0 c.args.n (omega arith), c.norm_of-norm.ensures);
+      tap_is = rw (lt-ltb 0 c.args.n (omega arith), c.norm_of-hour.ensures);
     }

@@ -1,7 +1,6 @@
 -- `demand::sums::sums_of` meets its contract: a kind's part is added to those before it, and its tap compared with theirs.
 -- Assumes nothing.
-use Rattle.std.proofs.Common.{◌≡◌, ◌-◌, ◌*◌, arith, ap, sym, ◌∙◌}
-use Rattle.basis.specs.Range.{most_to}
+use Rattle.std.proofs.Common.{◌≡◌, ◌-◌, ◌*◌, arith, sym, ◌∙◌}
 use Rattle.basis.proofs.Most.{most_none}
 use Rattle.tree.specs.Tree.{served_of}
 use Rattle.demand.specs.Demand.{share_of, m_of, fixture_sum_of, tap_of}
@@ -17,7 +16,7 @@ loop-kind-init c =
 pub part_of-part-requires : goal.part_of-part-requires
 part_of-part-requires c =
     let k = kind_counts {i = c.args.i} {kind = c.loop-kind.kind} c.requires.0 c.requires.1 (omega arith) (omega arith, omega arith) in
-    (omega arith, omega arith, omega arith, omega arith, omega arith)
+    (omega arith, omega arith, omega arith, omega arith)
 
 pub loop-kind-preserved : goal.loop-kind-preserved
 unfolding share_of tap_of
@@ -28,7 +27,7 @@ loop-kind-preserved c =
     let k = kind_counts {i = c.args.i} {kind = c.loop-kind.kind} c.requires.0 c.requires.1 (omega arith) (omega arith, omega arith) in
     let n : c.from-n.result ≡ served c.loop-kind.kind = c.from-n.ensures ∙ k.served in
     let share : c.part_of-part.result.m ≡ share_of job served c.loop-kind.kind =
-    rw (← c.from-residents.ensures, ← n, ← k.house, ← c.from-house.ensures) part.share_is in
+    rw (← n, ← k.house, ← c.from-house.ensures) part.share_is in
     let tap : c.part_of-part.result.tap ≡ 10 * tap_of job served c.loop-kind.kind = part.tap_is ∙ rw n in (
       omega arith,
       sum_turn c.loop-kind.invariant.1 (omega arith) share part.share_top,

@@ -1,7 +1,7 @@
 -- The sections' figures, where the sections are rated; the result has no bytes before them.
 -- Assumes nothing.
 use Rattle.std.proofs.Common.{◌≡◌, ℕ, List, ◌+◌, ◌*◌, ap, ◌∙◌, refl, arith, zero-add}
-use Rattle.answer.proofs.Some.{number_at_exit, buffer_at_exit}
+use Rattle.answer.proofs.Some.{number_at_exit}
 use Rattle.fields.specs.Fields.{count_of}
 use Rattle.record.specs.Record.{decode}
 use Rattle.rated_bytes.specs.RatedBytes.{figures_bytes}
@@ -12,11 +12,8 @@ use Rattle.rating.proofs.call.losses.Goals as goal
 counted : (b cat list : List ℕ) (room : ℕ) → sized_no b cat list room (0 + 10 * count_of (decode b)) ≡ losses_no b cat list room
 counted b cat list room = ap (sized_no b cat list room) (zero-add (10 * count_of (decode b)))
 
-pub returns-in_err-rated : goal.returns-in_err-rated
-returns-in_err-rated c = record {
-  number = number_at_exit _ _ c.from_residual.ensures.1 ∙ c.in_err-rated.ensures.number ∙ counted _ _ _ _;
-  buffer = buffer_at_exit _ _ c.from_residual.ensures.1 _ _;
-}
+pub returns-in_err-rated-clause-number : goal.returns-in_err-rated-clause-number
+returns-in_err-rated-clause-number c = number_at_exit _ _ c.from_residual.ensures.1 ∙ c.in_err-rated.ensures.number ∙ counted _ _ _ _
 
 pub put_sections-requires : goal.put_sections-requires
 put_sections-requires c =
@@ -24,12 +21,12 @@ put_sections-requires c =
     let count : c.from-count.result ≡ count_of c.in_ok-rated.rated.job = c.from-count.ensures in
     (rw count (rated_count r).high, omega arith, rw count (rated_room r 0 10 refl))
 
-pub returns : goal.returns
+pub returns-clause-number : goal.returns-clause-number
+returns-clause-number c = c.in_ok-rated.ensures.number ∙ counted _ _ _ _
+
+pub returns-clause-buffer : goal.returns-clause-buffer
 unfolding figures_bytes
-returns c =
+returns-clause-buffer c =
     let r = c.in_ok-rated.ensures.rated in
     let count : c.from-count.result ≡ count_of c.in_ok-rated.rated.job = c.from-count.ensures in
-    record {
-      number = c.in_ok-rated.ensures.number ∙ counted _ _ _ _;
-      buffer = c.put_sections.ensures ∙ rw (count, rated_sections r, r.fields) refl;
-    }
+    c.put_sections.ensures ∙ rw (count, rated_sections r, r.fields) refl

@@ -7,5 +7,5 @@ use Rattle.rows.proofs.filling.fill.Given as goal
 
 abbrev pub invariant-loop-s : goal.invariant-loop-s
 invariant-loop-s l =
-    (l.s ≤ l.tables.sections) × (length l.ws ≡ length l.initial.ws) × (length l.best ≡ 7001) ×
+    (l.s ≤ l.tables.sections) × (length l.ws ≡ length l.initial.ws) ×
     Filling (net_in l.tables) l.head (λ s. get_or l.highs s 0) l.ws l.begun l.s
