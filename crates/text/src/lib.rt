@@ -4,24 +4,22 @@
 ghost use Rattle.std.specs.Prelude.{◌≡◌, [], ◌∷◌, ◌++◌, ◌+◌, ◌<◌, ◌≤◌, length};
 ghost use Rattle.text.specs.Figures.{decimal, signed_decimal};
 
+use arrayvec::ArrayVec;
 use itoa::{Buffer, Integer};
 use std::marker::Model;
 
 /// At most 4,096 bytes of text. Clauses see the bytes.
 #[derive(Drop)]
 pub struct Text {
-    bytes: [u8; 4096],
-    length: usize,
+    bytes: ArrayVec<u8, 4096>,
 }
 
 impl Model for Text {
-    ghost use Rattle.std.specs.Prelude.{List, ℕ, take, ◌≤◌};
+    ghost use Rattle.std.specs.Prelude.{List, ℕ};
 
     ghost Value = { List ℕ };
 
-    ghost view = { λ t. take t.length t.bytes };
-
-    ghost invariant = { λ t. t.length ≤ 4096 };
+    ghost view = { λ t. t.bytes.items };
 }
 
 impl Text {
@@ -30,8 +28,7 @@ impl Text {
         ensures { result ≡ [] }
     {
         Text {
-            bytes: [0; 4096],
-            length: 0,
+            bytes: ArrayVec::new(),
         }
     }
 
@@ -40,7 +37,7 @@ impl Text {
         ensures bytes { result.now ≡ self.now }
         ensures room { length result.now ≤ 4096 }
     {
-        &self.bytes[..self.length]
+        self.bytes.as_slice()
     }
 
     // One byte.
@@ -48,18 +45,15 @@ impl Text {
         requires { length self.old + 1 ≤ 4096 }
         ensures { self.new ≡ self.old ++ b ∷ [] }
     {
-        self.bytes[self.length] = b;
-        self.length += 1;
+        self.bytes.push(b);
     }
 
-    // The bytes of a word.
+    // The bytes of a word. They have room, so nothing is handed back.
     pub fn push_word(&mut self, word: &[u8])
         requires { length self.old + length word.now ≤ 4096 }
         ensures { self.new ≡ self.old ++ word.now }
     {
-        let end = self.length + word.len();
-        self.bytes[self.length..end].copy_from_slice(word);
-        self.length = end;
+        let _ = self.bytes.try_extend_from_slice(word);
     }
 
     // A space and a figure.

@@ -10,13 +10,13 @@ mod vector_lines;
 
 use print::Output;
 use std::io;
-use std::io::{Lock, Read, Write};
+use std::io::{Read, Write};
 use vector_lines::Line;
 
 // A read that fails ends the input, and output that cannot be written ends the program, as ever.
 fn main(rt: HostRuntime) {
     let mut to = Output::new(rt.stdout());
-    let _ = answer_all(&mut rt.stdin().lock(), &mut to);
+    let _ = answer_all(&mut rt.stdin(), &mut to);
 }
 
 fn answer_all(input: &mut impl Read, to: &mut Output) -> io::Result<()> {
