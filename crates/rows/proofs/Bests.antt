@@ -1,13 +1,12 @@
 -- The best costs of a section at each head, with one size more.
 -- Assumes nothing.
-use mathlib.Core.Path.{◌≡◌, sym, ◌∙◌}
+use mathlib.Core.Path.{◌≡◌, ◌∙◌}
 use mathlib.Core.List.{List}
 use Prim.Native.Nat.{ℕ, zero, suc, ◌+◌, ◌-◌, ◌*◌, ◌≤◌, ◌<◌, min, max}
 use native.Mathlib.Omega.{arith}
-use lib.ListN.{length, get_or}
 use Rattle.std.proofs.lemmas.Bool.Decides.{nat_tests}
 use Rattle.plan.specs.Plan.{mark, least_to}
-use Rattle.plan.proofs.Least.{least_none, least_more, least_most}
+use Rattle.plan.proofs.Least.{least_more, least_most}
 use Rattle.cells.specs.Cells.{cell_at}
 use Rattle.cells.specs.Steps.{Offered}
 use Rattle.rows.specs.declared.raise.Row.{Row}
@@ -26,11 +25,6 @@ module _ (s : Row) (losses costs ws : List ℕ) (h t : ℕ) where
 least_at : (t : ℕ) (f : ℕ → ℕ) → 0 < t → least_to t f ≡ min (least_to (t - 1) f) (f t)
 least_at zero f p = absurd (omega arith)
 least_at (suc n) f p = let e : suc n - 1 ≡ n = omega arith in rw e (least_more n f)
-
--- before any size
-pub lowest_none : {best : List ℕ} {start end : ℕ} (f : ℕ → ℕ → ℕ) → length best ≡ 7001 → ((h : ℕ) → start ≤ h → h < end → get_or best h 0 ≡ mark) →
-    Lowest best start end 0 f
-lowest_none f l all = record { long = l; is = λ h a b. all h a b ∙ sym (least_none (f h)) }
 
 -- Size t of a section is offered: l is its loss, k its cost, v the last cell of its row.
 module _ {s : Row} {start end : ℕ} {costs ws : List ℕ} (t : ℕ) (losses : List ℕ) (z : 0 < t) (o : Offerable s t start end costs ws) where
