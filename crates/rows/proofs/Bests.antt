@@ -1,41 +1,36 @@
 -- The best costs of a section at each head, with one size more.
 -- Assumes nothing.
-use mathlib.Core.Path.{◌≡◌, sym, ◌∙◌}
-use mathlib.Core.Logic.{⊎_elim}
+use mathlib.Core.Path.{◌≡◌, ◌∙◌}
 use mathlib.Core.List.{List}
 use Prim.Native.Nat.{ℕ, zero, suc, ◌+◌, ◌-◌, ◌*◌, ◌≤◌, ◌<◌, min, max}
 use native.Mathlib.Omega.{arith}
-use borrow.Author.Tests.{le-leb, lt-leb}
-use lib.ListN.{length, get_or}
-use Rattle.basis.proofs.Split.{lt_or_ge}
+use Rattle.std.proofs.lemmas.Bool.Decides.{nat_tests}
 use Rattle.plan.specs.Plan.{mark, least_to}
-use Rattle.plan.proofs.Least.{least_none, least_more, least_most}
+use Rattle.plan.proofs.Least.{least_more, least_most}
 use Rattle.cells.specs.Cells.{cell_at}
 use Rattle.cells.specs.Steps.{Offered}
 use Rattle.rows.specs.declared.raise.Row.{Row}
 use Rattle.rows.specs.Steps.{row_at, «from», options_of, Offerable, Lowest, Flat}
 
--- the option of size t of a section, where it leaves the need and where it does not: l is its loss
-module _ (s : Row) (losses costs ws : List ℕ) (h t : ℕ) {l : ℕ} (el : l ≡ «from» losses s.at t) where
-  pub option_met : l + s.need ≤ h → options_of s losses costs ws h t ≡ «from» costs s.at t + row_at ws s.first s.stride s.high t (h - l)
-  option_met b = rw (← el, le-leb (l + s.need) h b)
+-- the option of size t of a section, where it leaves the need and where it does not
+module _ (s : Row) (losses costs ws : List ℕ) (h t : ℕ) where
+  option_met : «from» losses s.at t + s.need ≤ h →
+      options_of s losses costs ws h t ≡ «from» costs s.at t + row_at ws s.first s.stride s.high t (h - «from» losses s.at t)
+  option_met b = grind (arith, nat_tests)
 
-  pub option_short : h < l + s.need → options_of s losses costs ws h t ≡ mark
-  option_short b = rw (← el, lt-leb (l + s.need) h b)
+  option_short : h < «from» losses s.at t + s.need → options_of s losses costs ws h t ≡ mark
+  option_short b = grind (arith, nat_tests)
 
 -- one number more
 least_at : (t : ℕ) (f : ℕ → ℕ) → 0 < t → least_to t f ≡ min (least_to (t - 1) f) (f t)
 least_at zero f p = absurd (omega arith)
 least_at (suc n) f p = let e : suc n - 1 ≡ n = omega arith in rw e (least_more n f)
 
--- before any size
-pub lowest_none : {best : List ℕ} {start end : ℕ} (f : ℕ → ℕ → ℕ) → length best ≡ 7001 → ((h : ℕ) → start ≤ h → h < end → get_or best h 0 ≡ mark) →
-    Lowest best start end 0 f
-lowest_none f l all = record { long = l; is = λ h a b. all h a b ∙ sym (least_none (f h)) }
-
 -- Size t of a section is offered: l is its loss, k its cost, v the last cell of its row.
-module _ {s : Row} {start end : ℕ} {costs ws : List ℕ} (t : ℕ) (losses : List ℕ) (z : 0 < t) (o : Offerable s t start end costs ws)
-    {l : ℕ} (el : l ≡ «from» losses s.at t) where
+module _ {s : Row} {start end : ℕ} {costs ws : List ℕ} (t : ℕ) (losses : List ℕ) (z : 0 < t) (o : Offerable s t start end costs ws) where
+  abbrev l : ℕ
+  l = «from» losses s.at t
+
   abbrev k : ℕ
   k = «from» costs s.at t
 
@@ -49,7 +44,7 @@ module _ {s : Row} {start end : ℕ} {costs ws : List ℕ} (t : ℕ) (losses : L
   -- it loses too much
   pub next_skip : {best : List ℕ} → Lowest best start end (t - 1) f → end ≤ l + s.need → Lowest best start end t f
   next_skip p b =
-      record { long = p.long; is = λ h x y. omega (arith, least_at t (f h) z, least_most (t - 1) (f h), p.is h x y, option_short s losses costs ws h t el (omega arith)) }
+      record { long = p.long; is = λ h x y. omega (arith, least_at t (f h) z, least_most (t - 1) (f h), p.is h x y, option_short s losses costs ws h t (omega arith)) }
 
   -- it is offered from m to stop, and costs no less than the best from there on
   module _ (fits : l + s.need < end) {v : ℕ} (ev : v ≡ cell_at ws (s.first + t * s.stride + s.high))
@@ -63,15 +58,19 @@ module _ {s : Row} {start end : ℕ} {costs ws : List ℕ} (t : ℕ) (losses : L
         record {
           long = off.long ∙ p.long;
           is = λ h a b.
-              ⊎_elim
-              (λ (i : h < l + s.need). omega (arith, least_at t (f h) z, least_most (t - 1) (f h), p.is h a b, off.below h (omega arith), option_short s losses costs ws h t el i))
-              (λ (i : l + s.need ≤ h).
-              ⊎_elim
-              (λ (j : h < stop). omega (arith, least_at t (f h) z, p.is h a b, off.within h (omega arith) j, option_met s losses costs ws h t el i))
-              (λ (j : stop ≤ h).
-              let c = cut.1 (omega arith) in
-              let falls = o.moderate.falls t (h - l) (omega arith) (omega arith) in
-              omega (arith, least_at t (f h) z, p.is h a b, off.above h j, level.is h (omega (arith, c)) a b, c, last_is, falls, option_met s losses costs ws h t el i))
-              (lt_or_ge h stop))
-              (lt_or_ge h (l + s.need));
+              grind (
+                arith,
+                cut.1,
+                least_at t (f h) z,
+                least_most (t - 1) (f h),
+                p.is h a b,
+                off.below h,
+                off.within h,
+                off.above h,
+                level.is h,
+                o.moderate.falls t (h - l),
+                last_is,
+                option_met s losses costs ws h t,
+                option_short s losses costs ws h t,
+              );
         }

@@ -1,7 +1,6 @@
 -- The rows of the workspace hold what the plan says, one section more at a time.
 -- Assumes nothing.
 use mathlib.Core.Path.{◌≡◌, refl, sym, ap, ◌∙◌}
-use mathlib.Core.Logic.{⊎_elim}
 use mathlib.Core.Bool.{Bool, true, false, ◌&&◌}
 use mathlib.Core.List.{List}
 use Prim.Native.Nat.{ℕ, zero, suc, ◌+◌, ◌-◌, ◌*◌, ◌≤◌, ◌<◌, min}
@@ -9,10 +8,10 @@ use native.Mathlib.Nat.{mul-le-mul_right, suc-mul}
 use native.Mathlib.Omega.{arith}
 use lib.Dec.{leb, ltb}
 use lib.ListN.{get_or, set, replicate, length-set, length-replicate, get_or-replicate}
-use lib.Seq.{get_or-set_same, get_or-set_other}
-use borrow.Author.Tests.{leb-true, lt-ltb}
-use Rattle.basis.proofs.Split.{either, lt_or_ge, eq_or_ne}
-use Rattle.basis.proofs.Bools.{apart, same, right}
+use lib.Seq.{get_or-set_same}
+use Rattle.std.proofs.lemmas.Bool.Decides.{nat_tests}
+use Rattle.std.proofs.lemmas.Grind.{common_steps}
+use Rattle.basis.proofs.Bools.{apart}
 use Rattle.nets.specs.Net.{Net}
 use Rattle.nets.specs.Tables.{top}
 use Rattle.plan.specs.Plan.{mark, least_to, option, cell, plan_of}
@@ -24,10 +23,10 @@ use Rattle.plan.proofs.Falling.{cell_falls}
 use Rattle.plan.proofs.Potential.{cell_last, cell_most, cell_parent, cell_other, next_least}
 
 -- rows do not overlap, and none ends above the last
-pub rows_apart : (p q w : ℕ) → p < q → p * w + w ≤ q * w
+rows_apart : (p q w : ℕ) → p < q → p * w + w ≤ q * w
 rows_apart p q w l = omega (arith, mul-le-mul_right w l, suc-mul p w)
 
-pub row_fits : (p n w : ℕ) → p ≤ n → p * w + w ≤ (n + 1) * w
+row_fits : (p n w : ℕ) → p ≤ n → p * w + w ≤ (n + 1) * w
 row_fits p n w l = rows_apart p (n + 1) w (omega arith)
 
 -- after no section
@@ -47,19 +46,12 @@ pump_cell {N} {a} {high} {ws} hold n =
 
 -- at a head below the mark the need alone says whether a size will do
 marked_fits : (l need h : ℕ) → h < top → (ltb l top && leb (l + need) h) ≡ leb (l + need) h
-marked_fits l need h b =
-    same (ltb l top && leb (l + need) h) (leb (l + need) h)
-    (λ e. right (ltb l top) (leb (l + need) h) e)
-    (λ e. rw (lt-ltb l top (omega (arith, leb-true (l + need) h e)), e))
+marked_fits l need h b = grind (arith, nat_tests)
 
 -- a row is written: the others are as they were
 row_kept : (w q : ℕ) {ws ws' : List ℕ} {need end : ℕ} {f : ℕ → ℕ} → Filled ws ws' (q * w) need end f → end ≤ w →
     (p h : ℕ) → h < w → (p ≡ q → ⊥) → cell_at ws' (p * w + h) ≡ cell_at ws (p * w + h)
-row_kept w q r inside p h b n =
-    ⊎_elim
-    (λ m. r.below (p * w + h) (omega (arith, rows_apart p q w m)))
-    (λ m. r.above (p * w + h) (omega (arith, rows_apart q p w (omega arith))))
-    (lt_or_ge p q)
+row_kept w q r inside p h b n = grind (arith, r.below, r.above, rows_apart p q w, rows_apart q p w)
 
 module _ {N : Net} {a : ℕ} {high : ℕ → ℕ} {room : ℕ} (ok : Fillable N a high room) where
   -- what a section's end can use is at most the head, and its row within the workspace
@@ -75,10 +67,7 @@ module _ {N : Net} {a : ℕ} {high : ℕ → ℕ} {room : ℕ} (ok : Fillable N 
   option_row ws s h l b row t =
       let e : s * (a + 1) + t * 0 + min (h - N.loss s t) (high s) ≡ s * (a + 1) + min (h - N.loss s t) (high s) = omega arith in
       rw (e, ok.sound.marked s t, marked_fits (N.loss s t) (N.need s) h (omega (arith, ok.narrow)))
-      (⊎_elim
-      (λ m. rw (row (min (h - N.loss s t) (high s)) (omega (arith, leb-true (N.loss s t + N.need s) h m, ok.usable.own s l)) (omega arith)))
-      (λ m. rw m)
-      (either (leb (N.loss s t + N.need s) h)))
+      (grind (arith, nat_tests, row, ok.usable.own s l))
 
   pub least_row : (ws : List ℕ) (s h : ℕ) → s ≤ N.sections → h ≤ a → ((x : ℕ) → N.need s ≤ x → x ≤ high s → cell_at ws (s * (a + 1) + x) ≡ cell (plan_of N high) s s x) →
       least_to N.sizes (option_at (N.loss s) (N.cost s) (N.need s) (row_at ws (s * (a + 1)) 0 (high s)) h) ≡ next_least (plan_of N high) s h
@@ -87,11 +76,7 @@ module _ {N : Net} {a : ℕ} {high : ℕ → ℕ} {room : ℕ} (ok : Fillable N 
   -- what stands in a row is what the plan says
   stands : {ws : List ℕ} {begun : List Bool} {s : ℕ} → Filling N a high ws begun s → (p h : ℕ) → p ≤ N.sections → N.need p ≤ h → h ≤ high p →
       standing (get_or begun p false) ws (p * (a + 1)) h ≡ cell (plan_of N high) s p h
-  stands {ws} {begun} fill p h l n b =
-      ⊎_elim
-      (λ e. rw e (fill.at p h l e n b))
-      (λ e. rw e (sym (fill.new p h l e)))
-      (either (get_or begun p false))
+  stands {ws} {begun} fill p h l n b = grind (arith, nat_tests, fill.at p h l, fill.new p h l)
 
   -- row p is written, with what the plan says after the sections above s'
   module _ {ws ws' : List ℕ} {begun : List Bool} {s : ℕ} (s' p : ℕ) {f : ℕ → ℕ} (fill : Filling N a high ws begun s)
@@ -100,29 +85,28 @@ module _ {N : Net} {a : ℕ} {high : ℕ → ℕ} {room : ℕ} (ok : Fillable N 
       (others : (q h : ℕ) → (q ≡ p → ⊥) → cell (plan_of N high) s' q h ≡ cell (plan_of N high) s q h)
       (done : (q : ℕ) → s' < q → q ≤ N.sections → (q ≡ p → ⊥) → get_or begun q false ≡ true) where
     here : get_or (set begun p true) p false ≡ true
-    here = get_or-set_same begun p true false (omega (arith, fill.long, ok.sound.few))
+    here = grind (arith, common_steps, fill.long, ok.sound.few)
 
     there : (q : ℕ) → (q ≡ p → ⊥) → get_or (set begun p true) q false ≡ get_or begun q false
-    there q n = get_or-set_other begun p q true false n
+    there q n = grind (arith, common_steps)
 
     filling_row : Filling N a high ws' (set begun p true) s'
     filling_row =
         record {
           long = length-set begun p true ∙ fill.long;
           at = λ q h m e n b.
-              ⊎_elim
-              (λ (i : q ≡ p).
-              let c : h ≤ high p = rw i at b in
-              rw i (r.within h (rw i at n) (omega arith) ∙ is h (rw i at n) c))
-              (λ i. row_kept (a + 1) p r (omega (arith, ok.usable.most p l)) q h (omega (arith, ok.usable.most q m)) i ∙ fill.at q h m (sym (there q i) ∙ e) n b ∙ sym (others q h i))
-              (eq_or_ne q p);
-          new = λ q h m e.
-              ⊎_elim
-              (λ (i : q ≡ p). absurd (apart here (rw i at e)))
-              (λ i. others q h i ∙ fill.new q h m (sym (there q i) ∙ e))
-              (eq_or_ne q p);
-          done = λ q m k.
-              ⊎_elim (λ (i : q ≡ p). rw i here) (λ i. there q i ∙ done q m k i) (eq_or_ne q p);
+              grind (
+                arith,
+                here,
+                there q,
+                others q h,
+                is h,
+                r.within h,
+                fill.at q h m,
+                row_kept (a + 1) p r (omega (arith, ok.usable.most p l)) q h (omega (arith, ok.usable.most q m)),
+              );
+          new = λ q h m e. grind (arith, here, there q, others q h, fill.new q h m);
+          done = λ q m k. grind (arith, here, there q, done q m k);
         }
 
   -- nothing is added to row s any more
@@ -155,7 +139,7 @@ module _ {N : Net} {a : ℕ} {high : ℕ → ℕ} {room : ℕ} (ok : Fillable N 
       )
       (rw ep (sym (cell_parent (plan_of N high) s h b))))
       (λ q h n. cell_other (plan_of N high) s q h b (rw ep at n))
-      (λ q m k n. ⊎_elim (λ (i : q ≡ suc s). rw i own) (λ i. fill.done q (omega arith) k) (eq_or_ne q (suc s))))
+      (λ q m k n. grind (arith, own, fill.done q)))
 
   module _ {ws : List ℕ} {begun : List Bool} {s : ℕ} (fill : Filling N a high ws begun s) where
     -- what section s reads is at most the mark, and no less than the row's last

@@ -103,6 +103,7 @@ fn offer_next(
 }
 
 // The best cost of a section's sizes at each of its parent's heads.
+#[tactic(auto, using(plan::proofs::Least::least_none))]
 pub fn bests(ws: &[u8], best: &mut [u32; 7001], tables: &Tables, row: Row, parent: Row)
     requires { Offerable row tables.now.sizes parent.need (parent.high + 1) tables.now.costs ws.now }
     ensures { Lowest best.new parent.need (parent.high + 1) tables.now.sizes (options_of row tables.now.losses tables.now.costs ws.now) }
