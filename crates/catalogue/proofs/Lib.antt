@@ -1,4 +1,4 @@
-pub mod Halving
+pub mod FirstRow
 pub mod Lines
 pub mod AcceptedCat
 pub mod Places

@@ -7,11 +7,11 @@ use Prim.Native.Nat.{ℕ, ◌+◌, ◌-◌, ◌≤◌, ◌<◌}
 use native.Mathlib.Nat.{add-sub_cancel}
 use native.Mathlib.Omega.{arith}
 use lib.Dec.{leb, ltb}
-use borrow.Author.Tests.{leb-true, le-leb, ltb-true, lt-ltb}
+use borrow.Author.Tests.{leb-true, ltb-true}
 use Rattle.basis.specs.Range.{within, all_to}
 use Rattle.basis.proofs.Bools.{left, right, never, apart}
 use Rattle.basis.proofs.Each.{all_none, all_more, all_at}
-use Rattle.basis.proofs.Within.{Within, within_in, in_within}
+use Rattle.basis.proofs.Within.{Within, within_in}
 use Rattle.catalogue.specs.Layout.{flow_at, velocity_at, slope_at}
 use Rattle.catalogue.specs.Rules.{row_ok, rises_at, rows_ok}
 
@@ -37,14 +37,6 @@ module _ (rows : List ℕ) (k : ℕ) where
         slope = leb-true 1 (slope_at rows k) (right (leb 1 (velocity_at rows k)) _ e₁);
       }
 
-  pub row_refused : (RowIn rows k → ⊥) → false ≡ row_ok rows k
-  row_refused n = sym (never (row_ok rows k) (λ e. n (row_in e)))
-
-  -- the last test, where those before it have passed
-  pub row_last : Within 1 1000000 (flow_at rows k) → 1 ≤ velocity_at rows k → row_ok rows k ≡ leb 1 (slope_at rows k)
-  unfolding row_ok
-  row_last f v = rw (in_within 1 1000000 (flow_at rows k) f, le-leb 1 (velocity_at rows k) v)
-
   pub rise_in : rises_at rows k ≡ true → Rises rows (k - 1) k
   unfolding rises_at
   rise_in e =
@@ -54,20 +46,6 @@ module _ (rows : List ℕ) (k : ℕ) where
         velocity = leb-true (velocity_at rows (k - 1)) (velocity_at rows k) (left _ _ e₁);
         slope = leb-true (slope_at rows (k - 1)) (slope_at rows k) (right (leb (velocity_at rows (k - 1)) (velocity_at rows k)) _ e₁);
       }
-
-  pub rise_refused : (Rises rows (k - 1) k → ⊥) → false ≡ rises_at rows k
-  rise_refused n = sym (never (rises_at rows k) (λ e. n (rise_in e)))
-
-  pub rise_last :
-      flow_at rows (k - 1) < flow_at rows k →
-      velocity_at rows (k - 1) ≤ velocity_at rows k →
-      rises_at rows k ≡ leb (slope_at rows (k - 1)) (slope_at rows k)
-  unfolding rises_at
-  rise_last f v =
-      rw (
-        lt-ltb (flow_at rows (k - 1)) (flow_at rows k) f,
-        le-leb (velocity_at rows (k - 1)) (velocity_at rows k) v,
-      )
 
 -- the first k rows, of which the code has seen each on its own and against the one before it
 pub record Seen (rows : List ℕ) (k : ℕ) : Type 0 where

@@ -1,17 +1,17 @@
--- What 10 looks at as a record of bounds, from the test and back.
+-- What 10 looks at as a record of bounds, from the test.
 -- Assumes nothing.
-use mathlib.Core.Path.{◌≡◌, sym}
-use mathlib.Core.Bool.{true, false}
+use mathlib.Core.Path.{◌≡◌}
+use mathlib.Core.Bool.{true}
 use mathlib.Core.List.{List}
 use Prim.Native.Nat.{ℕ, ◌+◌, ◌*◌, ◌≤◌, ◌<◌}
 use native.Mathlib.Nat.{mul-le-mul}
 use native.Mathlib.Omega.{arith}
 use lib.ListN.{length}
 use lib.Dec.{leb, eqb}
-use borrow.Author.Tests.{leb-true, le-leb, eqb-true, eq-eqb}
+use borrow.Author.Tests.{leb-true, eqb-true}
 use Rattle.basis.specs.Range.{within}
-use Rattle.basis.proofs.Bools.{left, right, never}
-use Rattle.basis.proofs.Within.{Within, within_in, in_within}
+use Rattle.basis.proofs.Bools.{left, right}
+use Rattle.basis.proofs.Within.{Within, within_in}
 use Rattle.wire.specs.Wire.{byte_at, be_at}
 use Rattle.catalogue.specs.Layout.{sizes_of, rows_of, size_length}
 use Rattle.catalogue.specs.Rules.{shape_ok}
@@ -41,32 +41,6 @@ module _ (cat : List ℕ) where
         stated = eqb-true (be_at 4 cat 0) (length cat) (left _ _ e₄);
         whole = eqb-true (length cat) _ (right (eqb (be_at 4 cat 0) (length cat)) _ e₄);
       }
-
-  pub shape_refused : (ShapeIn cat → ⊥) → false ≡ shape_ok cat
-  shape_refused n = sym (never (shape_ok cat) (λ e. n (shape_in e)))
-
-  -- the last test, where those before it have passed
-  pub shape_last :
-      (sizes rows : ℕ) →
-      sizes ≡ sizes_of cat →
-      rows ≡ rows_of cat →
-      7 ≤ length cat →
-      byte_at cat 4 ≡ 1 →
-      Within 1 12 (sizes_of cat) →
-      Within 2 64 (rows_of cat) →
-      be_at 4 cat 0 ≡ length cat →
-      shape_ok cat ≡ eqb (length cat) (7 + sizes * size_length rows)
-  unfolding shape_ok
-  shape_last sizes rows e f l v s r t =
-      rw (
-        e,
-        f,
-        le-leb 7 (length cat) l,
-        eq-eqb (byte_at cat 4) 1 v,
-        in_within 1 12 (sizes_of cat) s,
-        in_within 2 64 (rows_of cat) r,
-        eq-eqb (be_at 4 cat 0) (length cat) t,
-      )
 
 -- each size of a catalogue of the right shape lies within it
 pub shape_sized : {cat : List ℕ} {s : ℕ} → ShapeIn cat → 0 < s → s ≤ sizes_of cat → Sized cat s

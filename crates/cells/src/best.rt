@@ -5,7 +5,7 @@ ghost use Rattle.std.specs.Prelude.{◌≡◌, ℕ, ◌+◌, ◌-◌, ◌*◌, �
 ghost use Rattle.nets.specs.Tables.{top};
 ghost use Rattle.plan.specs.Plan.{mark};
 ghost use Rattle.cells.specs.Cells.{cell_at};
-ghost use Rattle.cells.specs.Steps.{Offered, Filled, standing};
+ghost use Rattle.cells.specs.Steps.{Offered};
 
 use crate::cell::get;
 use plan::MARK;

@@ -1,5 +1,5 @@
 // The workspace as cells of four bytes each, the low byte first: so that compiled code reads and writes several cells at once.
-ghost use Rattle.std.specs.Prelude.{◌≡◌, ◌+◌, ◌*◌, ◌≤◌, ◌<◌, length};
+ghost use Rattle.std.specs.Prelude.{◌≡◌, ◌+◌, ◌*◌, ◌≤◌, length};
 ghost use Rattle.nets.specs.Tables.{top};
 ghost use Rattle.cells.specs.Cells.{cell_at, Written};
 

@@ -1,8 +1,8 @@
 // The cells of a row, written from what its end needs to what it can use.
-ghost use Rattle.std.specs.Prelude.{◌≡◌, ℕ, ◌+◌, ◌*◌, ◌≤◌, ◌<◌, min, length, get_or};
+ghost use Rattle.std.specs.Prelude.{ℕ, ◌+◌, ◌*◌, ◌≤◌, ◌<◌, min, length, get_or};
 ghost use Rattle.plan.specs.Plan.{mark};
 ghost use Rattle.cells.specs.Cells.{cell_at};
-ghost use Rattle.cells.specs.Steps.{Filled, standing};
+ghost use Rattle.cells.specs.Steps.{Filled};
 
 use crate::cell::{get, put};
 use plan::MARK;

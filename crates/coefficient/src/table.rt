@@ -2,6 +2,7 @@
 ghost use Rattle.std.specs.Prelude.{◌≡◌};
 ghost use Rattle.coefficient.specs.Table.{pairs};
 
+// A static, since the back end writes a constant array out anew wherever it is named.
 static TABLE: [(u32, u32); 486] = [
     (15000, 202000),
     (16000, 205000),

@@ -57,6 +57,7 @@ fn needs_table_one(m: u64, fixtures: u64) -> bool
     fixtures <= 200 && 100000 * fixtures < m
 }
 
+// Whether any section does. No `any`: the closure's contract would have to ask again for all that its two calls ask.
 fn section_needs_table_one(job: Job, served: &[u32; 768], sets: &[u64; 64]) -> bool
     requires { Valid job × Counted job served.now × ((i : ℕ) → i < 64 → get_or sets.now i 0 ≡ set_of job i) }
     ensures { result ≡ any_to (count_of job) (λ i. needs_table_one (m_of job (served_of job i)) (fixtures_of (served_of job i))) }

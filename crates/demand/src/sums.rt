@@ -43,7 +43,8 @@ fn part_of(job: &Job, kind: usize, n: u64, house: u64) -> Sums
     }
 }
 
-// The sums of row i of the counts: section i's, or the house's where i is 0.
+// The sums of row i of the counts: section i's, or the house's where i is 0. The loops here, in `hour_sums` and in `day_of` stay three: one
+// over a closure would ask each caller again for the bounds against overflow, which differ.
 pub fn sums_of(job: &Job, counts: &[u32; 768], i: usize) -> Sums
     requires { Rooted job.now × Counted job.now counts.now × (i < 64) }
     ensures { (result.m ≡ m_of job.now (served_of job.now i)) × (result.weighted ≡ fixture_sum_of job.now (served_of job.now i))

@@ -27,7 +27,7 @@ fn put_header(out: &mut [u8], h: Header)
     h.limit.put_at(out, 14);
 }
 
-// The residents of kinds 1 to 12, from byte 16 on.
+// The residents of kinds 1 to 12, from byte 16 on. One helper for rows of any numbers would take their width beside them, and be no plainer.
 fn put_residents(out: &mut [u8], residents: [u16; 12])
     requires { 40 ≤ length out.old }
     ensures { out.new ≡ stored out.old 16 (concat_to 12 (λ kind. bytes_of 2 (get_or residents (kind - 1) 0))) }
@@ -60,14 +60,14 @@ fn put_section(out: &mut [u8], at: usize, s: Section)
     s.free.put_at(out, at + 8);
 }
 
-// Sections 1 to count, from the first one's place on.
-fn put_sections(out: &mut [u8], version: u8, sections: [Section; 64], count: usize)
-    requires { (count ≤ 63) × (length_of version count ≤ length out.old) }
+// The sections, from the first one's place on.
+fn put_sections(out: &mut [u8], version: u8, sections: &[Section])
+    requires { (length sections.now ≤ 63) × (length_of version (length sections.now) ≤ length out.old) }
     ensures { out.new ≡ stored out.old (sections_from version)
-        (concat_to count (λ i. section_bytes (get_or sections i blank_section))) }
+        (concat_to (length sections.now) (λ i. section_bytes (get_or sections.now (i - 1) blank_section))) }
 {
-    for i in 1..=count {
-        put_section(out, place_of(version, i), sections[i]);
+    for (i, section) in sections.iter().enumerate() {
+        put_section(out, place_of(version, i + 1), *section);
     }
 }
 
@@ -88,13 +88,9 @@ pub fn put_job(out: &mut [u8], job: Job)
     ensures { out.new ≡ stored out.old 0 (encode job) }
 {
     let header = job.header;
+    let count = usize::from(header.sections);
     put_header(out, header);
     put_residents(out, job.residents);
     put_service(out, header);
-    put_sections(
-        out,
-        header.version,
-        job.sections,
-        usize::from(header.sections),
-    );
+    put_sections(out, header.version, &job.sections[1..=count]);
 }

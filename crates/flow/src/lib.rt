@@ -3,7 +3,7 @@
 
 mod pump;
 
-ghost use Rattle.std.specs.Prelude.{◌≡◌, ◌≤◌, length, get_or};
+ghost use Rattle.std.specs.Prelude.{◌≡◌, ◌≤◌, ◌-◌, length, get_or};
 ghost use Rattle.basis.specs.Range.{concat_to};
 ghost use Rattle.basis.specs.Stored.{stored};
 ghost use Rattle.answer.specs.Answer.{number_of};
@@ -20,13 +20,13 @@ use fields::Job;
 pub use pump::duty;
 use wire::Field;
 
-// The flows of sections 1 to count, from byte 12 on.
-fn put_flows(out: &mut [u8], flows: [u32; 64], count: usize)
-    requires { (count ≤ 63) × (flow_length count ≤ length out.old) }
-    ensures { out.new ≡ stored out.old 12 (concat_to count (λ i. bytes_of 4 (get_or flows i 0))) }
+// The sections' flows, from byte 12 on.
+fn put_flows(out: &mut [u8], flows: &[u32])
+    requires { flow_length (length flows.now) ≤ length out.old }
+    ensures { out.new ≡ stored out.old 12 (concat_to (length flows.now) (λ i. bytes_of 4 (get_or flows.now (i - 1) 0))) }
 {
-    for i in 1..=count {
-        flows[i].put_at(out, 12 + 4 * (i - 1));
+    for (i, flow) in flows.iter().enumerate() {
+        flow.put_at(out, 12 + 4 * i);
     }
 }
 
@@ -53,7 +53,7 @@ fn put_result(out: &mut [u8], job: Job)
         demand::day_of(job),
         demand::mean_of(job),
     );
-    put_flows(out, flows, count);
+    put_flows(out, &flows[1..=count]);
 }
 
 // The flow call: hour, day, mean hour and S flows at the front of the buffer, or a number and the buffer as it was.

@@ -26,6 +26,7 @@ struct Greatest {
 
 // The path loss of a section: the walk from it over its parents to the pump, one section at each turn. At the start of each turn `sum` plus
 // the path loss of section `at` is the path loss asked for: `AtTurn` (specs/Walk.antt).
+// Parents and losses stay two lent tables: with the job in their place the heads took half as long again (docs/DECISIONS.md, 118).
 fn path_loss(parents: &[u8; 64], losses: &[u32; 64], section: usize) -> u32
     requires { Walkable parents.now losses.now section }
     ensures { result ≡ path_of (λ i. get_or parents.now i 0) (λ i. get_or losses.now i 0) section }

@@ -6,7 +6,7 @@ use mathlib.Core.List.{List}
 use Prim.Native.Nat.{ℕ, ◌*◌, ◌≤◌}
 use lib.ListN.{length}
 use lib.Dec.{leb, eqb}
-use borrow.Author.Tests.{le-leb, leb-true, eq-eqb, eqb-true}
+use borrow.Author.Tests.{leb-true, eq-eqb, eqb-true}
 use Rattle.basis.specs.Range.{within, all_to}
 use Rattle.basis.proofs.Bools.{left, right, never}
 use Rattle.basis.proofs.Within.{Within, within_in, in_within}
@@ -28,11 +28,6 @@ module _ (m : Meter) where
         resistance = leb-true 1 m.resistance (left _ _ rest);
         service = leb-true 1 m.service (right (leb 1 m.resistance) _ rest);
       }
-
-  -- the last test decides where the others hold
-  pub meter_last : Within 1 2 m.form → 1 ≤ m.resistance → leb 1 m.service ≡ meter_ok m
-  unfolding meter_ok
-  meter_last d r = rw (in_within 1 2 m.form d, le-leb 1 m.resistance r)
 
   pub meter_refused : (MeterIn m → ⊥) → false ≡ meter_ok m
   meter_refused n = sym (never (meter_ok m) (λ e. n (meter_in e)))

@@ -1,14 +1,14 @@
 -- When a meter qualifies, as bounds; and what its loss comes to at most.
 -- Assumes nothing.
-use mathlib.Core.Path.{◌≡◌, sym}
+use mathlib.Core.Path.{◌≡◌}
 use mathlib.Core.Bool.{true, false}
 use mathlib.Core.Logic.{⊎_elim}
 use Prim.Native.Nat.{ℕ, ◌*◌, ◌≤◌, ◌<◌}
 use native.Mathlib.Omega.{arith}
 use native.Mathlib.Nat.{mul-le-mul}
 use lib.Dec.{leb, eqb}
-use borrow.Author.Tests.{le-leb, leb-true}
-use Rattle.basis.proofs.Bools.{left, right, never}
+use borrow.Author.Tests.{leb-true}
+use Rattle.basis.proofs.Bools.{left, right}
 use Rattle.basis.proofs.Split.{either}
 use Rattle.meters.specs.declared.Meter.{Meter}
 use Rattle.meters.specs.Meters.{meter_loss, most_loss, qualifies}
@@ -42,14 +42,6 @@ module _ (m : Meter) where
           loss = leb-true (meter_loss m q) (most_loss m) (left _ _ e);
           service = leb-true mean m.service (right (leb (meter_loss m q) (most_loss m)) _ e);
         }
-
-    -- the last test decides where the other holds
-    pub fit_last : meter_loss m q ≤ most_loss m → leb mean m.service ≡ qualifies m q mean
-    unfolding qualifies
-    fit_last h = rw (le-leb (meter_loss m q) (most_loss m) h)
-
-    pub unfit : (Fit → ⊥) → false ≡ qualifies m q mean
-    unfit n = sym (never (qualifies m q mean) (λ e. n (fit_of e)))
 
     -- no loss of a meter that qualifies is over 500
     pub loss_top : qualifies m q mean ≡ true → meter_loss m q ≤ 500

@@ -4,11 +4,11 @@
 ghost use Rattle.std.specs.Prelude.{◌≡◌, ◌≤◌};
 ghost use Rattle.norms.specs.Norms.{norm_of};
 
-// Each table has a row of the twelve kinds for each service. The back end writes a constant table out wherever it is named, so the numbers
-// have 16 bits and not 64.
+// Each table has a row of the twelve kinds for each service. They are static, since the back end writes a constant table out anew wherever it is
+// named.
 
 // Litres per resident on the greatest day.
-const DAY: [[u16; 12]; 3] = [
+static DAY: [[u64; 12]; 3] = [
     // total
     [400, 100, 160, 120, 230, 200, 250, 300, 115, 15, 16, 20],
     // cold
@@ -18,7 +18,7 @@ const DAY: [[u16; 12]; 3] = [
 ];
 
 // Tenths of a litre per resident in the greatest hour.
-const HOUR: [[u16; 12]; 3] = [
+static HOUR: [[u64; 12]; 3] = [
     // total
     [200, 104, 120, 125, 190, 224, 280, 300, 84, 26, 40, 27],
     // cold
@@ -28,7 +28,7 @@ const HOUR: [[u16; 12]; 3] = [
 ];
 
 // Hundredths of a litre a second of a fixture.
-const FIXTURE: [[u16; 12]; 2] = [
+static FIXTURE: [[u64; 12]; 2] = [
     // total
     [30, 20, 20, 30, 20, 30, 30, 30, 20, 20, 14, 14],
     // either line
@@ -36,7 +36,7 @@ const FIXTURE: [[u16; 12]; 2] = [
 ];
 
 // Litres an hour of a fixture.
-const HOURLY: [[u16; 12]; 2] = [
+static HOURLY: [[u64; 12]; 2] = [
     // total
     [300, 100, 100, 300, 115, 250, 280, 300, 100, 80, 80, 100],
     // either line
@@ -61,9 +61,9 @@ pub fn norm_of(service: u8, kind: usize) -> Norm
     let of_resident = usize::from(service).min(2);
     let of_fixture = usize::from(service).min(1);
     Norm {
-        day: u64::from(DAY[of_resident][c]),
-        hour: u64::from(HOUR[of_resident][c]),
-        fixture: u64::from(FIXTURE[of_fixture][c]),
-        hourly: u64::from(HOURLY[of_fixture][c]),
+        day: DAY[of_resident][c],
+        hour: HOUR[of_resident][c],
+        fixture: FIXTURE[of_fixture][c],
+        hourly: HOURLY[of_fixture][c],
     }
 }

@@ -59,6 +59,7 @@ pub fn put_sections(out: &mut [u8], from: usize, skip: usize, count: usize, figu
         (λ i. drop skip (bytes_of 4 (get_or (flows_of figures.now) i 0)
         ++ (bytes_of 2 (get_or (velocities_of figures.now) i 0) ++ bytes_of 4 (get_or (losses_of figures.now) i 0))))) }
 {
+    // By places, and not by chunks of the buffer: a chunk has a byte at least, and `skip` may be 10.
     let width = 10 - skip;
     for i in 1..=count {
         let bytes = figures[i].bytes();

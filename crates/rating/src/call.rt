@@ -14,7 +14,7 @@ use answer::Refusal;
 use fields::Job;
 use rated_bytes::{Figure, put_result, put_sections};
 
-/// A rated job, with the figures of its sections at their places.
+/// A rated job, with the figures of its sections at their places, in an array since a call has no heap.
 #[derive(Clone, Copy)]
 pub struct Rating {
     pub job: Job,

@@ -1,7 +1,6 @@
 // All rows, from the last section to the first.
-ghost use Rattle.std.specs.Prelude.{◌≡◌, true, false, ℕ, ◌+◌, ◌-◌, ◌*◌, ◌≤◌, ◌<◌, length, get_or, set};
+ghost use Rattle.std.specs.Prelude.{◌≡◌, true, false, ◌-◌, ◌≤◌, ◌<◌, length, get_or};
 ghost use Rattle.nets.specs.NetIn.{net_in};
-ghost use Rattle.cells.specs.Steps.{Filled, standing};
 ghost use Rattle.rows.specs.Steps.{Fillable, Filling, Holds};
 
 use crate::raise::{bests, hand_up, row_of};

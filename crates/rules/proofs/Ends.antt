@@ -1,9 +1,8 @@
--- A section that nobody has for a parent is one whose set is its own bit alone: refusal 6's test by the two tests that the code makes.
+-- A section that nobody has for a parent is one whose set is its own bit alone: refusal 6's test by the code's test of kind and set.
 -- Assumes nothing.
 use mathlib.Core.Path.{◌≡◌, ap}
 use mathlib.Core.Bool.{Bool, true, not, ◌&&◌}
-use Prim.Native.Nat.{ℕ, ◌*◌, ◌%◌, ◌^◌, ◌≤◌, ◌<◌}
-use native.Mathlib.Omega.{arith}
+use Prim.Native.Nat.{ℕ, ◌^◌, ◌≤◌, ◌<◌}
 use lib.Dec.{eqb}
 use borrow.Author.Tests.{eqb-true, eqb-false, eq-eqb, ne_eqb, not-true}
 use Rattle.basis.specs.Range.{any_to}

@@ -1,14 +1,14 @@
 -- The head's ranges as a record of bounds, from the test and back: version and service, and all that 3 looks at.
 -- Assumes nothing.
-use mathlib.Core.Path.{◌≡◌, sym}
+use mathlib.Core.Path.{◌≡◌}
 use mathlib.Core.Logic.{⊎_elim}
-use mathlib.Core.Bool.{true, false, not}
-use Prim.Native.Nat.{ℕ, ◌≤◌, ◌<◌}
+use mathlib.Core.Bool.{true}
+use Prim.Native.Nat.{ℕ, ◌≤◌}
 use native.Mathlib.Omega.{arith}
-use lib.Dec.{leb, eqb}
+use lib.Dec.{leb}
 use borrow.Author.Tests.{leb-true, le-leb, eq-eqb, ne_eqb, eqb-true}
 use Rattle.basis.specs.Range.{within}
-use Rattle.basis.proofs.Bools.{left, right, never}
+use Rattle.basis.proofs.Bools.{left, right}
 use Rattle.basis.proofs.Split.{eq_or_ne}
 use Rattle.basis.proofs.Within.{Within, within_in, in_within}
 use Rattle.fields.specs.declared.Header.{Header}
@@ -18,13 +18,6 @@ use Rattle.rules.specs.Rules.{version_ok, service_ok, header_ok}
 pub version_in : (h : Header) → version_ok h ≡ true → Within 1 2 h.version
 unfolding version_ok
 version_in h e = within_in 1 2 h.version e
-
-pub in_version : (h : Header) → Within 1 2 h.version → version_ok h ≡ true
-unfolding version_ok
-in_version h b = in_within 1 2 h.version b
-
-pub version_refused : (h : Header) → (Within 1 2 h.version → ⊥) → false ≡ version_ok h
-version_refused h n = sym (never (version_ok h) (λ e. n (version_in h e)))
 
 -- the service is at most 2, and total with version 1
 pub record ServiceIn (version service : ℕ) : Type 0 where
@@ -47,18 +40,6 @@ in_service h b =
     ⊎_elim
     (λ (one : h.version ≡ 1). rw (eq-eqb h.version 1 one, eq-eqb h.service 0 (b.total one)))
     (λ (other : h.version ≡ 1 → ⊥). rw (ne_eqb h.version 1 other, le-leb h.service 2 b.most))
-    (eq_or_ne h.version 1)
-
-pub service_out : (h : Header) → (ServiceIn h.version h.service → ⊥) → false ≡ service_ok h
-service_out h n = sym (never (service_ok h) (λ e. n (service_in h e)))
-
--- cold and hot pass but with version 1
-pub service_line : (h : Header) → 0 < h.service → h.service ≤ 2 → service_ok h ≡ not (eqb h.version 1)
-unfolding service_ok
-service_line h some most =
-    ⊎_elim
-    (λ (one : h.version ≡ 1). rw (eq-eqb h.version 1 one, ne_eqb h.service 0 (λ e. omega arith)))
-    (λ (other : h.version ≡ 1 → ⊥). rw (ne_eqb h.version 1 other, le-leb h.service 2 most))
     (eq_or_ne h.version 1)
 
 pub record HeaderIn (h : Header) : Type 0 where
@@ -105,10 +86,3 @@ module _ (h : Header) where
         le-leb h.delivered 6000 b.delivered,
         in_within 1 3000 h.limit b.limit,
       )
-
-  pub service_refused : service_ok h ≡ false → false ≡ header_ok h
-  unfolding header_ok
-  service_refused e = rw e
-
-  pub head_refused : (HeaderIn h → ⊥) → false ≡ header_ok h
-  head_refused n = sym (never (header_ok h) (λ e. n (header_in e)))

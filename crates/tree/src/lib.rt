@@ -49,17 +49,16 @@ pub fn sets(job: Job) -> [u64; 64]
     sets
 }
 
-// All fixtures at the ends of section i's set, those of the house where i is 0: bit by bit from the section's own up, as no section of the
-// set has a lower number.
+// All fixtures at the ends of section i's set, those of the house where i is 0: bit by bit from the section's own, as no section of the set
+// has a lower number, to the set's highest.
 pub fn fixtures_below(job: Job, set: u64, i: usize) -> u64
     requires { Rooted job × (i ≤ count_of job) × (set ≡ set_of job i) }
     ensures { result ≡ fixtures_below job i }
 {
+    let end = (u64::BITS - set.leading_zeros()) as usize;
     let mut sum = 0;
-    for j in i..=usize::from(job.header.sections) {
-        if (set >> j) & 1 == 1 {
-            sum += u64::from(job.sections[j].fixtures);
-        }
+    for j in i..end {
+        sum += ((set >> j) & 1) * u64::from(job.sections[j].fixtures);
     }
     sum
 }

@@ -3,9 +3,10 @@
 // Bytes that are not such give an empty line.
 use crate::jobs;
 use crate::print::Output;
-use answer::Answer;
+use answer::Refusal;
 use std::io;
 use std::io::Write;
+use wire::Field;
 
 // What a line gives to its call.
 #[derive(Clone, Copy)]
@@ -21,11 +22,11 @@ pub fn answer(to: &mut Output, letter: u8, data: &[u8]) -> io::Result<()> {
     if data.len() < 11 {
         return Ok(());
     }
-    let room = usize::from(wire::be16(data, 0));
+    let room = usize::from(u16::at(data, 0));
     let fill = data[2];
-    let length = wire::be32(data, 3) as usize;
-    let first = usize::from(wire::be16(data, 7));
-    let next = usize::from(wire::be16(data, 9));
+    let length = u32::at(data, 3) as usize;
+    let first = usize::from(u16::at(data, 7));
+    let next = usize::from(u16::at(data, 9));
     let Some((job, rest)) = data[11..].split_at_checked(first) else {
         return Ok(());
     };
@@ -73,8 +74,8 @@ fn alpha(to: &mut Output, m: &[u8]) -> io::Result<()> {
     if m.len() != 4 {
         return Ok(());
     }
-    let table = coefficient::table2();
-    write!(to, "{:08x}", coefficient::alpha(&table, wire::be32(m, 0)))
+    let alpha = coefficient::alpha(coefficient::table2(), u32::at(m, 0));
+    write!(to, "{alpha:08x}")
 }
 
 // The temperature and the loss are four bytes each.
@@ -83,7 +84,7 @@ fn heat(to: &mut Output, record: &[u8], asked: &[u8], out: &mut [u8]) -> io::Res
         return Ok(());
     }
     to.given(
-        heating::heat(record, wire::be32(asked, 0), wire::be32(asked, 4), out),
+        heating::heat(record, u32::at(asked, 0), u32::at(asked, 4), out),
         out,
     )
 }
@@ -128,8 +129,8 @@ fn choose(to: &mut Output, letter: u8, input: &Input<'_>, out: &mut [u8]) -> io:
         to.given(answer, out)?;
     }
     match answer {
-        Answer::Done | Answer::NoSuitableList => Ok(()),
-        _ => kept(to, work, input.fill),
+        Ok(()) | Err(Refusal::NoSuitableList) => Ok(()),
+        Err(_) => kept(to, work, input.fill),
     }
 }
 

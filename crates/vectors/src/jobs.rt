@@ -2,23 +2,21 @@
 ghost use Rattle.std.specs.Prelude.{◌≤◌, length};
 
 use crate::print::Output;
-use answer::Answer;
 use fields::{Header, Job, Section};
 use std::io;
 use std::io::Write;
 
 // A record is read. The fields that it gives are printed, and written again.
 pub fn read(to: &mut Output, record: &[u8], out: &mut [u8]) -> io::Result<()> {
-    let reading = job::read(record);
-    let answer = reading.answer;
-    write!(to, "{:08x}", answer::number(answer))?;
-    if answer::number(answer) != 0 {
-        return Ok(());
+    match job::read(record) {
+        Ok(job) => {
+            write!(to, "00000000 ")?;
+            fields(to, &job)?;
+            write!(to, " ")?;
+            written(to, job, out)
+        }
+        Err(refusal) => write!(to, "{:08x}", u32::from(refusal)),
     }
-    write!(to, " ")?;
-    fields(to, &reading.job)?;
-    write!(to, " ")?;
-    written(to, reading.job, out)
 }
 
 // Fields are written.

@@ -1,5 +1,5 @@
 // The output: bytes in hex, put together in a buffer and written from there.
-use answer::Answer;
+use answer::Refusal;
 use arrayvec::ArrayVec;
 use std::io;
 use std::io::{Stdout, Write};
@@ -42,7 +42,7 @@ impl Output {
     }
 
     // What a call gives: its number, and the buffer that it was lent.
-    pub fn given(&mut self, answer: Answer, buffer: &[u8]) -> io::Result<()> {
+    pub fn given(&mut self, answer: Result<(), Refusal>, buffer: &[u8]) -> io::Result<()> {
         write!(self, "{:08x} ", answer::number(answer))?;
         self.hex(buffer)
     }

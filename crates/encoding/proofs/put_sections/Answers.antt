@@ -1,17 +1,13 @@
 -- One section more is written at its place.
 -- Assumes nothing.
-use Rattle.std.proofs.Common.{arith, ◌∙◌, ◌+◌, ◌-◌}
+use Rattle.std.proofs.Common.{arith, ◌∙◌, ◌+◌}
 use Rattle.record.proofs.Lengths.{section_length}
 use Rattle.record.proofs.Written.{written_none, written_more}
 use Rattle.encoding.proofs.put_sections.Goals as goal
 
 pub loop-i-init : goal.loop-i-init
-loop-i-init c = (omega arith, written_none _ _ _)
+loop-i-init c = written_none _ _ _
 
 pub loop-i-preserved : goal.loop-i-preserved
 loop-i-preserved c =
-    (omega arith, c.put_section.ensures ∙ written_more _ _ _ 10 (λ i. section_length _) (c.loop-i.i + 1 - 1) _ _ _ (omega arith) (grind arith) (omega arith) (omega arith) (grind arith))
-
-pub returns-2 : goal.returns-2
-returns-2 c =
-    c.put_section.ensures ∙ written_more _ _ _ 10 (λ i. section_length _) c.args.count _ _ _ (omega arith) (grind arith) (omega arith) (omega arith) (grind arith)
+    c.put_section.ensures ∙ written_more _ _ _ 10 (λ i. section_length _) (c.loop-i.i + 1) _ _ _ (omega arith) (grind arith) (omega arith) (omega arith) (grind arith)

@@ -1,6 +1,6 @@
--- The sections below the next one stand in the buffer.
+-- The sections so far stand in the buffer.
 -- Assumes nothing.
-use Rattle.std.proofs.Common.{◌≡◌, ◌+◌, ◌-◌, ◌≤◌, get_or}
+use Rattle.std.proofs.Common.{◌≡◌, ◌-◌, get_or}
 use Rattle.basis.specs.Range.{concat_to}
 use Rattle.basis.specs.Stored.{stored}
 use Rattle.fields.specs.Fields.{blank_section}
@@ -9,4 +9,4 @@ use Rattle.encoding.proofs.put_sections.Given as goal
 
 abbrev pub invariant-loop-i : goal.invariant-loop-i
 invariant-loop-i l =
-    (l.i ≤ l.count + 1) × (l.out ≡ stored l.fn.out (sections_from l.version) (concat_to (l.i - 1) (λ i. section_bytes (get_or l.sections i blank_section))))
+    l.out ≡ stored l.fn.out (sections_from l.version) (concat_to l.i (λ i. section_bytes (get_or l.sections (i - 1) blank_section)))

@@ -1,10 +1,13 @@
 -- The house's flows are written, and then the sections'.
 -- Assumes nothing.
-use Rattle.std.proofs.Common.{◌≡◌, ◌+◌, ◌≤◌, get_or, arith, refl}
+use Rattle.std.proofs.Common.{◌≡◌, ℕ, ◌+◌, ◌-◌, ◌≤◌, List, length, get_or, arith, refl, length-drop}
+use Rattle.std.proofs.Math.ListN.{length-take}
+use Rattle.basis.specs.Part.{part}
+use Rattle.basis.proofs.Part.{part_at}
 use Rattle.basis.specs.Range.{concat_to}
 use Rattle.basis.specs.Slots.{slots}
 use Rattle.basis.proofs.Concat.{concat_ext}
-use Rattle.basis.proofs.Slots.{slots_in}
+use Rattle.basis.proofs.Slots.{slots_length, slots_in}
 use Rattle.basis.proofs.Stored.{stored_next}
 use Rattle.wire.specs.Wire.{bytes_of}
 use Rattle.fields.specs.declared.Job.{Job}
@@ -14,16 +17,32 @@ use Rattle.demand.proofs.Validity.{valid_count}
 use Rattle.flow.specs.Calls.{house_bytes, flow_bytes}
 use Rattle.flow.proofs.put_result.Goals as goal
 
--- the flows as they stand at the sections' places
-flows_written : (job : Job) → count_of job ≤ 63 →
-    concat_to (count_of job) (λ i. bytes_of 4 (get_or (slots 64 1 (count_of job + 1) 0 (section_flow job)) i 0)) ≡
-    concat_to (count_of job) (λ i. bytes_of 4 (section_flow job i))
-flows_written job few =
-    concat_ext (count_of job) _ _
-    (λ i a b. rw (slots_in 64 1 (count_of job + 1) 0 (section_flow job) i 0 (omega arith) (omega arith) (omega arith)))
+-- the sections' part of the flows, and their bytes
+module _ (job : Job) (few : count_of job ≤ 63) where
+  abbrev row : List ℕ
+  row = part (slots 64 1 (count_of job + 1) 0 (section_flow job)) 1 (count_of job + 1 - 1)
+
+  row_length : length row ≡ count_of job
+  row_length = simp (length-take, length-drop, slots_length) (omega arith)
+
+  row_written : concat_to (length row) (λ i. bytes_of 4 (get_or row (i - 1) 0)) ≡ concat_to (count_of job) (λ i. bytes_of 4 (section_flow job i))
+  row_written =
+      rw row_length
+      (concat_ext (count_of job) _ _
+      (λ i a b. let e : 1 + (i - 1) ≡ i = omega arith in
+      rw (
+        part_at (slots 64 1 (count_of job + 1) 0 (section_flow job)) 1 (count_of job + 1 - 1) (i - 1) (omega arith),
+        e,
+        slots_in 64 1 (count_of job + 1) 0 (section_flow job) i 0 (omega arith) (omega arith) (omega arith),
+      )))
+
+pub slice_bounds-put_flows-end : goal.slice_bounds-put_flows-end
+slice_bounds-put_flows-end c = omega (arith, c.from-count.ensures, (valid_count c.requires.0.valid).high)
 
 pub put_flows-requires : goal.put_flows-requires
-put_flows-requires c = rw c.from-count.ensures ((valid_count c.requires.0.valid).high, omega arith)
+put_flows-requires c =
+    let few = (valid_count c.requires.0.valid).high in
+    rw (c.from-count.ensures, c.flows-flows.ensures, row_length c.args.job few) (omega arith)
 
 pub returns : goal.returns
 unfolding flow_bytes house_bytes bytes_of
@@ -32,7 +51,7 @@ returns c =
       c.put_flows.ensures,
       c.from-count.ensures,
       c.flows-flows.ensures,
-      flows_written c.args.job (valid_count c.requires.0.valid).high,
+      row_written c.args.job (valid_count c.requires.0.valid).high,
       c.put_house.ensures,
       c.mean_of.ensures,
       c.day_of.ensures,

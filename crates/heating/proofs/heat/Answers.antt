@@ -12,4 +12,4 @@ returns-in_err-job-clause-number c = number_at_exit _ _ c.from_residual.ensures.
 
 pub put_result-requires : goal.put_result-requires
 put_result-requires c =
-    (rw c.in_ok-job.ensures.job (accept_accepted _ (sym c.in_ok-job.ensures.number)), c.if-job-ne-HOT.false, omega arith)
+    (rw c.in_ok-job.ensures.job (accept_accepted _ (sym c.in_ok-job.ensures.number)), omega arith, omega arith)

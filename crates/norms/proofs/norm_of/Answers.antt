@@ -3,6 +3,7 @@
 use Rattle.std.proofs.Common.{◌≡◌, ◌≤◌, ℕ, zero, suc, ◌+◌, ◌-◌, ◌*◌, ◌<◌, List, length, ◌∷◌, [], ◌++◌, get_or, arith, refl, ◌∙◌}
 use Rattle.std.proofs.lemmas.List.{get_or_append_left, get_or-append-add}
 use Rattle.basis.specs.Slots.{tabulate}
+use Rattle.norms.specs.declared.Norm.{Norm}
 use Rattle.norms.specs.Norms.{norm_of, total_cold_hot, day_norms, hour_norms, fixture_norms, hourly_norms}
 use Rattle.norms.proofs.norm_of.Goals as goal
 
@@ -29,6 +30,10 @@ three : (a b d : List ℕ) → length a ≡ 12 → length b ≡ 12 → (k : ℕ)
 three a b d la lb k h zero i = rw (first a (b ++ d) la k h)
 three a b d la lb k h (suc s) i = rw (later a (b ++ d) la k h s) (two b d lb k h s (omega arith))
 
+norm_same : {d h f o d' h' f' o' : ℕ} → d ≡ d' → h ≡ h' → f ≡ f' → o ≡ o' →
+    ◌≡◌ {A = Norm} record { day = d; hour = h; fixture = f; hourly = o } record { day = d'; hour = h'; fixture = f'; hourly = o' }
+norm_same a b c e = cc
+
 pub returns : goal.returns
 unfolding tabulate norm_of total_cold_hot day_norms hour_norms fixture_norms hourly_norms
 returns c =
@@ -36,8 +41,5 @@ returns c =
     let h : k < 12 = omega arith in
     let r = c.min-of_resident.result in
     let f = c.min-of_fixture.result in
-    let day : c.from-3.result ≡ get_or day_norms (12 * r + k) 0 = c.from-3.ensures ∙ three _ _ _ refl refl k h r (omega arith) in
-    let hour : c.from-4.result ≡ get_or hour_norms (12 * r + k) 0 = c.from-4.ensures ∙ three _ _ _ refl refl k h r (omega arith) in
-    let fixture : c.from-5.result ≡ get_or fixture_norms (12 * f + k) 0 = c.from-5.ensures ∙ two _ _ refl k h f (omega arith) in
-    let hourly : c.from-6.result ≡ get_or hourly_norms (12 * f + k) 0 = c.from-6.ensures ∙ two _ _ refl k h f (omega arith) in
-    rw (day, hour, fixture, hourly, c.min-of_resident.ensures, c.min-of_fixture.ensures, c.from.ensures, c.from-2.ensures)
+    let end : record { day = get_or day_norms (12 * r + k) 0; hour = get_or hour_norms (12 * r + k) 0; fixture = get_or fixture_norms (12 * f + k) 0; hourly = get_or hourly_norms (12 * f + k) 0 } ≡ norm_of c.args.service c.args.kind = rw (c.min-of_resident.ensures, c.min-of_fixture.ensures, c.from.ensures, c.from-2.ensures) in
+    norm_same (three _ _ _ refl refl k h r (omega arith)) (three _ _ _ refl refl k h r (omega arith)) (two _ _ refl k h f (omega arith)) (two _ _ refl k h f (omega arith)) ∙ end

@@ -2,7 +2,7 @@
 -- Assumes nothing.
 use Rattle.std.proofs.Common.{arith, rules, of_calls, ltb}
 use Rattle.std.proofs.lemmas.Fn.{always_returns_same}
-use Rattle.catalogue.proofs.Halving.{flow_of, flows_part, point_above}
+use Rattle.catalogue.proofs.FirstRow.{flow_of, flows_part, point_above}
 use Rattle.catalogue.proofs.reading.row_above.Goals as goal
 
 pub returns : goal.returns
