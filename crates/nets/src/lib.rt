@@ -25,7 +25,8 @@ impl Tables {
     pub fn losses_of(&self, s: usize) -> &[u32]
         requires { s ≤ self.now.sections }
         ensures long { length result.now ≡ self.now.sizes }
-        ensures is { (k : ℕ) → k < self.now.sizes → slice_index result.now k ≡ slice_index self.now.losses (s * 13 + (k + 1)) }
+        ensures is { (k : ℕ) → k < self.now.sizes →
+            slice_index result.now k ≡ slice_index self.now.losses (s * 13 + (k + 1)) }
     {
         let at = s * 13;
         &self.losses[at + 1..=at + self.sizes]

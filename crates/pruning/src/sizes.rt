@@ -50,7 +50,8 @@ pub fn trim(tables: &mut Tables, head: usize, s: usize)
 // The least of some losses, where that may be taken.
 fn least_of(losses: &[u32]) -> Option<u32>
     ensures { MatchOption result (EachIndex losses.now (λ k. top ≤ slice_index losses.now k))
-        (λ least. (least < top) × SomeIndex losses.now (λ k. slice_index losses.now k ≡ least) × EachIndex losses.now (λ k. least ≤ slice_index losses.now k)) }
+        (λ least. (least < top) × SomeIndex losses.now (λ k. slice_index losses.now k ≡ least)
+        × EachIndex losses.now (λ k. least ≤ slice_index losses.now k)) }
 {
     losses.iter().copied().min().filter(|l| *l < TOP)
 }

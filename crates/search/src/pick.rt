@@ -11,7 +11,8 @@ use rows::Row;
 
 // What size t and all below cost at the head h, or the mark, which is above all costs, where it leaves its end too little.
 fn cost_at(ws: &[u8], tables: &Tables, row: Row, t: usize, h: usize) -> usize
-    requires { (row.at + t < 832) × (row.need ≤ 4294967295) × (4 * (row.first + t * row.stride + row.high + 1) ≤ length ws.now) }
+    requires { (row.at + t < 832) × (row.need ≤ 4294967295)
+        × (4 * (row.first + t * row.stride + row.high + 1) ≤ length ws.now) }
     ensures { result ≡ options_of row tables.now.losses tables.now.costs ws.now h t }
 {
     let at = row.at + t;
@@ -25,7 +26,8 @@ fn cost_at(ws: &[u8], tables: &Tables, row: Row, t: usize, h: usize) -> usize
 
 // A cheapest of the sizes at the head h, where one will do.
 pub fn cheapest(ws: &[u8], tables: &Tables, row: Row, h: usize) -> Option<usize>
-    requires { (row.at + tables.now.sizes < 832) × (row.need ≤ 4294967295) × (4 * (row.first + tables.now.sizes * row.stride + row.high + 1) ≤ length ws.now) }
+    requires { (row.at + tables.now.sizes < 832) × (row.need ≤ 4294967295)
+        × (4 * (row.first + tables.now.sizes * row.stride + row.high + 1) ≤ length ws.now) }
     ensures { let cost = options_of row tables.now.losses tables.now.costs ws.now h in
         MatchOption result (least_to tables.now.sizes cost ≡ mark) (Picked tables.now.sizes cost) }
 {
