@@ -1,8 +1,9 @@
 -- `meters::meters_ok`: a list of another length and a meter that breaks a rule are refused, and where each keeps them the list passes.
 -- Assumes nothing.
-use Rattle.std.proofs.Common.{◌≡◌, ◌-◌, sym, arith}
+use Rattle.std.proofs.Common.{◌≡◌, ◌≤◌, ◌-◌, sym, arith}
 use Rattle.std.proofs.Math.Nat.{add-sub_cancel}
 use Rattle.std.proofs.lemmas.Grind.{common_steps}
+use Rattle.std.proofs.lemmas.Map.Keys.{le_from_is_le}
 use Rattle.basis.proofs.Each.{all_none, all_more, all_at}
 use Rattle.basis.proofs.Bools.{apart}
 use Rattle.meters.specs.Meters.{meters_ok, meters_in}
@@ -34,4 +35,5 @@ pub returns-else-not-meter_ok : goal.returns-else-not-meter_ok
 returns-else-not-meter_ok c =
     let e : c.loop-t.t ≡ meters_in c.args.list.now = omega arith in
     let all = all_more (c.loop-t.t - 1) c.loop-t.t _ (omega arith) c.loop-t.invariant (rw (← c.meter_at.ensures) (sym c.if-not-meter_ok.ensures)) in
-    sym (in_list _ (record { few = record { low = omega arith; high = grind (arith, common_steps) }; whole = omega arith; each = rw e at all }))
+    let few : meters_in c.args.list.now ≤ 8 = le_from_is_le (meters_in c.args.list.now) 8 (rw c.new.ensures.end at c.if-not-contains.ensures.cases.1) in
+    sym (in_list _ (record { few = record { low = omega arith; high = few }; whole = omega arith; each = rw e at all }))
