@@ -26,15 +26,15 @@ returns-in_err-job c =
 pub returns-then-out-count : goal.returns-then-out-count
 returns-then-out-count c =
     let count : c.from-count.result ≡ count_of (decode c.args.b.now) =
-        c.from-count.ensures ∙ ap (λ (job : Job). job.header.sections) c.in_ok-job.ensures.job in
+    c.from-count.ensures ∙ ap (λ (job : Job). job.header.sections) c.in_ok-job.ensures.job in
     chosen_refused (sym (choose_short _ _ _ _ (sym c.in_ok-job.ensures.number) (rw (← count) (omega arith)))) (λ z. omega arith)
 
 pub returns-then-work-count : goal.returns-then-work-count
 returns-then-work-count c =
     let count : c.from-count.result ≡ count_of (decode c.args.b.now) =
-        c.from-count.ensures ∙ ap (λ (job : Job). job.header.sections) c.in_ok-job.ensures.job in
+    c.from-count.ensures ∙ ap (λ (job : Job). job.header.sections) c.in_ok-job.ensures.job in
     let delivered : c.from-delivered.result ≡ (decode c.args.b.now).header.delivered =
-        c.from-delivered.ensures ∙ ap (λ (job : Job). job.header.delivered) c.in_ok-job.ensures.job in
+    c.from-delivered.ensures ∙ ap (λ (job : Job). job.header.delivered) c.in_ok-job.ensures.job in
     chosen_refused
     (sym (choose_narrow _ _ _ _ (sym c.in_ok-job.ensures.number) (rw (← count) (omega arith)) (rw (count, delivered) at c.if-work-count.true)))
     (λ z. omega arith)
@@ -51,9 +51,9 @@ cheapest-requires c =
 pub returns-in_default : goal.returns-in_default
 returns-in_default c =
     let count : c.from-count.result ≡ count_of (decode c.args.b.now) =
-        c.from-count.ensures ∙ ap (λ (job : Job). job.header.sections) c.in_ok-job.ensures.job in
+    c.from-count.ensures ∙ ap (λ (job : Job). job.header.sections) c.in_ok-job.ensures.job in
     let delivered : c.from-delivered.result ≡ (decode c.args.b.now).header.delivered =
-        c.from-delivered.ensures ∙ ap (λ (job : Job). job.header.delivered) c.in_ok-job.ensures.job in
+    c.from-delivered.ensures ∙ ap (λ (job : Job). job.header.delivered) c.in_ok-job.ensures.job in
     let ready = choose_ready _ _ _ _ (sym c.in_ok-job.ensures.number) (rw (← count) (omega arith)) (rw (count, delivered) at c.if-work-count.false) in
     chosen_none ready (rw (delivered, c.in_ok-job.ensures.job) at c.in_default.ensures)
 
@@ -65,8 +65,8 @@ put_result-requires c =
 pub returns : goal.returns
 returns c =
     let count : c.from-count.result ≡ count_of (decode c.args.b.now) =
-        c.from-count.ensures ∙ ap (λ (job : Job). job.header.sections) c.in_ok-job.ensures.job in
+    c.from-count.ensures ∙ ap (λ (job : Job). job.header.sections) c.in_ok-job.ensures.job in
     let delivered : c.from-delivered.result ≡ (decode c.args.b.now).header.delivered =
-        c.from-delivered.ensures ∙ ap (λ (job : Job). job.header.delivered) c.in_ok-job.ensures.job in
+    c.from-delivered.ensures ∙ ap (λ (job : Job). job.header.delivered) c.in_ok-job.ensures.job in
     let ready = choose_ready _ _ _ _ (sym c.in_ok-job.ensures.number) (rw (← count) (omega arith)) (rw (count, delivered) at c.if-work-count.false) in
     chosen_least ready refl (rw (delivered, c.in_ok-job.ensures.job) at c.in-Some.ensures) (rw count at c.put_result.ensures)
