@@ -41,5 +41,16 @@ returns c =
     let h : k < 12 = omega arith in
     let r = c.min-of_resident.result in
     let f = c.min-of_fixture.result in
-    let end : record { day = get_or day_norms (12 * r + k) 0; hour = get_or hour_norms (12 * r + k) 0; fixture = get_or fixture_norms (12 * f + k) 0; hourly = get_or hourly_norms (12 * f + k) 0 } ≡ norm_of c.args.service c.args.kind = rw (c.min-of_resident.ensures, c.min-of_fixture.ensures, c.from.ensures, c.from-2.ensures) in
-    norm_same (three _ _ _ refl refl k h r (omega arith)) (three _ _ _ refl refl k h r (omega arith)) (two _ _ refl k h f (omega arith)) (two _ _ refl k h f (omega arith)) ∙ end
+    let by_place : record {
+      day = get_or day_norms (12 * r + k) 0;
+      hour = get_or hour_norms (12 * r + k) 0;
+      fixture = get_or fixture_norms (12 * f + k) 0;
+      hourly = get_or hourly_norms (12 * f + k) 0;
+    } ≡ norm_of c.args.service c.args.kind =
+    rw (c.min-of_resident.ensures, c.min-of_fixture.ensures, c.from.ensures, c.from-2.ensures) in
+    norm_same
+    (three _ _ _ refl refl k h r (omega arith))
+    (three _ _ _ refl refl k h r (omega arith))
+    (two _ _ refl k h f (omega arith))
+    (two _ _ refl k h f (omega arith)) ∙
+    by_place
