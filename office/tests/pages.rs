@@ -1,5 +1,6 @@
 //! What the repository's pages show is so. The pages are `README.md`, `CONTRIBUTING.md`, `docs/*.md` and `office/README.md`, but not
-//! `docs/PORT.md`, which has the text of another commit beside today's; a test for each rule, in the forms that the pages keep to:
+//! `docs/PORT.md` and `docs/DESIGN-PASS.md`, which have the text of another commit beside today's; a test for each rule, in the
+//! forms that the pages keep to:
 //!
 //! - Paths. A word in backquotes that begins with a folder of `FOLDERS` is a path from the top, in `office/README.md` one that
 //!   begins with a folder of `OWN` from `office/`. It is there. Left aside are what the build makes (`target/`) and words with
@@ -33,6 +34,8 @@ use std::path::Path;
 use std::process::Command;
 
 const FOLDERS: [&str; 6] = ["crates/", "docs/", "examples/", "office/", "model/", "tools/"];
+/// Pages with the text of another commit beside today's.
+const OF_OTHER_COMMITS: [&str; 2] = ["docs/PORT.md", "docs/DESIGN-PASS.md"];
 /// From the folder of `office/README.md`.
 const OWN: [&str; 4] = ["src/", "tests/", "include/", "../"];
 
@@ -44,7 +47,8 @@ struct Page {
 fn pages() -> Vec<Page> {
     let docs = std::fs::read_dir(top().join("docs")).expect("the pages are there");
     let docs = docs.map(|file| format!("docs/{}", file.expect("a file").file_name().to_string_lossy()));
-    let mut names: Vec<String> = docs.filter(|name| name.ends_with(".md") && name != "docs/PORT.md").collect();
+    let own = |name: &String| name.ends_with(".md") && !OF_OTHER_COMMITS.contains(&name.as_str());
+    let mut names: Vec<String> = docs.filter(own).collect();
     names.sort();
     names.extend(["README.md", "CONTRIBUTING.md", "office/README.md"].map(String::from));
     let there = names.into_iter().filter(|name| top().join(name).exists());
