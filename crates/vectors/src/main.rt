@@ -13,7 +13,7 @@ use std::io;
 use std::io::{Read, Write};
 use vector_lines::Line;
 
-// A read that fails ends the input, and output that cannot be written ends the program, as ever.
+// At most 256 MiB are read. A read that fails ends the input, and output that cannot be written ends the program with its status.
 fn main(rt: HostRuntime) {
     let mut to = Output::new(rt.stdout());
     let _ = answer_all(&mut rt.stdin(), &mut to);
@@ -21,7 +21,7 @@ fn main(rt: HostRuntime) {
 
 fn answer_all(input: &mut impl Read, to: &mut Output) -> io::Result<()> {
     let mut line = Line::new();
-    for byte in input.bytes().map_while(Result::ok) {
+    for byte in input.bytes().map_while(Result::ok).take(1 << 28) {
         line.take(byte, to)?;
     }
     to.flush()

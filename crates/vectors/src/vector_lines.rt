@@ -48,8 +48,11 @@ impl Line {
         to.write_all(b"\n")
     }
 
-    // Digits past the room do not count.
+    // Capitals are no digits, and digits past the room do not count.
     fn take_digit(&mut self, b: u8) {
+        if b.is_ascii_uppercase() {
+            return;
+        }
         let Some(x) = char::from(b).to_digit(16) else {
             return;
         };
