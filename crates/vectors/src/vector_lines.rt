@@ -11,7 +11,7 @@ pub struct Line {
     letter: Option<u8>,
     bytes: ArrayVec<u8, 8191>,
     // The first digit of a pair.
-    half: Option<u32>,
+    half: Option<u8>,
 }
 
 impl Line {
@@ -39,8 +39,11 @@ impl Line {
         Ok(())
     }
 
-    // The letter asks for a call of the bytes that follow it.
+    // The letter asks for a call of the bytes that follow it. A digit without another is a byte.
     fn end(&mut self, to: &mut Output) -> io::Result<()> {
+        if let Some(x) = self.half {
+            let _ = self.bytes.try_push(x);
+        }
         if let Some(letter) = self.letter {
             calls::answer(to, letter, &self.bytes)?;
         }
@@ -53,12 +56,13 @@ impl Line {
         if b.is_ascii_uppercase() {
             return;
         }
-        let Some(x) = char::from(b).to_digit(16) else {
+        let Some(digit) = char::from(b).to_digit(16) else {
             return;
         };
+        let x = digit as u8;
         match self.half.take() {
             Some(high) => {
-                let _ = self.bytes.try_push((high % 16 * 16 + x) as u8);
+                let _ = self.bytes.try_push(high % 16 * 16 + x);
             }
             None => self.half = Some(x),
         }
