@@ -9,8 +9,8 @@ use text::Text;
 
 // Hour, day and mean hour.
 #[tactic(auto, using(crate::proofs::Spaced::pieces), unfolding(crate::specs::Lines::house_line))]
-pub fn put_house(text: &mut Text, hour: u32, day: u32, mean: u32)
-    requires { length text.old + 39 ≤ 4096 }
+pub fn put_house<const ROOM: usize>(text: &mut Text<ROOM>, hour: u32, day: u32, mean: u32)
+    requires { length text.old + 39 ≤ ROOM }
     ensures bytes { text.new ≡ text.old ++ house_line hour day mean }
     ensures room { length text.new ≤ length text.old + 39 }
 {
@@ -20,8 +20,14 @@ pub fn put_house(text: &mut Text, hour: u32, day: u32, mean: u32)
 
 // Number, flow, velocity and loss of a section.
 #[tactic(auto, using(crate::proofs::Spaced::pieces), unfolding(crate::specs::Lines::section_line))]
-pub fn put_section(text: &mut Text, i: u32, flow: u32, velocity: u32, loss: u32)
-    requires { length text.old + 52 ≤ 4096 }
+pub fn put_section<const ROOM: usize>(
+    text: &mut Text<ROOM>,
+    i: u32,
+    flow: u32,
+    velocity: u32,
+    loss: u32,
+)
+    requires { length text.old + 52 ≤ ROOM }
     ensures bytes { text.new ≡ text.old ++ section_line i flow velocity loss }
     ensures room { length text.new ≤ length text.old + 52 }
 {
@@ -31,8 +37,8 @@ pub fn put_section(text: &mut Text, i: u32, flow: u32, velocity: u32, loss: u32)
 
 // Required head, pump head and dictating section.
 #[tactic(auto, using(crate::proofs::Spaced::pieces), unfolding(crate::specs::Lines::head_line, crate::specs::Lines::spaced))]
-pub fn put_head(text: &mut Text, required: i32, pump: u32, dictating: u32)
-    requires { length text.old + 39 ≤ 4096 }
+pub fn put_head<const ROOM: usize>(text: &mut Text<ROOM>, required: i32, pump: u32, dictating: u32)
+    requires { length text.old + 39 ≤ ROOM }
     ensures bytes { text.new ≡ text.old ++ head_line required pump dictating }
     ensures room { length text.new ≤ length text.old + 39 }
 {
@@ -43,8 +49,8 @@ pub fn put_head(text: &mut Text, required: i32, pump: u32, dictating: u32)
 
 // A refusal's number.
 #[tactic(auto, using(crate::proofs::Spaced::pieces), unfolding(crate::specs::Lines::refused_line))]
-pub fn put_refused(text: &mut Text, number: u32)
-    requires { length text.old + 19 ≤ 4096 }
+pub fn put_refused<const ROOM: usize>(text: &mut Text<ROOM>, number: u32)
+    requires { length text.old + 19 ≤ ROOM }
     ensures bytes { text.new ≡ text.old ++ refused_line number }
     ensures room { length text.new ≤ length text.old + 19 }
 {
@@ -54,8 +60,8 @@ pub fn put_refused(text: &mut Text, number: u32)
 
 // The figures of a line, and its newline.
 #[tactic(auto, using(crate::proofs::Spaced::pieces))]
-fn put_figures(text: &mut Text, figures: &[u32])
-    requires { length text.old + (11 * length figures.now + 1) ≤ 4096 }
+fn put_figures<const ROOM: usize>(text: &mut Text<ROOM>, figures: &[u32])
+    requires { length text.old + (11 * length figures.now + 1) ≤ ROOM }
     ensures bytes { text.new ≡ text.old ++ spaced (map decimal figures.now) }
     ensures room { length text.new ≤ length text.old + (11 * length figures.now + 1) }
 {

@@ -17,7 +17,7 @@ use rated_bytes::{Figure, losses_of};
 use text::Text;
 
 // The lines of sections 1 to count.
-fn put_sections(text: &mut Text, count: usize, figures: &[Figure; 64])
+fn put_sections(text: &mut Text<4096>, count: usize, figures: &[Figure; 64])
     requires { (count ≤ 63) × (length text.old + 52 * count ≤ 4096) }
     ensures bytes { text.new ≡ text.old ++ concat_to count
         (λ i. section_line i (get_or (flows_of figures.now) i 0) (get_or (velocities_of figures.now) i 0) (get_or (losses_of figures.now) i 0)) }
@@ -30,7 +30,7 @@ fn put_sections(text: &mut Text, count: usize, figures: &[Figure; 64])
 }
 
 // House, sections and heads.
-fn rated(job: Job, figures: &[Figure; 64]) -> Text
+fn rated(job: Job, figures: &[Figure; 64]) -> Text<4096>
     requires { Accepted job × Given job (losses_of figures.now)
         × (flows_of figures.now ≡ slots 64 1 (count_of job + 1) 0 (section_flow job)) }
     ensures { result ≡ lines_of job (λ i. get_or (velocities_of figures.now) i 0) (λ i. get_or (losses_of figures.now) i 0) }
@@ -54,7 +54,7 @@ fn rated(job: Job, figures: &[Figure; 64]) -> Text
 }
 
 // The line of a refusal.
-fn refused(number: u32) -> Text
+fn refused(number: u32) -> Text<4096>
     ensures { result ≡ refused_line number }
 {
     let mut text = Text::new();
@@ -63,7 +63,7 @@ fn refused(number: u32) -> Text
 }
 
 // A rating's lines, or the line of a refusal. Nothing is lent for a result, so it is rated with room for the longest, 9 + 6 × 63 bytes.
-pub fn text_of(b: &[u8], cat: &[u8], list: &[u8]) -> Text
+pub fn text_of(b: &[u8], cat: &[u8], list: &[u8]) -> Text<4096>
     ensures { result ≡ text_of b.now cat.now list.now }
 {
     match rating::outcome(b, cat, list, 387, 9, 6) {

@@ -21,7 +21,7 @@ fn record_end(s: &[u8]) -> usize
 }
 
 // The sheet of job, catalogue and size list, one after another.
-fn parts_text(read: &[u8]) -> Text
+fn parts_text(read: &[u8]) -> Text<4096>
     ensures { result ≡ text_of (record_of read.now) (record_of (after_record read.now)) (after_record (after_record read.now)) }
 {
     let (job, rest) = read.split_at(record_end(read));
