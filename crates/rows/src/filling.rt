@@ -24,7 +24,7 @@ fn complete(
     ensures begun { get_or begun.new s false ≡ true }
 {
     if !begun[s] {
-        let row = row_of(tables, highs, head, s);
+        let row = row_of(&tables.needs, highs, head, s);
         settle(ws, row.first, row.heads());
     }
     begun[s] = true;
@@ -47,9 +47,9 @@ fn take_up(
     ensures filling { Filling (net_in tables.now) head (λ s. get_or highs.now s 0) ws.new begun.new (s - 1) }
 {
     complete(ws, begun, tables, highs, head, s);
-    let row = row_of(tables, highs, head, s);
+    let row = row_of(&tables.needs, highs, head, s);
     let p = usize::from(tables.parents[s]);
-    let parent = row_of(tables, highs, head, p);
+    let parent = row_of(&tables.needs, highs, head, p);
     bests(ws, best, tables, row, parent);
     hand_up(ws, best, begun, p, parent);
 }
@@ -61,7 +61,7 @@ pub fn fill(ws: &mut [u8], tables: &Tables, highs: &[usize; 64], head: usize)
     ensures holds { Holds (net_in tables.now) head (λ s. get_or highs.now s 0) ws.new }
 {
     let mut best = [MARK; 7001];
-    // Which rows hold something: tried, a workspace that is cleared first takes longer (docs/PERFORMANCE.md).
+    // Which rows hold something: a workspace that is cleared first takes longer (docs/PERFORMANCE.md).
     let mut begun = [false; 64];
     for s in (1..=tables.sections).rev() {
         take_up(ws, &mut best, &mut begun, tables, highs, head, s);

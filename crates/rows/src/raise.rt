@@ -32,12 +32,12 @@ impl Row {
 }
 
 // The row of section s: rows of head + 1 cells one after another, the pump's first.
-pub fn row_of(tables: &Tables, highs: &[usize; 64], head: usize, s: usize) -> Row
+pub fn row_of(needs: &[u32; 64], highs: &[usize; 64], head: usize, s: usize) -> Row
     requires { (s < 64) × (head ≤ 7000) }
-    ensures { (result ≡ row_of tables.now.needs highs.now head s) × (get_or tables.now.needs s 0 ≤ 4294967295) }
+    ensures { (result ≡ row_of needs.now highs.now head s) × (get_or needs.now s 0 ≤ 4294967295) }
 {
     Row {
-        need: tables.needs[s] as usize,
+        need: needs[s] as usize,
         high: highs[s],
         at: s * 13,
         first: s * (head + 1),

@@ -23,7 +23,7 @@ pub fn recover(ws: &[u8], tables: &Tables, highs: &[usize; 64], head: usize) -> 
     let mut list = [0u8; 63];
     heads[0] = highs[0];
     for s in 1..=tables.sections {
-        let row = row_of(tables, highs, head, s);
+        let row = row_of(&tables.needs, highs, head, s);
         let above = heads[usize::from(tables.parents[s])];
         let t = cheapest(ws, tables, row, above).unwrap();
         list[s - 1] = t as u8;
