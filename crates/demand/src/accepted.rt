@@ -32,6 +32,7 @@ impl AcceptedJob {
     ghost use Rattle.demand.specs.Demand.{section_flow, house_flow, hour_of, mean_of};
 
     /// The flow of each section, at the section's place.
+    #[tactic(auto, using(crate::proofs::Validity::valid_rooted, crate::proofs::Validity::valid_kinds, crate::proofs::Validity::valid_count, crate::proofs::Totals::m_pos, crate::proofs::Totals::section_m_top, crate::proofs::DesignFlows::flow_asks))]
     pub fn flows(&self) -> [u32; 64]
         ensures { result ≡ slots 64 1 (count_of self.now.job + 1) 0 (section_flow self.now.job) }
     {
@@ -45,6 +46,7 @@ impl AcceptedJob {
     }
 
     /// The house's design flow, which the pump set delivers.
+    #[tactic(auto, using(crate::proofs::Validity::valid_rooted, crate::proofs::Validity::valid_kinds, crate::proofs::Deciding::house_m, crate::proofs::Totals::house_m_pos, crate::proofs::Totals::house_m_top, crate::proofs::DesignFlows::flow_asks))]
     pub fn house_flow(&self) -> u32
         ensures { result ≡ house_flow self.now.job }
     {
@@ -53,6 +55,7 @@ impl AcceptedJob {
     }
 
     /// The flow of the greatest hour in l/h.
+    #[tactic(auto, using(crate::proofs::Totals::hour_sum_top, crate::proofs::DesignFlows::house_hour_top), unfolding(crate::specs::Demand::hour_of))]
     pub fn hour(&self) -> u32
         ensures { result ≡ hour_of self.now.job }
     {
@@ -62,6 +65,7 @@ impl AcceptedJob {
     }
 
     /// The mean hour in l/h.
+    #[tactic(auto, using(crate::proofs::Validity::valid_hours, crate::proofs::Tops::mean_top), unfolding(crate::specs::Demand::mean_of))]
     pub fn mean(&self) -> u32
         ensures { result ≡ mean_of self.now.job }
     {
