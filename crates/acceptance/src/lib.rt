@@ -7,24 +7,24 @@ ghost use Rattle.record.specs.Record.{decode};
 ghost use Rattle.acceptance.specs.Acceptance.{job_no, input_no};
 
 use answer::Refusal;
-use fields::Job;
+use demand::AcceptedJob;
 
 /// Any bytes give an accepted job or a number from 1 to 9.
-pub fn accept(b: &[u8]) -> Result<Job, Refusal>
+pub fn accept(b: &[u8]) -> Result<AcceptedJob, Refusal>
     ensures number { number_of result ≡ job_no b.now }
-    ensures job { IfOk result (λ job. job ≡ decode b.now) }
+    ensures job { IfOk result (λ accepted. accepted.job ≡ decode b.now) }
 {
     let job = job::read(b)?;
     demand::demand_refusal(job)?;
-    Ok(job)
+    Ok(AcceptedJob { job })
 }
 
 /// Any bytes give an accepted job beside an accepted catalogue, or a number from 1 to 11.
-pub fn accept_both(b: &[u8], cat: &[u8]) -> Result<Job, Refusal>
+pub fn accept_both(b: &[u8], cat: &[u8]) -> Result<AcceptedJob, Refusal>
     ensures number { number_of result ≡ input_no b.now cat.now }
-    ensures job { IfOk result (λ job. job ≡ decode b.now) }
+    ensures job { IfOk result (λ accepted. accepted.job ≡ decode b.now) }
 {
-    let job = accept(b)?;
+    let accepted = accept(b)?;
     catalogue::catalogue_refusal(cat)?;
-    Ok(job)
+    Ok(accepted)
 }

@@ -23,16 +23,16 @@ pub fn choose(b: &[u8], cat: &[u8], work: &mut [u8], out: &mut [u8]) -> Result<(
     ensures { Chosen b.now cat.now out.old work.old out.new work.new
         (number_of result) }
 {
-    let job = acceptance::accept_both(b, cat)?;
-    let count = usize::from(job.header.sections);
+    let accepted = acceptance::accept_both(b, cat)?;
+    let count = usize::from(accepted.job.header.sections);
     if out.len() < 4 + count {
         return Err(Refusal::ResultShort);
     }
-    let delivered = usize::from(job.header.delivered);
+    let delivered = usize::from(accepted.job.header.delivered);
     if work.len() < 4 * ((count + 1) * (delivered + 1001)) {
         return Err(Refusal::WorkShort);
     }
-    let Some(choice) = cheapest(job, cat, delivered, work) else {
+    let Some(choice) = cheapest(&accepted, cat, delivered, work) else {
         return Err(Refusal::NoSuitableList);
     };
     put_result(out, choice.cost, choice.sizes, count);

@@ -1,7 +1,6 @@
 // The cheapest suitable list of an accepted job with an accepted catalogue.
 ghost use Rattle.std.specs.Prelude.{List, ℕ, ◌≤◌, length, take, MatchOption};
 ghost use Rattle.fields.specs.Fields.{count_of};
-ghost use Rattle.demand.specs.Demand.{Accepted};
 ghost use Rattle.catalogue.specs.Steps.{AcceptedCat};
 ghost use Rattle.nets.specs.NetIn.{net_in};
 ghost use Rattle.choosing.specs.Suitable.{SuitableAt};
@@ -10,18 +9,19 @@ ghost use Rattle.choosing.specs.Steps.{Least, TreeOf};
 
 use crate::ends::needs_of;
 use crate::options::put_options;
-use fields::Job;
+use demand::AcceptedJob;
 use nets::Tables;
 use search::Choice;
 
 // The tree of a job's sections, and what each of the catalogue's sizes loses and costs there.
-fn tables_of(job: &Job, cat: &[u8]) -> Tables
-    requires { Accepted job.now × AcceptedCat cat.now }
-    ensures { TreeOf job.now cat.now (net_in result) }
+fn tables_of(accepted: &AcceptedJob, cat: &[u8]) -> Tables
+    requires { AcceptedCat cat.now }
+    ensures { TreeOf accepted.now.job cat.now (net_in result) }
 {
+    let job = &accepted.job;
     let mut losses = [0u32; 832];
     let mut costs = [0u32; 832];
-    put_options(job, cat, &mut losses, &mut costs);
+    put_options(accepted, cat, &mut losses, &mut costs);
     Tables {
         sections: usize::from(job.header.sections),
         sizes: usize::from(catalogue::sizes_of(cat)),
@@ -33,12 +33,17 @@ fn tables_of(job: &Job, cat: &[u8]) -> Tables
 }
 
 // A cheapest list that suits at a delivered head, if one does, found over the lent workspace. Heads of the search are 1,000 cm more than the job's, so that none is negative.
-pub fn cheapest(job: Job, cat: &[u8], delivered: usize, work: &mut [u8]) -> Option<Choice>
-    requires { Accepted job × AcceptedCat cat.now × (delivered ≤ 6000) × (work_length (count_of job) delivered ≤ length work.old) }
-    ensures { MatchOption result ((y : List ℕ) → SuitableAt job cat.now delivered y → ⊥)
-        (λ c. Least job cat.now delivered c.cost (take (count_of job) c.sizes)) }
+pub fn cheapest(
+    accepted: &AcceptedJob,
+    cat: &[u8],
+    delivered: usize,
+    work: &mut [u8],
+) -> Option<Choice>
+    requires { AcceptedCat cat.now × (delivered ≤ 6000) × (work_length (count_of accepted.now.job) delivered ≤ length work.old) }
+    ensures { MatchOption result ((y : List ℕ) → SuitableAt accepted.now.job cat.now delivered y → ⊥)
+        (λ c. Least accepted.now.job cat.now delivered c.cost (take (count_of accepted.now.job) c.sizes)) }
 {
-    let tables = tables_of(&job, cat);
-    let meter = usize::from(job.header.meter);
+    let tables = tables_of(accepted, cat);
+    let meter = usize::from(accepted.job.header.meter);
     search::choose(work, &tables, delivered + 1000 - meter)
 }

@@ -1,13 +1,13 @@
 // What each section may have: loss and cost with each size of the catalogue.
 ghost use Rattle.std.specs.Prelude.{◌≡◌, ◌*◌, ◌≤◌, ◌<◌, length};
 ghost use Rattle.fields.specs.Fields.{count_of};
-ghost use Rattle.demand.specs.Demand.{Accepted};
 ghost use Rattle.catalogue.specs.Layout.{sizes_of, price_of};
 ghost use Rattle.catalogue.specs.Steps.{AcceptedCat};
 ghost use Rattle.choosing.specs.Suitable.{price_at};
 ghost use Rattle.choosing.specs.Steps.{entry_of, loss_by, loss_entry, Entered, Tabled};
 
-use fields::{Header, Job, Section};
+use demand::AcceptedJob;
+use fields::{Header, Section};
 use nets::TOP;
 use sizing::Tried;
 
@@ -45,12 +45,18 @@ fn put_row(
 }
 
 // Both tables.
-pub fn put_options(job: &Job, cat: &[u8], losses: &mut [u32; 832], costs: &mut [u32; 832])
-    requires { Accepted job.now × AcceptedCat cat.now }
-    ensures losses { Tabled (loss_entry job.now cat.now) (count_of job.now) (sizes_of cat.now) losses.new }
-    ensures costs { Tabled (λ i s. price_at job.now cat.now s i) (count_of job.now) (sizes_of cat.now) costs.new }
+pub fn put_options(
+    accepted: &AcceptedJob,
+    cat: &[u8],
+    losses: &mut [u32; 832],
+    costs: &mut [u32; 832],
+)
+    requires { AcceptedCat cat.now }
+    ensures losses { Tabled (loss_entry accepted.now.job cat.now) (count_of accepted.now.job) (sizes_of cat.now) losses.new }
+    ensures costs { Tabled (λ i s. price_at accepted.now.job cat.now s i) (count_of accepted.now.job) (sizes_of cat.now) costs.new }
 {
-    let flows = demand::flows(*job);
+    let flows = accepted.flows();
+    let job = &accepted.job;
     for i in 1..=usize::from(job.header.sections) {
         put_row(job.header, job.sections[i], cat, i, flows[i], losses, costs);
     }

@@ -1,9 +1,11 @@
 // Design flows and demands of a job whose fields keep their rules.
 #![tactic(auto)]
 
-mod hour;
-mod section;
+mod accepted;
+mod day;
+mod refusal;
 mod sums;
 
-pub use hour::{day_of, hour_of, mean_of};
-pub use section::{demand_refusal, flows, house_flow};
+pub use accepted::AcceptedJob;
+pub use day::day_of;
+pub use refusal::demand_refusal;

@@ -11,12 +11,11 @@ ghost use Rattle.answer.specs.Checks.{buffer_after};
 ghost use Rattle.wire.specs.Wire.{bytes_of};
 ghost use Rattle.fields.specs.Fields.{count_of};
 ghost use Rattle.record.specs.Record.{decode};
-ghost use Rattle.demand.specs.Demand.{Accepted};
 ghost use Rattle.flow.specs.Calls.{flow_length, house_bytes, flow_bytes, flow_no};
 
 use acceptance::accept;
 use answer::Refusal;
-use fields::Job;
+use demand::AcceptedJob;
 pub use pump::duty;
 use wire::Field;
 
@@ -41,17 +40,17 @@ fn put_house(out: &mut [u8], hour: u32, day: u32, mean: u32)
 }
 
 // The whole flow result.
-fn put_result(out: &mut [u8], job: Job)
-    requires { Accepted job × (flow_length (count_of job) ≤ length out.old) }
-    ensures { out.new ≡ stored out.old 0 (flow_bytes job) }
+fn put_result(out: &mut [u8], accepted: &AcceptedJob)
+    requires { flow_length (count_of accepted.now.job) ≤ length out.old }
+    ensures { out.new ≡ stored out.old 0 (flow_bytes accepted.now.job) }
 {
-    let count = usize::from(job.header.sections);
-    let flows = demand::flows(job);
+    let count = usize::from(accepted.job.header.sections);
+    let flows = accepted.flows();
     put_house(
         out,
-        demand::hour_of(job),
-        demand::day_of(job),
-        demand::mean_of(job),
+        accepted.hour(),
+        demand::day_of(accepted.job),
+        accepted.mean(),
     );
     put_flows(out, &flows[1..=count]);
 }
@@ -62,11 +61,11 @@ pub fn flow(b: &[u8], out: &mut [u8]) -> Result<(), Refusal>
     ensures number { number_of result ≡ flow_no b.now (length out.old) }
     ensures buffer { out.new ≡ buffer_after (number_of result) (flow_bytes (decode b.now)) out.old }
 {
-    let job = accept(b)?;
-    let count = usize::from(job.header.sections);
+    let accepted = accept(b)?;
+    let count = usize::from(accepted.job.header.sections);
     if out.len() < 12 + 4 * count {
         return Err(Refusal::ResultShort);
     }
-    put_result(out, job);
+    put_result(out, &accepted);
     Ok(())
 }

@@ -15,10 +15,10 @@ pub fn duty(b: &[u8], out: &mut [u8]) -> Result<(), Refusal>
     ensures number { number_of result ≡ duty_no b.now (length out.old) }
     ensures buffer { out.new ≡ buffer_after (number_of result) (duty_bytes (decode b.now)) out.old }
 {
-    let job = accept(b)?;
+    let accepted = accept(b)?;
     if out.len() < 4 {
         return Err(Refusal::ResultShort);
     }
-    demand::house_flow(job).put_at(out, 0);
+    accepted.house_flow().put_at(out, 0);
     Ok(())
 }

@@ -7,13 +7,12 @@ ghost use Rattle.answer.specs.Answer.{number_of};
 ghost use Rattle.answer.specs.Checks.{buffer_after};
 ghost use Rattle.fields.specs.Fields.{service_of};
 ghost use Rattle.record.specs.Record.{decode};
-ghost use Rattle.demand.specs.Demand.{Accepted};
 ghost use Rattle.heating.specs.Heat.{watts_of, heat_ok};
 ghost use Rattle.heating.specs.Calls.{heat_no, heat_bytes};
 
 use acceptance::accept;
 use answer::Refusal;
-use fields::Job;
+use demand::AcceptedJob;
 use wire::Field;
 
 // The service of a hot line.
@@ -56,12 +55,12 @@ impl Asked {
 
 // The mean hour's heat flow, then the greatest hour's.
 #[tactic(auto, using(demand::proofs::DesignFlows::house_hour_top))]
-fn put_result(out: &mut [u8], job: Job, asked: Asked)
-    requires { Accepted job × (service_of job ≡ 2) × (8 ≤ length out.old) }
-    ensures { out.new ≡ stored out.old 0 (heat_bytes job asked.t asked.loss) }
+fn put_result(out: &mut [u8], accepted: AcceptedJob, asked: Asked)
+    requires { (service_of accepted.job ≡ 2) × (8 ≤ length out.old) }
+    ensures { out.new ≡ stored out.old 0 (heat_bytes accepted.job asked.t asked.loss) }
 {
-    let mean = asked.watts(demand::mean_of(job));
-    let greatest = asked.watts(demand::hour_of(job));
+    let mean = asked.watts(accepted.mean());
+    let greatest = asked.watts(accepted.hour());
     mean.put_at(out, 0);
     greatest.put_at(out, 4);
 }
@@ -72,14 +71,14 @@ pub fn heat(b: &[u8], t: u32, loss: u32, out: &mut [u8]) -> Result<(), Refusal>
     ensures number { number_of result ≡ heat_no b.now t loss (length out.old) }
     ensures buffer { out.new ≡ buffer_after (number_of result) (heat_bytes (decode b.now) t loss) out.old }
 {
-    let job = accept(b)?;
-    if job.header.service != HOT {
+    let accepted = accept(b)?;
+    if accepted.job.header.service != HOT {
         return Err(Refusal::NotHot);
     }
     let asked = Asked::new(t, loss)?;
     if out.len() < 8 {
         return Err(Refusal::ResultShort);
     }
-    put_result(out, job, asked);
+    put_result(out, accepted, asked);
     Ok(())
 }

@@ -46,12 +46,12 @@ pub fn heads(b: &[u8], given: &[u8], out: &mut [u8]) -> Result<(), Refusal>
     ensures buffer { out.new ≡ buffer_after (number_of result)
         (lent_bytes (decode b.now) given.now) out.old }
 {
-    let job = accept(b)?;
-    let count = usize::from(job.header.sections);
+    let accepted = accept(b)?;
+    let count = usize::from(accepted.job.header.sections);
     let losses = read_losses(given, count).ok_or(Refusal::LossList)?;
     if out.len() < HEADS_LENGTH {
         return Err(Refusal::ResultShort);
     }
-    put_heads(out, job, losses);
+    put_heads(out, accepted.job, losses);
     Ok(())
 }

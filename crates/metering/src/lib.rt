@@ -25,15 +25,15 @@ pub fn meter(b: &[u8], meters: &[u8], out: &mut [u8]) -> Result<(), Refusal>
     ensures number { number_of result ≡ meter_no b.now meters.now (length out.old) }
     ensures buffer { out.new ≡ buffer_after (number_of result) (meter_bytes b.now meters.now) out.old }
 {
-    let job = accept(b)?;
+    let accepted = accept(b)?;
     if !meters::meters_ok(meters) {
         return Err(Refusal::MeterList);
     }
     if out.len() <= b.len() {
         return Err(Refusal::ResultShort);
     }
-    let q = demand::house_flow(job);
-    let Some(place) = meters::winner(meters, q, demand::mean_of(job)) else {
+    let q = accepted.house_flow();
+    let Some(place) = meters::winner(meters, q, accepted.mean()) else {
         return Err(Refusal::NoMeter);
     };
     let loss = meters::loss_of(meters::meter_at(meters, place), q);

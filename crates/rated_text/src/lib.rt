@@ -5,13 +5,13 @@ ghost use Rattle.std.specs.Prelude.{◌≡◌, ◌+◌, ◌*◌, ◌≤◌, ◌+
 ghost use Rattle.basis.specs.Range.{concat_to};
 ghost use Rattle.basis.specs.Slots.{slots};
 ghost use Rattle.fields.specs.Fields.{count_of};
-ghost use Rattle.demand.specs.Demand.{Accepted, section_flow};
+ghost use Rattle.demand.specs.Demand.{section_flow};
 ghost use Rattle.heads.specs.Steps.{Given};
 ghost use Rattle.rated_bytes.specs.Figures.{flows_of, velocities_of, losses_of};
 ghost use Rattle.lines.specs.Lines.{section_line, refused_line};
 ghost use Rattle.rated_text.specs.RatedText.{lines_of, text_of};
 
-use fields::Job;
+use demand::AcceptedJob;
 use lines::{put_head, put_house, put_refused, put_section};
 use rated_bytes::{Figure, losses_of};
 use text::Text;
@@ -30,20 +30,20 @@ fn put_sections(text: &mut Text<4096>, count: usize, figures: &[Figure; 64])
 }
 
 // House, sections and heads.
-fn rated(job: Job, figures: &[Figure; 64]) -> Text<4096>
-    requires { Accepted job × Given job (losses_of figures.now)
-        × (flows_of figures.now ≡ slots 64 1 (count_of job + 1) 0 (section_flow job)) }
-    ensures { result ≡ lines_of job (λ i. get_or (velocities_of figures.now) i 0) (λ i. get_or (losses_of figures.now) i 0) }
+fn rated(accepted: &AcceptedJob, figures: &[Figure; 64]) -> Text<4096>
+    requires { Given accepted.now.job (losses_of figures.now)
+        × (flows_of figures.now ≡ slots 64 1 (count_of accepted.now.job + 1) 0 (section_flow accepted.now.job)) }
+    ensures { result ≡ lines_of accepted.now.job (λ i. get_or (velocities_of figures.now) i 0) (λ i. get_or (losses_of figures.now) i 0) }
 {
     let mut text = Text::new();
     put_house(
         &mut text,
-        demand::hour_of(job),
-        demand::day_of(job),
-        demand::mean_of(job),
+        accepted.hour(),
+        demand::day_of(accepted.job),
+        accepted.mean(),
     );
-    put_sections(&mut text, usize::from(job.header.sections), figures);
-    let heads = heads::heads_of(job, losses_of(figures));
+    put_sections(&mut text, usize::from(accepted.job.header.sections), figures);
+    let heads = heads::heads_of(accepted.job, losses_of(figures));
     put_head(
         &mut text,
         heads.required,
@@ -67,7 +67,7 @@ pub fn text_of(b: &[u8], cat: &[u8], list: &[u8]) -> Text<4096>
     ensures { result ≡ text_of b.now cat.now list.now }
 {
     match rating::outcome(b, cat, list, 387, 9, 6) {
-        Ok(rating) => rated(rating.job, &rating.figures),
+        Ok(rating) => rated(&rating.accepted, &rating.figures),
         Err(refusal) => refused(u32::from(refusal)),
     }
 }

@@ -11,13 +11,13 @@ ghost use Rattle.rating.specs.Steps.{RatedJob};
 use crate::sections::{list_ok, rate_sections};
 use acceptance::accept_both;
 use answer::Refusal;
-use fields::Job;
+use demand::AcceptedJob;
 use rated_bytes::{Figure, put_result, put_sections};
 
 /// A rated job, with the figures of its sections at their places, in an array since a call has no heap.
 #[derive(Clone, Copy)]
 pub struct Rating {
-    pub job: Job,
+    pub accepted: AcceptedJob,
     pub figures: [Figure; 64],
 }
 
@@ -33,19 +33,19 @@ pub fn outcome(
     requires { (front ≤ 9) × (each ≤ 10) }
     ensures number { number_of result ≡ sized_no b.now cat.now list.now room
         (front + each * count_of (decode b.now)) }
-    ensures rated { IfOk result (λ o. RatedJob b.now cat.now list.now room (front + each * count_of (decode b.now)) o.job
+    ensures rated { IfOk result (λ o. RatedJob b.now cat.now list.now room (front + each * count_of (decode b.now)) o.accepted.job
         (flows_of o.figures) (velocities_of o.figures) (losses_of o.figures)) }
 {
-    let job = accept_both(b, cat)?;
-    if !list_ok(job, cat, list) {
+    let accepted = accept_both(b, cat)?;
+    if !list_ok(accepted.job, cat, list) {
         return Err(Refusal::SizeList);
     }
-    let count = usize::from(job.header.sections);
+    let count = usize::from(accepted.job.header.sections);
     if room < front + each * count {
         return Err(Refusal::ResultShort);
     }
-    let figures = rate_sections(job, cat, list).ok_or(Refusal::SizeTooSmall)?;
-    Ok(Rating { job, figures })
+    let figures = rate_sections(&accepted, cat, list).ok_or(Refusal::SizeTooSmall)?;
+    Ok(Rating { accepted, figures })
 }
 
 /// Required head, pump head, dictating section, then velocity and loss of each section; or a number and the buffer as it was.
@@ -55,7 +55,7 @@ pub fn rate(b: &[u8], cat: &[u8], list: &[u8], out: &mut [u8]) -> Result<(), Ref
         (rate_bytes (decode b.now) cat.now list.now) out.old }
 {
     let rated = outcome(b, cat, list, out.len(), 9, 6)?;
-    put_result(out, rated.job, &rated.figures);
+    put_result(out, rated.accepted.job, &rated.figures);
     Ok(())
 }
 
@@ -66,7 +66,7 @@ pub fn losses(b: &[u8], cat: &[u8], list: &[u8], out: &mut [u8]) -> Result<(), R
         (losses_bytes (decode b.now) cat.now list.now) out.old }
 {
     let rated = outcome(b, cat, list, out.len(), 0, 10)?;
-    let count = usize::from(rated.job.header.sections);
+    let count = usize::from(rated.accepted.job.header.sections);
     put_sections(out, 0, 0, count, &rated.figures);
     Ok(())
 }

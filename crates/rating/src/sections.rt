@@ -4,6 +4,7 @@ ghost use Rattle.sizing.specs.Losses.{list_ok, over_any};
 ghost use Rattle.rated_bytes.specs.Figures.{flows_of, velocities_of, losses_of};
 ghost use Rattle.rating.specs.Steps.{Rateable, RatedAt};
 
+use demand::AcceptedJob;
 use fields::Job;
 use rated_bytes::Figure;
 use sizing::try_size;
@@ -19,13 +20,14 @@ pub fn list_ok(job: Job, cat: &[u8], list: &[u8]) -> bool
 }
 
 // The figures of each section with its size, at the sections' places, where no section is over its last row or the limit.
-pub fn rate_sections(job: Job, cat: &[u8], list: &[u8]) -> Option<[Figure; 64]>
-    requires { Rateable job cat.now list.now }
-    ensures { MatchOption result (over_any job cat.now list.now ≡ true)
-        (λ figures. (over_any job cat.now list.now ≡ false)
-        × RatedAt job cat.now list.now (flows_of figures) (velocities_of figures) (losses_of figures)) }
+pub fn rate_sections(accepted: &AcceptedJob, cat: &[u8], list: &[u8]) -> Option<[Figure; 64]>
+    requires { Rateable accepted.now.job cat.now list.now }
+    ensures { MatchOption result (over_any accepted.now.job cat.now list.now ≡ true)
+        (λ figures. (over_any accepted.now.job cat.now list.now ≡ false)
+        × RatedAt accepted.now.job cat.now list.now (flows_of figures) (velocities_of figures) (losses_of figures)) }
 {
-    let flows = demand::flows(job);
+    let flows = accepted.flows();
+    let job = &accepted.job;
     let mut figures = [Figure::default(); 64];
     for i in 1..=usize::from(job.header.sections) {
         let tried = try_size(

@@ -20,3 +20,12 @@ returns-in_err-demand_refusal-clause-number c =
 pub returns-clause-number : goal.returns-clause-number
 returns-clause-number c =
     accept_passed _ c.in_ok-job.ensures.number (rw c.in_ok-job.ensures.job at c.in_ok-demand_refusal.ensures)
+
+pub invariant_of-result : goal.invariant_of-result
+invariant_of-result c =
+    record {
+      accepted = record {
+        valid = rw c.in_ok-job.ensures.job (read_valid _ (sym c.in_ok-job.ensures.number));
+        demand = sym c.in_ok-demand_refusal.ensures;
+      };
+    }

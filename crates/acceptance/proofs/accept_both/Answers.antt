@@ -5,14 +5,14 @@ use Rattle.answer.proofs.Some.{number_at_exit}
 use Rattle.acceptance.proofs.Accepting.{input_refused, input_passed}
 use Rattle.acceptance.proofs.accept_both.Goals as goal
 
-pub returns-in_err-job-clause-number : goal.returns-in_err-job-clause-number
-returns-in_err-job-clause-number c =
-    number_at_exit _ _ c.from_residual.ensures.1 ∙ input_refused _ _ _ c.in_err-job.ensures.number
+pub returns-in_err-accepted-clause-number : goal.returns-in_err-accepted-clause-number
+returns-in_err-accepted-clause-number c =
+    number_at_exit _ _ c.from_residual.ensures.1 ∙ input_refused _ _ _ c.in_err-accepted.ensures.number
 
 pub returns-in_err-catalogue_refusal-clause-number : goal.returns-in_err-catalogue_refusal-clause-number
 returns-in_err-catalogue_refusal-clause-number c =
     number_at_exit _ _ c.from_residual-in_err-catalogue_refusal.ensures.1 ∙
-    input_passed _ _ c.in_ok-job.ensures.number c.in_err-catalogue_refusal.ensures
+    input_passed _ _ c.in_ok-accepted.ensures.number c.in_err-catalogue_refusal.ensures
 
 pub returns-clause-number : goal.returns-clause-number
-returns-clause-number c = input_passed _ _ c.in_ok-job.ensures.number c.in_ok-catalogue_refusal.ensures
+returns-clause-number c = input_passed _ _ c.in_ok-accepted.ensures.number c.in_ok-catalogue_refusal.ensures

@@ -37,12 +37,12 @@ module _ (job : Job) (few : count_of job ≤ 63) where
       )))
 
 pub slice_bounds-put_flows-end : goal.slice_bounds-put_flows-end
-slice_bounds-put_flows-end c = omega (arith, c.from-count.ensures, (valid_count c.requires.0.valid).high)
+slice_bounds-put_flows-end c = omega (arith, c.from-count.ensures, (valid_count c.args.accepted.now.accepted.valid).high)
 
 pub put_flows-requires : goal.put_flows-requires
 put_flows-requires c =
-    let few = (valid_count c.requires.0.valid).high in
-    rw (c.from-count.ensures, c.flows-flows.ensures, row_length c.args.job few) (omega arith)
+    let few = (valid_count c.args.accepted.now.accepted.valid).high in
+    rw (c.from-count.ensures, c.flows-flows.ensures, row_length c.args.accepted.now.job few) (omega arith)
 
 pub returns : goal.returns
 unfolding flow_bytes house_bytes bytes_of
@@ -51,10 +51,10 @@ returns c =
       c.put_flows.ensures,
       c.from-count.ensures,
       c.flows-flows.ensures,
-      row_written c.args.job (valid_count c.requires.0.valid).high,
+      row_written c.args.accepted.now.job (valid_count c.args.accepted.now.accepted.valid).high,
       c.put_house.ensures,
-      c.mean_of.ensures,
+      c.mean.ensures,
       c.day_of.ensures,
-      c.hour_of.ensures,
+      c.hour.ensures,
       stored_next c.args.out.now 0 _ 12 _ refl (omega arith),
     )

@@ -9,7 +9,7 @@ use Rattle.heating.proofs.put_result.Goals as goal
 
 pub watts-mean-requires : goal.watts-mean-requires
 watts-mean-requires c =
-    rw c.mean_of.ensures (hot_mean_top c.requires.0.valid c.requires.1 (λ kind p q. search rules))
+    rw c.mean.ensures (hot_mean_top c.args.accepted.accepted.valid c.requires.0 (λ kind p q. search rules))
 
 pub returns : goal.returns
 unfolding heat_bytes bytes_of
@@ -18,8 +18,8 @@ returns c =
       c.put_at-2.ensures,
       c.put_at.ensures,
       c.watts-greatest.ensures,
-      c.hour_of.ensures,
+      c.hour.ensures,
       c.watts-mean.ensures,
-      c.mean_of.ensures,
+      c.mean.ensures,
       stored_next c.args.out.now 0 _ 4 _ refl (omega arith),
     )

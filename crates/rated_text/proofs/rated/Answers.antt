@@ -13,22 +13,22 @@ use Rattle.rated_text.proofs.rated.Goals as goal
 
 pub put_sections-requires : goal.put_sections-requires
 put_sections-requires c =
-    let few : count_of c.args.job ≤ 63 = (valid_count c.requires.0.valid).high in
+    let few : count_of c.args.accepted.now.job ≤ 63 = (valid_count c.args.accepted.now.accepted.valid).high in
     (omega arith, omega (arith, ap length c.new-text.ensures))
 
 pub overflow_cast-heads : goal.overflow_cast-heads
-overflow_cast-heads c = rw c.heads_of-heads.ensures.2 (omega (arith, dictating_small c.requires.1 (λ i. get_or c.losses_of.result i 0)))
+overflow_cast-heads c = rw c.heads_of-heads.ensures.2 (omega (arith, dictating_small c.requires.0 (λ i. get_or c.losses_of.result i 0)))
 
 pub put_head-requires : goal.put_head-requires
 put_head-requires c =
-    let few : count_of c.args.job ≤ 63 = (valid_count c.requires.0.valid).high in
+    let few : count_of c.args.accepted.now.job ≤ 63 = (valid_count c.args.accepted.now.accepted.valid).high in
     omega (arith, ap length c.new-text.ensures)
 
 pub returns : goal.returns
 unfolding lines_of
 returns c =
-    let few = (valid_count c.requires.0.valid).high in
-    let each = flows_at c.args.job (λ i. get_or (velocities_of c.args.figures.now) i 0) (λ i. get_or (losses_of c.args.figures.now) i 0) few in
+    let few = (valid_count c.args.accepted.now.accepted.valid).high in
+    let each = flows_at c.args.accepted.now.job (λ i. get_or (velocities_of c.args.figures.now) i 0) (λ i. get_or (losses_of c.args.figures.now) i 0) few in
     let fits : SFits w32 c.heads_of-heads.result.required = record { sfits = omega arith } in
     let required = simp to_z-of_z at c.put_head.ensures.bytes in
     rw (
@@ -37,11 +37,11 @@ returns c =
       c.put_house.ensures.bytes,
       c.new-text.ensures,
       c.from.ensures,
-      c.requires.2,
+      c.requires.1,
       each,
-      c.hour_of.ensures,
+      c.hour.ensures,
       c.day_of.ensures,
-      c.mean_of.ensures,
+      c.mean.ensures,
       c.heads_of-heads.ensures.0,
       c.heads_of-heads.ensures.1,
       c.heads_of-heads.ensures.2,

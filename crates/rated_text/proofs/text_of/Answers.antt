@@ -9,7 +9,7 @@ use Rattle.rated_text.proofs.Figures.{text_refused, text_rated}
 use Rattle.rated_text.proofs.text_of.Goals as goal
 
 pub rated-requires : goal.rated-requires
-rated-requires c = let r = c.in-Ok.ensures.rated in (r.accepted, rated_given r, r.at.flows)
+rated-requires c = let r = c.in-Ok.ensures.rated in (rated_given r, r.at.flows)
 
 pub returns-in-Ok : goal.returns-in-Ok
 returns-in-Ok c = c.rated.ensures ∙ text_rated c.in-Ok.ensures.rated (sym c.in-Ok.ensures.number)

@@ -9,64 +9,59 @@ use Rattle.answer.proofs.Some.{refusal_some, number_at_exit}
 use Rattle.fields.specs.declared.Job.{Job}
 use Rattle.fields.specs.Fields.{count_of}
 use Rattle.record.specs.Record.{decode}
-use Rattle.demand.specs.Demand.{Accepted}
 use Rattle.demand.proofs.Validity.{valid_count}
 use Rattle.rules.proofs.HeaderBounds.{header_in}
-use Rattle.acceptance.proofs.Accepting.{input_accepted, input_listed}
+use Rattle.acceptance.proofs.Accepting.{input_listed}
 use Rattle.choosing.specs.Calls.{choose_length, work_of, choose_no}
 use Rattle.choosing.proofs.Ordering.{choose_refused, choose_short, choose_narrow, choose_ready}
 use Rattle.choosing.proofs.Promised.{chosen_refused, chosen_none, chosen_least}
 use Rattle.choosing.proofs.call.choose.Goals as goal
 
-pub returns-in_err-job : goal.returns-in_err-job
-returns-in_err-job c =
+pub returns-in_err-accepted : goal.returns-in_err-accepted
+returns-in_err-accepted c =
     let e = number_at_exit _ _ c.from_residual.ensures.1 in
-    chosen_refused (e ∙ choose_refused _ _ _ _ _ c.in_err-job.ensures.number) (λ z. omega (arith, refusal_some c.in_err-job.field-0.0, e, z))
+    chosen_refused (e ∙ choose_refused _ _ _ _ _ c.in_err-accepted.ensures.number) (λ z. omega (arith, refusal_some c.in_err-accepted.field-0.0, e, z))
 
 pub returns-then-out-count : goal.returns-then-out-count
 returns-then-out-count c =
     let count : c.from-count.result ≡ count_of (decode c.args.b.now) =
-    c.from-count.ensures ∙ ap (λ (job : Job). job.header.sections) c.in_ok-job.ensures.job in
-    chosen_refused (sym (choose_short _ _ _ _ (sym c.in_ok-job.ensures.number) (rw (← count) (omega arith)))) (λ z. omega arith)
+    c.from-count.ensures ∙ ap (λ (job : Job). job.header.sections) c.in_ok-accepted.ensures.job in
+    chosen_refused (sym (choose_short _ _ _ _ (sym c.in_ok-accepted.ensures.number) (rw (← count) (omega arith)))) (λ z. omega arith)
 
 pub returns-then-work-count : goal.returns-then-work-count
 returns-then-work-count c =
     let count : c.from-count.result ≡ count_of (decode c.args.b.now) =
-    c.from-count.ensures ∙ ap (λ (job : Job). job.header.sections) c.in_ok-job.ensures.job in
+    c.from-count.ensures ∙ ap (λ (job : Job). job.header.sections) c.in_ok-accepted.ensures.job in
     let delivered : c.from-delivered.result ≡ (decode c.args.b.now).header.delivered =
-    c.from-delivered.ensures ∙ ap (λ (job : Job). job.header.delivered) c.in_ok-job.ensures.job in
+    c.from-delivered.ensures ∙ ap (λ (job : Job). job.header.delivered) c.in_ok-accepted.ensures.job in
     chosen_refused
-    (sym (choose_narrow _ _ _ _ (sym c.in_ok-job.ensures.number) (rw (← count) (omega arith)) (rw (count, delivered) at c.if-work-count.true)))
+    (sym (choose_narrow _ _ _ _ (sym c.in_ok-accepted.ensures.number) (rw (← count) (omega arith)) (rw (count, delivered) at c.if-work-count.true)))
     (λ z. omega arith)
 
 pub cheapest-requires : goal.cheapest-requires
-cheapest-requires c =
-    let accepted : Accepted c.in_ok-job.job = rw c.in_ok-job.ensures.job (input_accepted _ _ (sym c.in_ok-job.ensures.number)) in (
-      accepted,
-      input_listed _ _ (sym c.in_ok-job.ensures.number),
-      omega (arith, (header_in _ accepted.valid.header).delivered),
-      rw c.from-count.ensures at c.if-work-count.false,
-    )
+cheapest-requires c = (
+  input_listed _ _ (sym c.in_ok-accepted.ensures.number),
+  omega (arith, (header_in _ c.in_ok-accepted.accepted.accepted.valid.header).delivered),
+  rw c.from-count.ensures at c.if-work-count.false,
+)
 
 pub returns-in_default : goal.returns-in_default
 returns-in_default c =
     let count : c.from-count.result ≡ count_of (decode c.args.b.now) =
-    c.from-count.ensures ∙ ap (λ (job : Job). job.header.sections) c.in_ok-job.ensures.job in
+    c.from-count.ensures ∙ ap (λ (job : Job). job.header.sections) c.in_ok-accepted.ensures.job in
     let delivered : c.from-delivered.result ≡ (decode c.args.b.now).header.delivered =
-    c.from-delivered.ensures ∙ ap (λ (job : Job). job.header.delivered) c.in_ok-job.ensures.job in
-    let ready = choose_ready _ _ _ _ (sym c.in_ok-job.ensures.number) (rw (← count) (omega arith)) (rw (count, delivered) at c.if-work-count.false) in
-    chosen_none ready (rw (delivered, c.in_ok-job.ensures.job) at c.in_default.ensures)
+    c.from-delivered.ensures ∙ ap (λ (job : Job). job.header.delivered) c.in_ok-accepted.ensures.job in
+    let ready = choose_ready _ _ _ _ (sym c.in_ok-accepted.ensures.number) (rw (← count) (omega arith)) (rw (count, delivered) at c.if-work-count.false) in
+    chosen_none ready (rw (delivered, c.in_ok-accepted.ensures.job) at c.in_default.ensures)
 
 pub put_result-requires : goal.put_result-requires
-put_result-requires c =
-    let accepted : Accepted c.in_ok-job.job = rw c.in_ok-job.ensures.job (input_accepted _ _ (sym c.in_ok-job.ensures.number)) in
-    (omega (arith, (valid_count accepted.valid).high), omega arith)
+put_result-requires c = (omega (arith, (valid_count c.in_ok-accepted.accepted.accepted.valid).high), omega arith)
 
 pub returns : goal.returns
 returns c =
     let count : c.from-count.result ≡ count_of (decode c.args.b.now) =
-    c.from-count.ensures ∙ ap (λ (job : Job). job.header.sections) c.in_ok-job.ensures.job in
+    c.from-count.ensures ∙ ap (λ (job : Job). job.header.sections) c.in_ok-accepted.ensures.job in
     let delivered : c.from-delivered.result ≡ (decode c.args.b.now).header.delivered =
-    c.from-delivered.ensures ∙ ap (λ (job : Job). job.header.delivered) c.in_ok-job.ensures.job in
-    let ready = choose_ready _ _ _ _ (sym c.in_ok-job.ensures.number) (rw (← count) (omega arith)) (rw (count, delivered) at c.if-work-count.false) in
-    chosen_least ready refl (rw (delivered, c.in_ok-job.ensures.job) at c.in-Some.ensures) (rw count at c.put_result.ensures)
+    c.from-delivered.ensures ∙ ap (λ (job : Job). job.header.delivered) c.in_ok-accepted.ensures.job in
+    let ready = choose_ready _ _ _ _ (sym c.in_ok-accepted.ensures.number) (rw (← count) (omega arith)) (rw (count, delivered) at c.if-work-count.false) in
+    chosen_least ready refl (rw (delivered, c.in_ok-accepted.ensures.job) at c.in-Some.ensures) (rw count at c.put_result.ensures)

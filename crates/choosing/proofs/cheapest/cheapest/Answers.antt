@@ -6,7 +6,7 @@ use Rattle.choosing.proofs.Promised.{chosen_suitable}
 use Rattle.choosing.proofs.cheapest.cheapest.Goals as goal
 
 pub overflow_sub-delivered : goal.overflow_sub-delivered
-overflow_sub-delivered c = omega (arith, (header_in c.args.job.header c.requires.0.valid.header).meter)
+overflow_sub-delivered c = omega (arith, (header_in c.args.accepted.now.job.header c.args.accepted.now.accepted.valid.header).meter)
 
 pub returns : goal.returns
-returns c = chosen_suitable c.tables_of-tables.ensures c.requires.0.valid c.args.delivered c.choose.result (rw c.from-meter.ensures at c.choose.ensures)
+returns c = chosen_suitable c.tables_of-tables.ensures c.args.accepted.now.accepted.valid c.args.delivered c.choose.result (rw c.from-meter.ensures at c.choose.ensures)

@@ -10,23 +10,23 @@ use Rattle.choosing.proofs.Trees.{tree_of, sound}
 use Rattle.choosing.proofs.cheapest.tables_of.Goals as goal
 use Rattle.choosing.proofs.cheapest.tables_of.Goals.{After-needs_of}
 
-above : (c : After-needs_of) → (i : ℕ) → 0 < i → i ≤ count_of c.args.job.now → get_or c.parents_of.result i 0 ≡ (section_of c.args.job.now i).parent
-above c i h k = parents_held c.args.job.now _ c.parents_of.ensures (valid_count c.requires.0.valid).high i h k ∙ parent_at c.args.job.now i h
+above : (c : After-needs_of) → (i : ℕ) → 0 < i → i ≤ count_of c.args.accepted.now.job → get_or c.parents_of.result i 0 ≡ (section_of c.args.accepted.now.job i).parent
+above c i h k = parents_held c.args.accepted.now.job _ c.parents_of.ensures (valid_count c.args.accepted.now.accepted.valid).high i h k ∙ parent_at c.args.accepted.now.job i h
 
 pub sizes_of-requires : goal.sizes_of-requires
-sizes_of-requires c = omega (arith, (shape_in _ c.requires.1.shape).long)
+sizes_of-requires c = omega (arith, (shape_in _ c.requires.shape).long)
 
 pub parents_of-requires : goal.parents_of-requires
-parents_of-requires c = (valid_count c.requires.0.valid).high
+parents_of-requires c = (valid_count c.args.accepted.now.accepted.valid).high
 
 pub invariant_of-result : goal.invariant_of-result
 invariant_of-result c =
     record {
-      sound = sound c.requires.0 c.requires.1 (λ k. omega (arith, c.type_inv.cat k)) c.put_options.ensures.losses c.put_options.ensures.costs
+      sound = sound c.args.accepted.now.accepted c.requires (λ k. omega (arith, c.type_inv.cat k)) c.put_options.ensures.losses c.put_options.ensures.costs
           c.parents_of.result c.from.ensures (c.from-2.ensures ∙ c.sizes_of.ensures) (above c) c.needs_of.ensures;
     }
 
 pub returns : goal.returns
 returns c =
-    tree_of c.requires.0 c.requires.1 (λ k. omega (arith, c.type_inv.cat k)) c.put_options.ensures.losses c.put_options.ensures.costs
+    tree_of c.args.accepted.now.accepted c.requires (λ k. omega (arith, c.type_inv.cat k)) c.put_options.ensures.losses c.put_options.ensures.costs
     c.parents_of.result c.from.ensures (c.from-2.ensures ∙ c.sizes_of.ensures) (above (goal.at.returns c).After-needs_of) c.needs_of.ensures

@@ -12,22 +12,22 @@ use Rattle.choosing.proofs.Placed.{tabled_more, tabled_end}
 use Rattle.choosing.proofs.options.put_options.Goals as goal
 
 pub bounds-job-i : goal.bounds-job-i
-bounds-job-i c = omega (arith, (valid_count c.requires.0.valid).high)
+bounds-job-i c = omega (arith, (valid_count c.args.accepted.now.accepted.valid).high)
 
 pub bounds-flows-i : goal.bounds-flows-i
-bounds-flows-i c = omega (arith, (valid_count c.requires.0.valid).high)
+bounds-flows-i c = omega (arith, (valid_count c.args.accepted.now.accepted.valid).high)
 
 pub put_row-requires : goal.put_row-requires
 put_row-requires c =
-    let valid = c.requires.0.valid in
-    let section = sections_in c.args.job.now (valid_sections valid) c.loop-i.i (omega arith) (omega arith) in
-    (c.requires.1, omega (arith, (valid_count valid).high), (section.decimetres.high, (header_in c.args.job.now.header valid.header).tenths.high))
+    let valid = c.args.accepted.now.accepted.valid in
+    let section = sections_in c.args.accepted.now.job (valid_sections valid) c.loop-i.i (omega arith) (omega arith) in
+    (c.requires, omega (arith, (valid_count valid).high), (section.decimetres.high, (header_in c.args.accepted.now.job.header valid.header).tenths.high))
 
 pub loop-i-preserved : goal.loop-i-preserved
 unfolding loss_entry price_at
 loop-i-preserved c =
-    let thin = (cat_counts c.requires.1).0.high in
-    let flow = flow_held c.args.job.now _ c.loop-i.i c.flows-flows.ensures (valid_count c.requires.0.valid).high (omega arith) (omega arith) in
+    let thin = (cat_counts c.requires).0.high in
+    let flow = flow_held c.args.accepted.now.job _ c.loop-i.i c.flows-flows.ensures (valid_count c.args.accepted.now.accepted.valid).high (omega arith) (omega arith) in
     record {
       within = omega arith;
       losses = tabled_more _ _ _ _ _ (omega (arith, thin)) (omega arith) c.loop-i.invariant.losses (rw flow at c.put_row.ensures.losses);
@@ -37,12 +37,12 @@ loop-i-preserved c =
 pub returns-2-clause-losses : goal.returns-2-clause-losses
 unfolding loss_entry
 returns-2-clause-losses c =
-    let thin = (cat_counts c.requires.1).0.high in
-    let flow = flow_held c.args.job.now _ c.loop-i.i c.flows-flows.ensures (valid_count c.requires.0.valid).high (omega arith) (omega arith) in
+    let thin = (cat_counts c.requires).0.high in
+    let flow = flow_held c.args.accepted.now.job _ c.loop-i.i c.flows-flows.ensures (valid_count c.args.accepted.now.accepted.valid).high (omega arith) (omega arith) in
     tabled_end _ _ _ _ _ (omega arith) (tabled_more _ _ _ _ _ (omega (arith, thin)) (omega arith) c.loop-i.invariant.losses (rw flow at c.put_row.ensures.losses))
 
 pub returns-2-clause-costs : goal.returns-2-clause-costs
 unfolding price_at
 returns-2-clause-costs c =
-    let thin = (cat_counts c.requires.1).0.high in
+    let thin = (cat_counts c.requires).0.high in
     tabled_end _ _ _ _ _ (omega arith) (tabled_more _ _ _ _ _ (omega (arith, thin)) (omega arith) c.loop-i.invariant.costs c.put_row.ensures.costs)

@@ -18,7 +18,7 @@ returns-in_err-rated-clause-number c = number_at_exit _ _ c.from_residual.ensure
 pub put_sections-requires : goal.put_sections-requires
 put_sections-requires c =
     let r = c.in_ok-rated.ensures.rated in
-    let count : c.from-count.result ≡ count_of c.in_ok-rated.rated.job = c.from-count.ensures in
+    let count : c.from-count.result ≡ count_of c.in_ok-rated.rated.accepted.job = c.from-count.ensures in
     (rw count (rated_count r).high, omega arith, rw count (rated_room r 0 10 refl))
 
 pub returns-clause-number : goal.returns-clause-number
@@ -28,5 +28,5 @@ pub returns-clause-buffer : goal.returns-clause-buffer
 unfolding figures_bytes
 returns-clause-buffer c =
     let r = c.in_ok-rated.ensures.rated in
-    let count : c.from-count.result ≡ count_of c.in_ok-rated.rated.job = c.from-count.ensures in
+    let count : c.from-count.result ≡ count_of c.in_ok-rated.rated.accepted.job = c.from-count.ensures in
     c.put_sections.ensures ∙ rw (count, rated_sections r, r.fields) refl

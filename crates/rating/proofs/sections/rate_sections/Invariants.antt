@@ -8,8 +8,8 @@ use Rattle.rating.proofs.sections.rate_sections.Given as goal
 abbrev pub invariant-loop-i : goal.invariant-loop-i
 invariant-loop-i l =
     record {
-      few : count_of l.job ≤ 63;
-      long : length l.list ≡ count_of l.job;
-      below : l.i ≤ count_of l.job + 1;
-      upto : Upto l.job l.cat l.list l.i l.figures;
+      few : count_of l.accepted.job ≤ 63;
+      long : length l.list ≡ count_of l.accepted.job;
+      below : l.i ≤ count_of l.accepted.job + 1;
+      upto : Upto l.accepted.job l.cat l.list l.i l.figures;
     }

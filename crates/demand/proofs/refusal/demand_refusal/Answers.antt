@@ -1,9 +1,9 @@
--- `demand::section::demand_refusal` meets its contract: each test in its turn.
+-- `demand::refusal::demand_refusal` meets its contract: each test in its turn.
 -- Assumes nothing.
 use Rattle.std.proofs.Common.{arith}
 use Rattle.demand.proofs.Validity.{valid_rooted, valid_kinds}
 use Rattle.demand.proofs.Deciding.{found, over_house, over_hour, table_one_house, table_one_any, table_one_hour, table_one_not}
-use Rattle.demand.proofs.section.demand_refusal.Goals as goal
+use Rattle.demand.proofs.refusal.demand_refusal.Goals as goal
 
 pub counts-served-requires : goal.counts-served-requires
 counts-served-requires c = (valid_rooted c.requires, valid_kinds c.requires)

@@ -1,4 +1,4 @@
--- `demand::section::section_needs_table_one` meets its contract: the test of a section is added to those before it.
+-- `demand::refusal::section_needs_table_one` meets its contract: the test of a section is added to those before it.
 -- Assumes nothing.
 use Rattle.std.proofs.Common.{◌≡◌, ℕ, ◌-◌, false, arith, sym, subst, ◌∙◌}
 use Rattle.std.proofs.Math.Nat.{add-sub_cancel}
@@ -9,7 +9,7 @@ use Rattle.tree.specs.Tree.{served_of}
 use Rattle.demand.specs.Demand.{m_of, fixtures_of, needs_table_one}
 use Rattle.demand.proofs.Validity.{valid_count, valid_rooted}
 use Rattle.demand.proofs.Deciding.{section_test}
-use Rattle.demand.proofs.section.section_needs_table_one.Goals as goal
+use Rattle.demand.proofs.refusal.section_needs_table_one.Goals as goal
 
 pub loop-i-init : goal.loop-i-init
 loop-i-init c = (omega arith, any_none _)

@@ -1,53 +1,16 @@
-// The design flows of the sections, and refusals 8 and 9.
-ghost use Rattle.std.specs.Prelude.{◌≡◌, ℕ, ◌+◌, ◌*◌, ◌≤◌, ◌<◌, max, get_or};
+// Refusals 8 and 9.
+ghost use Rattle.std.specs.Prelude.{◌≡◌, ℕ, ◌<◌, get_or};
 ghost use Rattle.basis.specs.Range.{any_to};
-ghost use Rattle.basis.specs.Round.{up};
-ghost use Rattle.basis.specs.Slots.{slots};
 ghost use Rattle.answer.specs.Answer.{number_of};
 ghost use Rattle.answer.specs.Checks.{first_no};
-ghost use Rattle.coefficient.specs.Table.{pairs};
-ghost use Rattle.coefficient.specs.Alpha.{alpha_of};
 ghost use Rattle.fields.specs.Fields.{count_of};
 ghost use Rattle.tree.specs.Tree.{served_of, set_of};
 ghost use Rattle.tree.specs.Rows.{Counted};
-ghost use Rattle.demand.specs.Demand.{m_of, fixtures_of, needs_table_one, section_flow, house_flow, demand_checks, Valid, Accepted};
+ghost use Rattle.demand.specs.Demand.{m_of, fixtures_of, needs_table_one, demand_checks, Valid};
 
-use crate::sums::{Sums, hour_sums, sums_of};
+use crate::sums::{hour_sums, sums_of};
 use answer::Refusal;
 use fields::Job;
-
-// The design flow of sums that 8 let pass: document 01's value, and never less than one tap.
-fn flow(t: &[(u32, u32); 486], s: Sums) -> u32
-    requires { (t.now ≡ pairs) × (0 < s.m) × (s.m ≤ 400000000) × (s.weighted ≤ 30 * s.m) × (s.tap ≤ 300) }
-    ensures { result ≡ max (up (s.weighted * alpha_of s.m) (20000 * s.m)) s.tap }
-{
-    let alpha = u64::from(coefficient::alpha(t, s.m as u32));
-    let average = round::divide_up(s.weighted * alpha, 20000 * s.m);
-    average.max(s.tap) as u32
-}
-
-/// The flow of each section, at the section's place.
-pub fn flows(job: Job) -> [u32; 64]
-    requires { Accepted job }
-    ensures { result ≡ slots 64 1 (count_of job + 1) 0 (section_flow job) }
-{
-    let served = tree::counts(job);
-    let table = coefficient::table2();
-    let mut flows = [0; 64];
-    for i in 1..=usize::from(job.header.sections) {
-        flows[i] = flow(table, sums_of(&job, &served, i));
-    }
-    flows
-}
-
-/// The house's design flow, which the pump set delivers.
-pub fn house_flow(job: Job) -> u32
-    requires { Accepted job }
-    ensures { result ≡ house_flow job }
-{
-    let served = tree::counts(job);
-    flow(coefficient::table2(), sums_of(&job, &served, 0))
-}
 
 // m over 100,000 × fixtures with at most 200 fixtures: then Table 1 of appendix 4 would apply, which is left out.
 #[tactic(auto, unfolding(crate::specs::Demand::needs_table_one))]

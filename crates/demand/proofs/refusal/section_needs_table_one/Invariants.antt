@@ -5,7 +5,7 @@ use Rattle.basis.specs.Range.{any_to}
 use Rattle.fields.specs.Fields.{count_of}
 use Rattle.tree.specs.Tree.{served_of}
 use Rattle.demand.specs.Demand.{m_of, fixtures_of, needs_table_one}
-use Rattle.demand.proofs.section.section_needs_table_one.Given as goal
+use Rattle.demand.proofs.refusal.section_needs_table_one.Given as goal
 
 abbrev pub invariant-loop-i : goal.invariant-loop-i
 invariant-loop-i l =

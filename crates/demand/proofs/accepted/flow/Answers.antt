@@ -1,8 +1,8 @@
--- `demand::section::flow` meets its contract: the product with α fits, and so does the quotient, which is the average.
+-- `demand::accepted::flow` meets its contract: the product with α fits, and so does the quotient, which is the average.
 -- Assumes nothing.
 use Rattle.std.proofs.Common.{◌*◌, ◌≤◌, arith}
 use Rattle.demand.proofs.DesignFlows.{alpha_product, alpha_quotient}
-use Rattle.demand.proofs.section.flow.Goals as goal
+use Rattle.demand.proofs.accepted.flow.Goals as goal
 
 pub overflow_mul-s : goal.overflow_mul-s
 overflow_mul-s c =

@@ -1,9 +1,9 @@
--- `demand::hour::day_of` meets its contract: a kind's day is added to those before it.
+-- `demand::day::day_of` meets its contract: a kind's day is added to those before it.
 -- Assumes nothing.
 use Rattle.std.proofs.Common.{arith}
 use Rattle.demand.specs.Demand.{day_of}
 use Rattle.demand.proofs.Partial.{sum_start, sum_turn, sum_end}
-use Rattle.demand.proofs.hour.day_of.Goals as goal
+use Rattle.demand.proofs.day.day_of.Goals as goal
 
 pub loop-kind-init : goal.loop-kind-init
 loop-kind-init c = (omega arith, sum_start _ _)
