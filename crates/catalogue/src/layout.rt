@@ -7,7 +7,7 @@ ghost use Rattle.catalogue.specs.Steps.{Sized, row_at, row_before};
 use round::Point;
 use wire::Field;
 
-// The number of sizes, and of rows of each size.
+/// The number of sizes, and of rows of each size.
 pub fn sizes_of(cat: &[u8]) -> u8
     requires { 7 ≤ length cat.now }
     ensures { result ≡ sizes_of cat.now }
@@ -22,7 +22,7 @@ pub fn rows_of(cat: &[u8]) -> u8
     cat[6]
 }
 
-// Where size s begins, from 1.
+/// Where size s begins, from 1.
 pub fn size_from(cat: &[u8], s: usize) -> usize
     requires { Sized cat.now s }
     ensures { result ≡ size_from cat.now s }
@@ -30,7 +30,7 @@ pub fn size_from(cat: &[u8], s: usize) -> usize
     7 + (s - 1) * (4 + 8 * usize::from(rows_of(cat)))
 }
 
-// The bore of size s in mm. Exported for L9, which compares bores.
+/// The bore of size s in mm. Exported for L9, which compares bores.
 #[tactic(auto, unfolding(crate::specs::Layout::bore_of))]
 pub fn bore(cat: &[u8], s: usize) -> u16
     requires { Sized cat.now s }
@@ -39,7 +39,7 @@ pub fn bore(cat: &[u8], s: usize) -> u16
     u16::at(cat, size_from(cat, s))
 }
 
-// The price of size s per metre.
+/// The price of size s per metre.
 #[tactic(auto, unfolding(crate::specs::Layout::price_of))]
 pub fn price(cat: &[u8], s: usize) -> u16
     requires { Sized cat.now s }
@@ -48,7 +48,7 @@ pub fn price(cat: &[u8], s: usize) -> u16
     u16::at(cat, size_from(cat, s) + 2)
 }
 
-// The rows of size s: a part of the catalogue that starts in its middle.
+/// The rows of size s: a part of the catalogue that starts in its middle.
 pub fn rows_at(cat: &[u8], s: usize) -> &[[u8; 8]]
     requires { Sized cat.now s }
     ensures part { concat result.now ≡ part_of cat.now s }
@@ -59,7 +59,7 @@ pub fn rows_at(cat: &[u8], s: usize) -> &[[u8; 8]]
     cat[from..end].as_chunks::<8>().0
 }
 
-// Flow in ml/s, velocity in mm/s and slope in mm per metre.
+/// Flow in ml/s, velocity in mm/s and slope in mm per metre.
 #[derive(Clone, Copy)]
 pub struct Row {
     pub flow: u32,
@@ -68,7 +68,7 @@ pub struct Row {
 }
 
 impl Row {
-    // A point of the line of velocities.
+    /// A point of the line of velocities.
     pub fn on_velocity(self) -> Point
         ensures { result ≡ record { x = self.flow; y = self.velocity } }
     {
@@ -78,7 +78,7 @@ impl Row {
         }
     }
 
-    // A point of the line of slopes.
+    /// A point of the line of slopes.
     pub fn on_slope(self) -> Point
         ensures { result ≡ record { x = self.flow; y = self.slope } }
     {
@@ -89,7 +89,7 @@ impl Row {
     }
 }
 
-// The flow of a row.
+/// The flow of a row.
 #[tactic(auto, unfolding(crate::specs::Layout::flow_at))]
 pub fn row_flow(row: &[u8; 8]) -> u32
     ensures { result ≡ flow_at row.now 0 }
@@ -97,7 +97,7 @@ pub fn row_flow(row: &[u8; 8]) -> u32
     u32::at(row, 0)
 }
 
-// Row k of a part, from 0.
+/// Row k of a part, from 0.
 pub fn row_at(rows: &[[u8; 8]], k: usize) -> Row
     requires { k < length rows.now }
     ensures { result ≡ row_at (concat rows.now) k }
@@ -110,7 +110,7 @@ pub fn row_at(rows: &[[u8; 8]], k: usize) -> Row
     }
 }
 
-// The row before row k; before the first row the lines come from zero.
+/// The row before row k; before the first row the lines come from zero.
 #[tactic(auto, unfolding(crate::specs::Steps::row_before))]
 pub fn row_before(rows: &[[u8; 8]], k: usize) -> Row
     requires { k < length rows.now }

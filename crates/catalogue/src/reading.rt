@@ -7,7 +7,7 @@ ghost use Rattle.catalogue.specs.Steps.{Rows, AcceptedCat, Above};
 
 use crate::layout::{row_at, row_before, row_flow, rows_at};
 
-// Velocity in mm/s and slope in mm per metre.
+/// Velocity in mm/s and slope in mm per metre.
 #[derive(Clone, Copy)]
 pub struct Reading {
     pub velocity: u32,
@@ -39,7 +39,7 @@ fn read_rows(rows: &[[u8; 8]], q: u32) -> Option<Reading>
     })
 }
 
-// Size s of an accepted catalogue read at q.
+/// Size s of an accepted catalogue read at q.
 pub fn read_size(cat: &[u8], s: usize, q: u32) -> Option<Reading>
     requires { AcceptedCat cat.now × (0 < s) × (s ≤ sizes_of cat.now) }
     ensures { result ≡ served_of (read_rows (part_of cat.now s) (rows_of cat.now) q) }

@@ -11,7 +11,7 @@ use crate::cell::get;
 use plan::MARK;
 use std::ops::Range;
 
-// The mark at each of the heads.
+/// The mark at each of the heads.
 pub fn fresh(best: &mut [u32; 7001], heads: Range<usize>)
     requires { (heads.end ≤ 7001) × (length best.old ≡ 7001) }
     ensures { (length best.new ≡ 7001) × ((h : ℕ) → heads.start ≤ h → h < heads.end → get_or best.new h 0 ≡ mark) }
@@ -49,7 +49,7 @@ fn offer_flat(best: &mut [u32; 7001], cost: u32, heads: Range<usize>)
     }
 }
 
-// Offers a size at each of the heads: its row goes to high, and the last cell stands for all above.
+/// Offers a size at each of the heads: its row goes to high, and the last cell stands for all above.
 pub fn offer(
     ws: &[u8],
     best: &mut [u32; 7001],

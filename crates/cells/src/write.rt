@@ -8,7 +8,7 @@ use crate::cell::{get, put};
 use plan::MARK;
 use std::ops::Range;
 
-// Adds the best costs to the cells from up + heads.start to up + heads.end. A sum with the mark stops at the mark.
+/// Adds the best costs to the cells from up + heads.start to up + heads.end. A sum with the mark stops at the mark.
 pub fn add(ws: &mut [u8], best: &[u32; 7001], up: usize, heads: Range<usize>)
     requires end_bound { (heads.end ≤ 7001) × (4 * (up + heads.end) ≤ length ws.old) }
     requires by_index { (h : ℕ) → heads.start ≤ h → h < heads.end → cell_at ws.old (up + h) ≤ mark }
@@ -21,7 +21,7 @@ pub fn add(ws: &mut [u8], best: &[u32; 7001], up: usize, heads: Range<usize>)
     }
 }
 
-// Writes the best costs to those cells.
+/// Writes the best costs to those cells.
 pub fn place(ws: &mut [u8], best: &[u32; 7001], up: usize, heads: Range<usize>)
     requires { (heads.end ≤ 7001) × (4 * (up + heads.end) ≤ length ws.old) }
     ensures { Filled ws.old ws.new up heads.start heads.end (λ h. get_or best.now h 0) }
@@ -31,7 +31,7 @@ pub fn place(ws: &mut [u8], best: &[u32; 7001], up: usize, heads: Range<usize>)
     }
 }
 
-// Writes 0 to those cells.
+/// Writes 0 to those cells.
 pub fn settle(ws: &mut [u8], up: usize, heads: Range<usize>)
     requires { (heads.end ≤ 7001) × (4 * (up + heads.end) ≤ length ws.old) }
     ensures { Filled ws.old ws.new up heads.start heads.end (λ h. 0) }

@@ -32,7 +32,7 @@ fn tables_of(accepted: &AcceptedJob, cat: &[u8]) -> Tables
     }
 }
 
-// A cheapest list that suits at a delivered head, if one does, found over the lent workspace. Heads of the search are 1,000 cm more than the job's, so that none is negative.
+/// A cheapest list that suits at a delivered head, if one does, found over the lent workspace. Heads of the search are 1,000 cm more than the job's, so that none is negative.
 pub fn cheapest(
     accepted: &AcceptedJob,
     cat: &[u8],

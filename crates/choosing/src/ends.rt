@@ -14,7 +14,7 @@ fn need(s: Section) -> u32
     heads::reach(s, 1000) as u32
 }
 
-// What the end of each section needs, at the section's place.
+/// What the end of each section needs, at the section's place.
 pub fn needs_of(job: &Job) -> [u32; 64]
     requires { Valid job.now }
     ensures { NeedsOf job.now result }

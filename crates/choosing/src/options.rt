@@ -44,7 +44,7 @@ fn put_row(
     }
 }
 
-// Both tables.
+/// Both tables.
 pub fn put_options(
     accepted: &AcceptedJob,
     cat: &[u8],

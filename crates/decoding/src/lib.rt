@@ -24,7 +24,7 @@ fn service_of(b: &[u8]) -> u8
     }
 }
 
-// The head fields.
+/// The head fields.
 #[tactic(auto, unfolding(record::specs::Record::header_at))]
 pub fn header_of(b: &[u8]) -> Header
     requires { 40 ≤ length b.now }
@@ -81,7 +81,7 @@ fn sections_of(b: &[u8], count: usize) -> [Section; 64]
     sections
 }
 
-// All fields.
+/// All fields.
 #[tactic(auto, using(record::proofs::Lengths::from_in), unfolding(record::specs::Record::decode))]
 pub fn job_of(b: &[u8]) -> Job
     requires { (byte_at b.now 6 ≤ 63) × (length_of (version_at b.now) (byte_at b.now 6) ≤ length b.now) }

@@ -9,7 +9,7 @@ ghost use Rattle.demand.specs.Demand.{norm_at, m_of, fixture_sum_of, one_tap_of,
 use fields::Job;
 use norms::Norm;
 
-// Of a section or the house, or of one of its kinds: m, the sum of share × Z, and one tap in ml/s.
+/// Of a section or the house, or of one of its kinds: m, the sum of share × Z, and one tap in ml/s.
 #[derive(Clone, Copy, Default)]
 pub struct Sums {
     pub m: u64,
@@ -17,7 +17,7 @@ pub struct Sums {
     pub tap: u64,
 }
 
-// Of the house's hour, or of one of its kinds: the sum of the shares, and of share × O.
+/// Of the house's hour, or of one of its kinds: the sum of the shares, and of share × O.
 #[derive(Clone, Copy, Default)]
 pub struct HourSums {
     pub shares: u64,
@@ -43,8 +43,8 @@ fn part_of(job: &Job, kind: usize, n: u64, house: u64) -> Sums
     }
 }
 
-// The sums of row i of the counts: section i's, or the house's where i is 0. The loops here, in `hour_sums` and in `day_of` stay three: one
-// over a closure would ask each caller again for the bounds against overflow, which differ.
+/// The sums of row i of the counts: section i's, or the house's where i is 0. The loops here, in `hour_sums` and in `day_of` stay three: one
+/// over a closure would ask each caller again for the bounds against overflow, which differ.
 pub fn sums_of(job: &Job, counts: &[u32; 768], i: usize) -> Sums
     requires { Rooted job.now × Counted job.now counts.now × (i < 64) }
     ensures { (result.m ≡ m_of job.now (served_of job.now i)) × (result.weighted ≡ fixture_sum_of job.now (served_of job.now i))
@@ -79,7 +79,7 @@ fn hour_part(job: &Job, kind: usize) -> HourSums
     }
 }
 
-// The sums of the house's hour.
+/// The sums of the house's hour.
 pub fn hour_sums(job: Job) -> HourSums
     ensures { (result.shares ≡ hour_sum_of job) × (result.weighted ≡ hourly_sum_of job) }
 {

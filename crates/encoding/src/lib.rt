@@ -71,7 +71,7 @@ fn put_sections(out: &mut [u8], version: u8, sections: &[Section])
     }
 }
 
-// The record b from a place on, with n in the two bytes of one field.
+/// The record b from a place on, with n in the two bytes of one field.
 #[tactic(auto, using(basis::proofs::Stored::stored_inside, wire::proofs::Fields::bytes_length))]
 pub fn put_edited(out: &mut [u8], at: usize, b: &[u8], field: usize, n: u16)
     requires { (at + length b.now ≤ length out.old) × (field + 2 ≤ length b.now) }
@@ -81,7 +81,7 @@ pub fn put_edited(out: &mut [u8], at: usize, b: &[u8], field: usize, n: u16)
     n.put_at(out, at + field);
 }
 
-// The whole record.
+/// The whole record.
 #[tactic(auto, using(record::proofs::Lengths::from_in))]
 pub fn put_job(out: &mut [u8], job: Job)
     requires { (count_of job ≤ 63) × (length_of (version_of job) (count_of job) ≤ length out.old) }

@@ -1,10 +1,11 @@
 // The fields of a job, by value.
 #![tactic(auto)]
 
-// A section of pipe with what stands at its end. Length in decimetres, elevation and free head in cm.
+/// A section of pipe with what stands at its end. Length in decimetres, elevation and free head in cm.
 #[derive(Clone, Copy, Debug, Default, PartialEq, Eq)]
 pub struct Section {
     pub parent: u8,
+    // A number and no enum: the writer is given any, and answers 5 where it is no kind.
     pub kind: u8,
     pub fixtures: u16,
     pub decimetres: u16,
@@ -12,9 +13,10 @@ pub struct Section {
     pub free: u16,
 }
 
-// The head of a job: the version of its record, the service (0 total, 1 cold, 2 hot), k, S, T, meter loss, G, H and velocity limit.
+/// The head of a job: the version of its record, the service (0 total, 1 cold, 2 hot), k, S, T, meter loss, G, H and velocity limit.
 #[derive(Clone, Copy, Debug, Default, PartialEq, Eq)]
 pub struct Header {
+    // Numbers and no enums: the writer is given any, and answers 2 or 3 where they are none.
     pub version: u8,
     pub service: u8,
     pub tenths: u8,
@@ -26,7 +28,7 @@ pub struct Header {
     pub limit: u16,
 }
 
-// A job. The residents of kind c are at place c - 1, section i at place i; place 0 stands for the pump.
+/// A job. The residents of kind c are at place c - 1, section i at place i; place 0 stands for the pump.
 #[derive(Clone, Copy, Debug, Default, PartialEq, Eq)]
 pub struct Job {
     pub header: Header,

@@ -55,7 +55,7 @@ fn put_result(out: &mut [u8], accepted: &AcceptedJob)
     put_flows(out, &flows[1..=count]);
 }
 
-// The flow call: hour, day, mean hour and S flows at the front of the buffer, or a number and the buffer as it was.
+/// The flow call: hour, day, mean hour and S flows at the front of the buffer, or a number and the buffer as it was.
 #[tactic(auto, using(crate::proofs::Ordering::flow_short, crate::proofs::Ordering::flow_done))]
 pub fn flow(b: &[u8], out: &mut [u8]) -> Result<(), Refusal>
     ensures number { number_of result ≡ flow_no b.now (length out.old) }

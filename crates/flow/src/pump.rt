@@ -9,7 +9,7 @@ use acceptance::accept;
 use answer::Refusal;
 use wire::Field;
 
-// The house's design flow at the front of the buffer, or a number and the buffer as it was.
+/// The house's design flow at the front of the buffer, or a number and the buffer as it was.
 #[tactic(auto, using(crate::proofs::Ordering::duty_short, crate::proofs::Ordering::duty_done), unfolding(crate::specs::Calls::duty_bytes))]
 pub fn duty(b: &[u8], out: &mut [u8]) -> Result<(), Refusal>
     ensures number { number_of result ≡ duty_no b.now (length out.old) }

@@ -9,7 +9,7 @@ ghost use Rattle.heads.specs.Steps.{Given, Walkable};
 
 use fields::{Job, Section};
 
-// Required head in cm, pump head in cm, and the dictating section.
+/// Required head in cm, pump head in cm, and the dictating section.
 #[derive(Clone, Copy)]
 pub struct Heads {
     pub required: i32,
@@ -41,7 +41,7 @@ fn path_loss(parents: &[u8; 64], losses: &[u32; 64], section: usize) -> u32
     sum
 }
 
-// Elevation + free head + `more` at the end of a section; with its path loss that is the section's reach.
+/// Elevation + free head + `more` at the end of a section; with its path loss that is the section's reach.
 pub fn reach(s: Section, more: u32) -> i32
     requires { more ≤ 268365825 }
     ensures { result ≡ s.elevation +ℤ pos (s.free + more) }
@@ -78,7 +78,7 @@ fn dictating(job: Job, losses: [u32; 64]) -> Greatest
     best
 }
 
-// Required head, pump head and dictating section.
+/// Required head, pump head and dictating section.
 pub fn heads_of(job: Job, losses: [u32; 64]) -> Heads
     requires { Given job losses }
     ensures { (result.required ≡ required_of job (λ i. get_or losses i 0)) × (result.pump ≡ pump_of job (λ i. get_or losses i 0))

@@ -65,7 +65,7 @@ fn put_result(out: &mut [u8], accepted: AcceptedJob, asked: Asked)
     greatest.put_at(out, 4);
 }
 
-// The heat flows of the mean hour and of the greatest hour at the front of the buffer, or a number and the buffer as it was.
+/// The heat flows of the mean hour and of the greatest hour at the front of the buffer, or a number and the buffer as it was.
 #[tactic(auto, using(crate::proofs::Ordering::heat_other, crate::proofs::Ordering::heat_range, crate::proofs::Ordering::heat_short, crate::proofs::Ordering::heat_done))]
 pub fn heat(b: &[u8], t: u32, loss: u32, out: &mut [u8]) -> Result<(), Refusal>
     ensures number { number_of result ≡ heat_no b.now t loss (length out.old) }

@@ -7,7 +7,7 @@ ghost use Rattle.lines.specs.Lines.{spaced, house_line, section_line, head_line,
 
 use text::Text;
 
-// Hour, day and mean hour.
+/// Hour, day and mean hour.
 #[tactic(auto, using(crate::proofs::Spaced::pieces), unfolding(crate::specs::Lines::house_line))]
 pub fn put_house<const ROOM: usize>(text: &mut Text<ROOM>, hour: u32, day: u32, mean: u32)
     requires { length text.old + 39 ≤ ROOM }
@@ -18,7 +18,7 @@ pub fn put_house<const ROOM: usize>(text: &mut Text<ROOM>, hour: u32, day: u32, 
     put_figures(text, &[hour, day, mean]);
 }
 
-// Number, flow, velocity and loss of a section.
+/// Number, flow, velocity and loss of a section.
 #[tactic(auto, using(crate::proofs::Spaced::pieces), unfolding(crate::specs::Lines::section_line))]
 pub fn put_section<const ROOM: usize>(
     text: &mut Text<ROOM>,
@@ -35,7 +35,7 @@ pub fn put_section<const ROOM: usize>(
     put_figures(text, &[i, flow, velocity, loss]);
 }
 
-// Required head, pump head and dictating section.
+/// Required head, pump head and dictating section.
 #[tactic(auto, using(crate::proofs::Spaced::pieces), unfolding(crate::specs::Lines::head_line, crate::specs::Lines::spaced))]
 pub fn put_head<const ROOM: usize>(text: &mut Text<ROOM>, required: i32, pump: u32, dictating: u32)
     requires { length text.old + 39 ≤ ROOM }
@@ -47,7 +47,7 @@ pub fn put_head<const ROOM: usize>(text: &mut Text<ROOM>, required: i32, pump: u
     put_figures(text, &[pump, dictating]);
 }
 
-// A refusal's number.
+/// A refusal's number.
 #[tactic(auto, using(crate::proofs::Spaced::pieces), unfolding(crate::specs::Lines::refused_line))]
 pub fn put_refused<const ROOM: usize>(text: &mut Text<ROOM>, number: u32)
     requires { length text.old + 19 ≤ ROOM }

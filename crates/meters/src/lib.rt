@@ -7,8 +7,8 @@ ghost use Rattle.meters.specs.Steps.{better};
 
 use wire::Field;
 
-// A meter: its form, the paper's type (1 vane, 2 turbine), its resistance in ten-thousandths of m per (l/s) squared, and service flow in l/h.
-// The form is the field as the list has it, which 17 may refuse: so it is a number.
+/// A meter: its form, the paper's type (1 vane, 2 turbine), its resistance in ten-thousandths of m per (l/s) squared, and service flow in l/h.
+/// The form is the field as the list has it, which 17 may refuse: so it is a number.
 #[derive(Clone, Copy)]
 pub struct Meter {
     pub form: u8,
@@ -16,7 +16,7 @@ pub struct Meter {
     pub service: u16,
 }
 
-// The meter at place t, from 1.
+/// The meter at place t, from 1.
 #[tactic(auto, unfolding(crate::specs::Meters::meter_at))]
 pub fn meter_at(list: &[u8], t: usize) -> Meter
     requires { (0 < t) × (5 * t ≤ length list.now) }
@@ -37,7 +37,7 @@ fn meter_ok(m: Meter) -> bool
     (1..=2).contains(&m.form) && 1 <= m.resistance && 1 <= m.service
 }
 
-// 17 finds nothing.
+/// 17 finds nothing.
 pub fn meters_ok(list: &[u8]) -> bool
     ensures { result ≡ meters_ok list.now }
 {
@@ -53,7 +53,7 @@ pub fn meters_ok(list: &[u8]) -> bool
     true
 }
 
-// A meter's loss in cm at the house's design flow. It stays under 12,454,000, which the field of a record does not hold.
+/// A meter's loss in cm at the house's design flow. It stays under 12,454,000, which the field of a record does not hold.
 pub fn loss_of(m: Meter, q: u32) -> u32
     requires { q ≤ 137850 }
     ensures { result ≡ meter_loss m q }
@@ -92,7 +92,7 @@ fn better(best: Option<(usize, u32)>, t: usize, m: Meter, q: u32, mean: u32) -> 
     }
 }
 
-// The place of the meter that wins.
+/// The place of the meter that wins.
 pub fn winner(list: &[u8], q: u32, mean: u32) -> Option<usize>
     requires { (meters_ok list.now ≡ true) × (q ≤ 137850) }
     ensures place { unwrap_or result 0 ≡ winner_of list.now q mean }

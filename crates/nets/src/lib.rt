@@ -3,10 +3,10 @@
 
 ghost use Rattle.nets.specs.Tables.{net_of, Sound};
 
-// The loss of a size that may not be taken. (A mark, since an optional number takes twice the room in fixed tables.)
+/// The loss of a size that may not be taken. (A mark, since an optional number takes twice the room in fixed tables.)
 pub const TOP: u32 = 4294967295;
 
-// A net as tables: section s at place s, its size t at place 13 s + t.
+/// A net as tables: section s at place s, its size t at place 13 s + t.
 #[derive(Clone, Copy)]
 pub struct Tables {
     pub sections: usize,
@@ -21,7 +21,7 @@ pub struct Tables {
 impl Tables {
     ghost use Rattle.std.specs.Prelude.{◌≡◌, ℕ, ◌+◌, ◌*◌, ◌≤◌, ◌<◌, length, slice_index};
 
-    // The losses of the sizes of section s.
+    /// The losses of the sizes of section s.
     pub fn losses_of(&self, s: usize) -> &[u32]
         requires { s ≤ self.now.sections }
         ensures long { length result.now ≡ self.now.sizes }

@@ -43,7 +43,7 @@ static HOURLY: [[u64; 12]; 2] = [
     [200, 60, 60, 200, 80, 180, 190, 200, 60, 60, 60, 60],
 ];
 
-// D, Q, Z and O of a kind.
+/// D, Q, Z and O of a kind.
 #[derive(Clone, Copy)]
 pub struct Norm {
     pub day: u64,
@@ -52,7 +52,7 @@ pub struct Norm {
     pub hourly: u64,
 }
 
-// The norms of a kind, 1 to 12, for a service.
+/// The norms of a kind, 1 to 12, for a service.
 pub fn norm_of(service: u8, kind: usize) -> Norm
     requires { (1 ≤ kind) × (kind ≤ 12) }
     ensures { result ≡ norm_of service kind }

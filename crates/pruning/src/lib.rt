@@ -32,7 +32,7 @@ fn raise(tables: &mut Tables, s: usize, least: u32)
     tables.needs[p] = tables.needs[p].max(tables.needs[s] + least);
 }
 
-// The tables with fewer sizes and greater needs, from the last section to the first. Where a section has no size left, no list suits.
+/// The tables with fewer sizes and greater needs, from the last section to the first. Where a section has no size left, no list suits.
 pub fn prune(tables: &Tables, head: usize) -> Option<Tables>
     requires { head ≤ 7000 }
     ensures { MatchOption result (NoneSuits (net_in tables.now) head) (Pruned tables.now head) }

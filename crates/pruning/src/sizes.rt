@@ -29,7 +29,7 @@ fn is_needless(tables: &Tables, head: usize, s: usize, last: Option<usize>, t: u
     over || last.is_some_and(|kept| as_good(tables, s, kept, t))
 }
 
-// Takes out the sizes of section s that lose too much, and those that lose and cost no less than the last one kept.
+/// Takes out the sizes of section s that lose too much, and those that lose and cost no less than the last one kept.
 pub fn trim(tables: &mut Tables, head: usize, s: usize)
     requires { (0 < s) × (s ≤ tables.old.sections) × (head ≤ 7000) }
     ensures alike { Alike tables.old tables.new }
@@ -56,7 +56,7 @@ fn least_of(losses: &[u32]) -> Option<u32>
     losses.iter().copied().min().filter(|l| *l < TOP)
 }
 
-// The least loss of the sizes of section s that may be taken.
+/// The least loss of the sizes of section s that may be taken.
 pub fn least_loss(tables: &Tables, s: usize) -> Option<u32>
     requires { s ≤ tables.now.sections }
     ensures { MatchOption result (Emptied (net_in tables.now) s) (LeastLoss (net_in tables.now) s) }

@@ -42,7 +42,11 @@ fn rated(accepted: &AcceptedJob, figures: &[Figure; 64]) -> Text<4096>
         demand::day_of(accepted.job),
         accepted.mean(),
     );
-    put_sections(&mut text, usize::from(accepted.job.header.sections), figures);
+    put_sections(
+        &mut text,
+        usize::from(accepted.job.header.sections),
+        figures,
+    );
     let heads = heads::heads_of(accepted.job, losses_of(figures));
     put_head(
         &mut text,
@@ -62,7 +66,7 @@ fn refused(number: u32) -> Text<4096>
     text
 }
 
-// A rating's lines, or the line of a refusal. Nothing is lent for a result, so it is rated with room for the longest, 9 + 6 × 63 bytes.
+/// A rating's lines, or the line of a refusal. Nothing is lent for a result, so it is rated with room for the longest, 9 + 6 × 63 bytes.
 pub fn text_of(b: &[u8], cat: &[u8], list: &[u8]) -> Text<4096>
     ensures { result ≡ text_of b.now cat.now list.now }
 {

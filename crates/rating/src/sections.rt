@@ -9,7 +9,7 @@ use fields::Job;
 use rated_bytes::Figure;
 use sizing::try_size;
 
-// 12: the list is S long and names sizes.
+/// 12: the list is S long and names sizes.
 pub fn list_ok(job: Job, cat: &[u8], list: &[u8]) -> bool
     requires { 7 ≤ length cat.now }
     ensures { result ≡ list_ok job cat.now list.now }
@@ -19,7 +19,7 @@ pub fn list_ok(job: Job, cat: &[u8], list: &[u8]) -> bool
         && list.iter().all(|size| (1..=sizes).contains(size))
 }
 
-// The figures of each section with its size, at the sections' places, where no section is over its last row or the limit.
+/// The figures of each section with its size, at the sections' places, where no section is over its last row or the limit.
 pub fn rate_sections(accepted: &AcceptedJob, cat: &[u8], list: &[u8]) -> Option<[Figure; 64]>
     requires { Rateable accepted.now.job cat.now list.now }
     ensures { MatchOption result (over_any accepted.now.job cat.now list.now ≡ true)

@@ -54,7 +54,7 @@ fn take_up(
     hand_up(ws, best, begun, p, parent);
 }
 
-// Each row from what its end needs to what it can use: a section is added to its parent's, the last first, so that its own row is complete by then.
+/// Each row from what its end needs to what it can use: a section is added to its parent's, the last first, so that its own row is complete by then.
 pub fn fill(ws: &mut [u8], tables: &Tables, highs: &[usize; 64], head: usize)
     requires { Fillable (net_in tables.now) head (λ s. get_or highs.now s 0) (length ws.old) }
     ensures long { length ws.new ≡ length ws.old }

@@ -11,7 +11,7 @@ use nets::Tables;
 use plan::MARK;
 use std::ops::Range;
 
-// A section's row: from what its end needs to the most that it can use; where its sizes stand in the tables, and where the row starts in the workspace. The stride lays a row for each size apart (L9); at 0 the sizes share one row.
+/// A section's row: from what its end needs to the most that it can use; where its sizes stand in the tables, and where the row starts in the workspace. The stride lays a row for each size apart (L9); at 0 the sizes share one row.
 #[derive(Clone, Copy)]
 pub struct Row {
     pub need: usize,
@@ -22,7 +22,7 @@ pub struct Row {
 }
 
 impl Row {
-    // The heads of which it has the costs.
+    /// The heads of which it has the costs.
     pub fn heads(self) -> Range<usize>
         requires { self.high ≤ top }
         ensures { (result.start ≡ self.need) × (result.end ≡ self.high + 1) }
@@ -31,7 +31,7 @@ impl Row {
     }
 }
 
-// The row of section s: rows of head + 1 cells one after another, the pump's first.
+/// The row of section s: rows of head + 1 cells one after another, the pump's first.
 pub fn row_of(needs: &[u32; 64], highs: &[usize; 64], head: usize, s: usize) -> Row
     requires { (s < 64) × (head ≤ 7000) }
     ensures { (result ≡ row_of needs.now highs.now head s) × (get_or needs.now s 0 ≤ 4294967295) }
@@ -102,7 +102,7 @@ fn offer_next(
     }
 }
 
-// The best cost of a section's sizes at each of its parent's heads.
+/// The best cost of a section's sizes at each of its parent's heads.
 #[tactic(auto, using(plan::proofs::Least::least_none))]
 pub fn bests(ws: &[u8], best: &mut [u32; 7001], tables: &Tables, row: Row, parent: Row)
     requires { Offerable row tables.now.sizes parent.need (parent.high + 1) tables.now.costs ws.now }
@@ -118,7 +118,7 @@ pub fn bests(ws: &[u8], best: &mut [u32; 7001], tables: &Tables, row: Row, paren
     }
 }
 
-// Adds the best costs to what stands in row p, or writes them there where nothing does yet.
+/// Adds the best costs to what stands in row p, or writes them there where nothing does yet.
 pub fn hand_up(ws: &mut [u8], best: &[u32; 7001], begun: &mut [bool; 64], p: usize, row: Row)
     requires end_bound { (p < 64) × (row.high + 1 ≤ 7001) × (4 * (row.first + (row.high + 1)) ≤ length ws.old) }
     requires h_bound { get_or begun.old p false ≡ true → (h : ℕ) → row.need ≤ h → h < row.high + 1 → cell_at ws.old (row.first + h) ≤ mark }

@@ -13,7 +13,7 @@ use answer::Refusal;
 use fields::{Header, Job, Section};
 use tree::{counts, sets};
 
-// 2: the version is 1 or 2.
+/// 2: the version is 1 or 2.
 #[tactic(auto, unfolding(crate::specs::Rules::version_ok))]
 pub fn version_ok(h: Header) -> bool
     ensures { result ≡ version_ok h }
@@ -33,7 +33,7 @@ fn service_ok(h: Header) -> bool
     }
 }
 
-// 3: each head field is in its range.
+/// 3: each head field is in its range.
 #[tactic(auto, unfolding(crate::specs::Rules::header_ok))]
 pub fn header_ok(h: Header) -> bool
     ensures { result ≡ header_ok h }

@@ -17,7 +17,7 @@ use recover::recover;
 use rows::fill;
 use usable::high_of;
 
-// A list of least cost: the cost, and its sizes, section s at place s - 1.
+/// A list of least cost: the cost, and its sizes, section s at place s - 1.
 #[derive(Clone, Copy)]
 pub struct Choice {
     pub cost: u32,
@@ -41,7 +41,7 @@ fn cheapest_list(ws: &mut [u8], tables: &Tables, head: usize) -> Option<Choice>
     Some(Choice { cost, sizes })
 }
 
-// A list of least cost, or none exactly when no list suits, whatever the workspace held. The workspace has a row of head + 1 cells for the pump and for each section.
+/// A list of least cost, or none exactly when no list suits, whatever the workspace held. The workspace has a row of head + 1 cells for the pump and for each section.
 pub fn choose(ws: &mut [u8], tables: &Tables, head: usize) -> Option<Choice>
     requires { (head ≤ 7000) × (4 * ((tables.now.sections + 1) * (head + 1)) ≤ length ws.old) }
     ensures { MatchOption result (NoneSuits (net_in tables.now) head)

@@ -24,7 +24,7 @@ fn cost_at(ws: &[u8], tables: &Tables, row: Row, t: usize, h: usize) -> usize
     tables.costs[at] as usize + get(ws, k) as usize
 }
 
-// A cheapest of the sizes at the head h, where one will do.
+/// A cheapest of the sizes at the head h, where one will do.
 pub fn cheapest(ws: &[u8], tables: &Tables, row: Row, h: usize) -> Option<usize>
     requires { (row.at + tables.now.sizes < 832) × (row.need ≤ 4294967295)
         × (4 * (row.first + tables.now.sizes * row.stride + row.high + 1) ≤ length ws.now) }

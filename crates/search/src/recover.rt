@@ -9,7 +9,7 @@ use crate::pick::cheapest;
 use nets::Tables;
 use rows::row_of;
 
-// From the first section to the last each takes a cheapest size at the head that its parent's end has: section s at place s - 1.
+/// From the first section to the last each takes a cheapest size at the head that its parent's end has: section s at place s - 1.
 pub fn recover(ws: &[u8], tables: &Tables, highs: &[usize; 64], head: usize) -> [u8; 63]
     requires fillable { Fillable (net_in tables.now) head (λ s. slice_index highs.now s) (length ws.now) }
     requires holds { Holds (net_in tables.now) head (λ s. slice_index highs.now s) ws.now }

@@ -19,7 +19,7 @@ fn greatest_of(losses: &[u32]) -> u32
     most
 }
 
-// From the last section to the first: what its end needs, and what the ends below can use plus what is lost on the way there, but no more than the pump's head.
+/// From the last section to the first: what its end needs, and what the ends below can use plus what is lost on the way there, but no more than the pump's head.
 pub fn high_of(tables: &Tables, head: usize) -> [usize; 64]
     requires { head ≤ 7000 }
     ensures { Usable (net_in tables.now) head (λ s. slice_index result s) }

@@ -29,7 +29,7 @@ fn parts_text(read: &[u8]) -> Text<4096>
     text_of(job, catalogue, list)
 }
 
-// The sheet of the first 65,536 bytes of the input, at the front of the buffer, and its length. A buffer of under 4,096 bytes gets nothing.
+/// The sheet of the first 65,536 bytes of the input, at the front of the buffer, and its length. A buffer of under 4,096 bytes gets nothing.
 #[tactic(auto, using(crate::proofs::Cut::written), unfolding(crate::specs::Sheet::sheet_text))]
 pub fn sheet(input: &[u8], out: &mut [u8]) -> usize
     ensures length { result ≡ length (written_text (length out.old) input.now) }

@@ -8,7 +8,7 @@ ghost use Rattle.catalogue.specs.Steps.{AcceptedCat};
 ghost use Rattle.sizing.specs.Losses.{loss_of};
 ghost use Rattle.sizing.specs.Steps.{tried_of};
 
-// Velocity in mm/s and loss in cm.
+/// Velocity in mm/s and loss in cm.
 #[derive(Clone, Copy)]
 pub struct Tried {
     pub velocity: u32,
@@ -24,7 +24,7 @@ fn loss(slope: u32, decimetres: u16, tenths: u8) -> u32
     round::divide_up(product, 1000) as u32
 }
 
-// A section of so many decimetres with size s of an accepted catalogue at flow q; none where the flow is over the size's last row or the velocity over the limit.
+/// A section of so many decimetres with size s of an accepted catalogue at flow q; none where the flow is over the size's last row or the velocity over the limit.
 pub fn try_size(
     cat: &[u8],
     s: usize,

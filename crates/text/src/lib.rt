@@ -23,7 +23,7 @@ impl<const ROOM: usize> Model for Text<ROOM> {
 }
 
 impl<const ROOM: usize> Text<ROOM> {
-    // No text.
+    /// No text.
     pub fn new() -> Text<ROOM>
         ensures { result ≡ [] }
     {
@@ -32,7 +32,7 @@ impl<const ROOM: usize> Text<ROOM> {
         }
     }
 
-    // The bytes so far.
+    /// The bytes so far.
     pub fn as_bytes(&self) -> &[u8]
         ensures bytes { result.now ≡ self.now }
         ensures room { length result.now ≤ ROOM }
@@ -40,7 +40,7 @@ impl<const ROOM: usize> Text<ROOM> {
         self.bytes.as_slice()
     }
 
-    // One byte.
+    /// One byte.
     pub fn push(&mut self, b: u8)
         requires { length self.old + 1 ≤ ROOM }
         ensures { self.new ≡ self.old ++ b ∷ [] }
@@ -48,7 +48,7 @@ impl<const ROOM: usize> Text<ROOM> {
         self.bytes.push(b);
     }
 
-    // The bytes of a word. They have room, so nothing is handed back.
+    /// The bytes of a word. They have room, so nothing is handed back.
     pub fn push_word(&mut self, word: &[u8])
         requires { length self.old + length word.now ≤ ROOM }
         ensures { self.new ≡ self.old ++ word.now }
@@ -56,7 +56,7 @@ impl<const ROOM: usize> Text<ROOM> {
         let _ = self.bytes.try_extend_from_slice(word);
     }
 
-    // A space and a figure.
+    /// A space and a figure.
     #[tactic(auto, using(crate::proofs::Decimal::figures))]
     pub fn push_figure(&mut self, n: u32)
         requires { length self.old + 11 ≤ ROOM }
@@ -66,7 +66,7 @@ impl<const ROOM: usize> Text<ROOM> {
         self.push_spaced(n);
     }
 
-    // The same with a minus sign where it is negative.
+    /// The same with a minus sign where it is negative.
     #[tactic(auto, using(crate::proofs::Decimal::figures))]
     pub fn push_signed(&mut self, z: i32)
         requires { length self.old + 12 ≤ ROOM }

@@ -9,7 +9,7 @@ ghost use Rattle.tree.specs.Rows.{Kinds, RowsFit, RowAdded, Zeros, Owned, Counte
 
 use fields::{Job, Section};
 
-// Each section's parent, at the section's place.
+/// Each section's parent, at the section's place.
 #[tactic(auto, using(crate::proofs::Parents::parents_start, crate::proofs::Parents::parents_more))]
 pub fn parents_of(job: Job) -> [u8; 64]
     requires { count_of job ≤ 63 }
@@ -35,8 +35,8 @@ fn singles(count: usize) -> [u64; 64]
     sets
 }
 
-// The sections at or below each section, a bit for each, filled from the leaves up. The sets of a section's children share no bit, so their
-// sum is their union. Place 0 has every section.
+/// The sections at or below each section, a bit for each, filled from the leaves up. The sets of a section's children share no bit, so their
+/// sum is their union. Place 0 has every section.
 pub fn sets(job: Job) -> [u64; 64]
     requires { Rooted job }
     ensures { (i : ℕ) → i < 64 → get_or result i 0 ≡ set_of job i }
@@ -49,8 +49,8 @@ pub fn sets(job: Job) -> [u64; 64]
     sets
 }
 
-// All fixtures at the ends of section i's set, those of the house where i is 0: bit by bit from the section's own, as no section of the set
-// has a lower number, to the set's highest.
+/// All fixtures at the ends of section i's set, those of the house where i is 0: bit by bit from the section's own, as no section of the set
+/// has a lower number, to the set's highest.
 pub fn fixtures_below(job: Job, set: u64, i: usize) -> u64
     requires { Rooted job × (i ≤ count_of job) × (set ≡ set_of job i) }
     ensures { result ≡ fixtures_below job i }
@@ -96,8 +96,8 @@ fn gather(job: Job, n: &mut [u32; 768])
     }
 }
 
-// The fixtures of each kind at a section's end or at any end below it: kind c + 1 of section i at place i * 12 + c. Row 0 is the house.
-// One list and no array of rows, which would be no plainer: each contract, here and above, would have to say how long every row is.
+/// The fixtures of each kind at a section's end or at any end below it: kind c + 1 of section i at place i * 12 + c. Row 0 is the house.
+/// One list and no array of rows, which would be no plainer: each contract, here and above, would have to say how long every row is.
 #[tactic(auto, using(crate::proofs::Filled::zeros))]
 pub fn counts(job: Job) -> [u32; 768]
     requires { Rooted job × Kinds job }

@@ -6,7 +6,7 @@ use fields::{Header, Job, Section};
 use std::io;
 use std::io::Write;
 
-// A record is read. The fields that it gives are printed, and written again.
+/// A record is read. The fields that it gives are printed, and written again.
 pub fn read(to: &mut Output, record: &[u8], out: &mut [u8]) -> io::Result<()> {
     match job::read(record) {
         Ok(job) => {
@@ -19,7 +19,7 @@ pub fn read(to: &mut Output, record: &[u8], out: &mut [u8]) -> io::Result<()> {
     }
 }
 
-// Fields are written.
+/// Fields are written.
 pub fn write(to: &mut Output, raw: &[u8], out: &mut [u8]) -> io::Result<()> {
     if raw.len() < 2 || 667 < raw.len() {
         return Ok(());

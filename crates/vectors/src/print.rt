@@ -4,7 +4,7 @@ use arrayvec::ArrayVec;
 use std::io;
 use std::io::{Stdout, Write};
 
-// Standard output, and what is printed and not yet written to it.
+/// Standard output, and what is printed and not yet written to it.
 #[derive(Drop)]
 pub struct Output {
     stdout: Stdout,
@@ -42,7 +42,7 @@ impl Output {
         Ok(())
     }
 
-    // What a call gives: its number, and the buffer that it was lent.
+    /// What a call gives: its number, and the buffer that it was lent.
     pub fn given(&mut self, answer: Result<(), Refusal>, buffer: &[u8]) -> io::Result<()> {
         write!(self, "{:08x} ", answer::number(answer))?;
         self.hex(buffer)

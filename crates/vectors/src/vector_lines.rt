@@ -5,7 +5,7 @@ use arrayvec::ArrayVec;
 use std::io;
 use std::io::Write;
 
-// A line as far as it came.
+/// A line as far as it came.
 #[derive(Drop)]
 pub struct Line {
     letter: Option<u8>,
@@ -23,7 +23,7 @@ impl Line {
         }
     }
 
-    // One more byte of the input. A comment is printed as it comes.
+    /// One more byte of the input. A comment is printed as it comes.
     pub fn take(&mut self, b: u8, to: &mut Output) -> io::Result<()> {
         if b == b'\n' {
             return self.end(to);

@@ -35,7 +35,7 @@ pub from_be_four : (l : List ℕ) (i : ℕ) → from_be_bytes w32 (byte_at l i �
 unfolding be_at
 from_be_four l i = let e : i + 0 ≡ i = omega arith in rw e (omega arith)
 
-bits_is : (w : Width) (z : ℤ) → cast_unsigned w z ≡ bits_of (bits w) z
+pub bits_is : (w : Width) (z : ℤ) → cast_unsigned w z ≡ bits_of (bits w) z
 unfolding bits_of
 bits_is w (pos n) = refl
 bits_is w (negsuc n) = refl
@@ -52,7 +52,7 @@ bits_half w32 = refl
 bits_half w64 = refl
 bits_half w128 = refl
 
-signed_is : (w : Width) (n : ℕ) → n < 2 ^ bits w → cast_signed w n ≡ signed_of (bits w) n
+pub signed_is : (w : Width) (n : ℕ) → n < 2 ^ bits w → cast_signed w n ≡ signed_of (bits w) n
 signed_is w n h =
     ⊎_elim (λ lt. rw (lt-ltb n (2 ^ hbits w) lt, bits_half w, signed_low (hbits w) n lt))
     (λ ge. rw (le-ltb n (2 ^ hbits w) ge, bits_half w, signed_high (hbits w) n ge (rw (bits_half w) at h))) (lt_or_ge n (2 ^ hbits w))
