@@ -19,6 +19,7 @@ fn put_result(out: &mut [u8], cost: u32, sizes: [u8; 63], count: usize)
 }
 
 /// The least cost and a list of sizes that has it; or a number and the result buffer as it was. The workspace is touched only to search.
+#[tactic(auto, using(demand::proofs::Validity::valid_count, rules::proofs::HeaderBounds::header_in, acceptance::proofs::Accepting::input_listed))]
 pub fn choose(b: &[u8], cat: &[u8], work: &mut [u8], out: &mut [u8]) -> Result<(), Refusal>
     ensures { Chosen b.now cat.now out.old work.old out.new work.new
         (number_of result) }

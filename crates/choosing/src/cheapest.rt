@@ -14,6 +14,7 @@ use nets::Tables;
 use search::Choice;
 
 // The tree of a job's sections, and what each of the catalogue's sizes loses and costs there.
+#[tactic(auto, using(demand::proofs::Validity::valid_count))]
 fn tables_of(accepted: &AcceptedJob, cat: &[u8]) -> Tables
     requires { AcceptedCat cat.now }
     ensures { TreeOf accepted.now.job cat.now (net_in result) }
@@ -33,6 +34,7 @@ fn tables_of(accepted: &AcceptedJob, cat: &[u8]) -> Tables
 }
 
 /// A cheapest list that suits at a delivered head, if one does, found over the lent workspace. Heads of the search are 1,000 cm more than the job's, so that none is negative.
+#[tactic(auto, using(rules::proofs::HeaderBounds::header_in))]
 pub fn cheapest(
     accepted: &AcceptedJob,
     cat: &[u8],

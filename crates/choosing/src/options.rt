@@ -45,6 +45,7 @@ fn put_row(
 }
 
 /// Both tables.
+#[tactic(auto, using(demand::proofs::Validity::valid_count))]
 pub fn put_options(
     accepted: &AcceptedJob,
     cat: &[u8],

@@ -40,6 +40,7 @@ fn put_house(out: &mut [u8], hour: u32, day: u32, mean: u32)
 }
 
 // The whole flow result.
+#[tactic(auto, using(demand::proofs::Validity::valid_count))]
 fn put_result(out: &mut [u8], accepted: &AcceptedJob)
     requires { flow_length (count_of accepted.now.job) ≤ length out.old }
     ensures { out.new ≡ stored out.old 0 (flow_bytes accepted.now.job) }

@@ -36,9 +36,6 @@ module _ (job : Job) (few : count_of job ≤ 63) where
         slots_in 64 1 (count_of job + 1) 0 (section_flow job) i 0 (omega arith) (omega arith) (omega arith),
       )))
 
-pub slice_bounds-put_flows-end : goal.slice_bounds-put_flows-end
-slice_bounds-put_flows-end c = omega (arith, c.from-count.ensures, (valid_count c.args.accepted.now.accepted.valid).high)
-
 pub put_flows-requires : goal.put_flows-requires
 put_flows-requires c =
     let few = (valid_count c.args.accepted.now.accepted.valid).high in

@@ -9,7 +9,6 @@ use Rattle.answer.proofs.Some.{number_at_exit}
 use Rattle.fields.specs.Fields.{count_of}
 use Rattle.record.specs.Record.{decode}
 use Rattle.demand.specs.Demand.{Accepted}
-use Rattle.demand.proofs.Validity.{valid_count}
 use Rattle.lent_losses.specs.LentLosses.{loss_in, losses_ok}
 use Rattle.lent_losses.proofs.Listed.{losses_top}
 use Rattle.lent_losses.proofs.Ordering.{heads_exit, heads_listed, heads_short, heads_done}
@@ -20,9 +19,6 @@ use Rattle.lent_losses.proofs.heads.Goals.{In_ok-losses}
 pub returns-in_err-accepted-clause-number : goal.returns-in_err-accepted-clause-number
 returns-in_err-accepted-clause-number c =
     number_at_exit _ _ c.from_residual.ensures.1 ∙ heads_exit _ _ _ _ c.in_err-accepted.ensures.number
-
-pub read_losses-requires : goal.read_losses-requires
-read_losses-requires c = rw c.from-count.ensures (valid_count c.in_ok-accepted.accepted.accepted.valid).high
 
 pub returns-in_err-losses-clause-number : goal.returns-in_err-losses-clause-number
 returns-in_err-losses-clause-number c =

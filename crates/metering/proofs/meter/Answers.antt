@@ -6,7 +6,6 @@ use native.Mathlib.Omega.{arith}
 use Rattle.answer.proofs.Some.{number_at_exit}
 use Rattle.record.specs.Record.{decode}
 use Rattle.demand.specs.Demand.{house_flow, mean_of}
-use Rattle.demand.proofs.DesignFlows.{house_flow_top}
 use Rattle.acceptance.proofs.Accepting.{accept_long}
 use Rattle.meters.specs.Meters.{none_qualifies}
 use Rattle.meters.proofs.Bounds.{list_in}
@@ -28,10 +27,6 @@ pub returns-then-out-b-clause-number : goal.returns-then-out-b-clause-number
 returns-then-out-b-clause-number c =
     sym (meter_short _ _ _ (sym c.in_ok-accepted.ensures.number) (sym c.meters_ok.ensures ∙ c.if-not-meters_ok.false) (omega arith))
 
-pub winner-requires : goal.winner-requires
-winner-requires c =
-    (sym c.meters_ok.ensures ∙ c.if-not-meters_ok.false, rw c.house_flow-q.ensures (house_flow_top c.in_ok-accepted.accepted.accepted.valid))
-
 -- the place of the meter that wins, and its loss, are those of the accepted job
 pub returns-in_default-clause-number : goal.returns-in_default-clause-number
 returns-in_default-clause-number c =
@@ -49,9 +44,6 @@ meter_at-requires c =
     winner_some _ _ _ (λ z. omega (arith, c.in-Some.ensures.named)) in
     let first = winner_first _ _ _ some in
     rw place (first.low, omega (arith, first.high, list.whole))
-
-pub loss_of-loss-requires : goal.loss_of-loss-requires
-loss_of-loss-requires c = rw c.house_flow-q.ensures (house_flow_top c.in_ok-accepted.accepted.accepted.valid)
 
 pub put_result-requires : goal.put_result-requires
 put_result-requires c =

@@ -1,18 +1,11 @@
 -- `choosing::call::choose` meets its contract.
 -- Assumes nothing.
 use mathlib.Core.Path.{◌≡◌, refl, sym, ap, ◌∙◌}
-use Prim.Native.Nat.{◌+◌, ◌*◌, ◌≤◌}
-use native.Mathlib.Nat.{mul-le-mul}
 use native.Mathlib.Omega.{arith}
-use lib.ListN.{length}
 use Rattle.answer.proofs.Some.{refusal_some, number_at_exit}
 use Rattle.fields.specs.declared.Job.{Job}
 use Rattle.fields.specs.Fields.{count_of}
 use Rattle.record.specs.Record.{decode}
-use Rattle.demand.proofs.Validity.{valid_count}
-use Rattle.rules.proofs.HeaderBounds.{header_in}
-use Rattle.acceptance.proofs.Accepting.{input_listed}
-use Rattle.choosing.specs.Calls.{choose_length, work_of, choose_no}
 use Rattle.choosing.proofs.Ordering.{choose_refused, choose_short, choose_narrow, choose_ready}
 use Rattle.choosing.proofs.Promised.{chosen_refused, chosen_none, chosen_least}
 use Rattle.choosing.proofs.call.choose.Goals as goal
@@ -38,13 +31,6 @@ returns-then-work-count c =
     (sym (choose_narrow _ _ _ _ (sym c.in_ok-accepted.ensures.number) (rw (← count) (omega arith)) (rw (count, delivered) at c.if-work-count.true)))
     (λ z. omega arith)
 
-pub cheapest-requires : goal.cheapest-requires
-cheapest-requires c = (
-  input_listed _ _ (sym c.in_ok-accepted.ensures.number),
-  omega (arith, (header_in _ c.in_ok-accepted.accepted.accepted.valid.header).delivered),
-  rw c.from-count.ensures at c.if-work-count.false,
-)
-
 pub returns-in_default : goal.returns-in_default
 returns-in_default c =
     let count : c.from-count.result ≡ count_of (decode c.args.b.now) =
@@ -53,9 +39,6 @@ returns-in_default c =
     c.from-delivered.ensures ∙ ap (λ (job : Job). job.header.delivered) c.in_ok-accepted.ensures.job in
     let ready = choose_ready _ _ _ _ (sym c.in_ok-accepted.ensures.number) (rw (← count) (omega arith)) (rw (count, delivered) at c.if-work-count.false) in
     chosen_none ready (rw (delivered, c.in_ok-accepted.ensures.job) at c.in_default.ensures)
-
-pub put_result-requires : goal.put_result-requires
-put_result-requires c = (omega (arith, (valid_count c.in_ok-accepted.accepted.accepted.valid).high), omega arith)
 
 pub returns : goal.returns
 returns c =

@@ -1,8 +1,7 @@
 -- `choosing::call::put_result` meets its contract: four bytes, and the sizes after them.
 -- Assumes nothing.
-use mathlib.Core.Path.{◌≡◌, refl, ◌∙◌}
+use mathlib.Core.Path.{refl, ◌∙◌}
 use native.Mathlib.Omega.{arith}
-use Rattle.basis.specs.Stored.{stored}
 use Rattle.basis.proofs.Stored.{stored_next}
 use Rattle.wire.specs.Wire.{bytes_of}
 use Rattle.choosing.proofs.call.put_result.Goals as goal

@@ -1,12 +1,7 @@
 -- What the search finds in the tables is what document 01 promises.
 -- Assumes nothing.
-use Rattle.std.proofs.Common.{arith}
-use Rattle.rules.proofs.HeaderBounds.{header_in}
 use Rattle.choosing.proofs.Promised.{chosen_suitable}
 use Rattle.choosing.proofs.cheapest.cheapest.Goals as goal
-
-pub overflow_sub-delivered : goal.overflow_sub-delivered
-overflow_sub-delivered c = omega (arith, (header_in c.args.accepted.now.job.header c.args.accepted.now.accepted.valid.header).meter)
 
 pub returns : goal.returns
 returns c = chosen_suitable c.tables_of-tables.ensures c.args.accepted.now.accepted.valid c.args.delivered c.choose.result (rw c.from-meter.ensures at c.choose.ensures)

@@ -16,9 +16,6 @@ above c i h k = parents_held c.args.accepted.now.job _ c.parents_of.ensures (val
 pub sizes_of-requires : goal.sizes_of-requires
 sizes_of-requires c = omega (arith, (shape_in _ c.requires.shape).long)
 
-pub parents_of-requires : goal.parents_of-requires
-parents_of-requires c = (valid_count c.args.accepted.now.accepted.valid).high
-
 pub invariant_of-result : goal.invariant_of-result
 invariant_of-result c =
     record {

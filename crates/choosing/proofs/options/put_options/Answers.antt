@@ -11,12 +11,6 @@ use Rattle.choosing.proofs.Entries.{flow_held}
 use Rattle.choosing.proofs.Placed.{tabled_more, tabled_end}
 use Rattle.choosing.proofs.options.put_options.Goals as goal
 
-pub bounds-job-i : goal.bounds-job-i
-bounds-job-i c = omega (arith, (valid_count c.args.accepted.now.accepted.valid).high)
-
-pub bounds-flows-i : goal.bounds-flows-i
-bounds-flows-i c = omega (arith, (valid_count c.args.accepted.now.accepted.valid).high)
-
 pub put_row-requires : goal.put_row-requires
 put_row-requires c =
     let valid = c.args.accepted.now.accepted.valid in
