@@ -7,7 +7,7 @@
 //!   a placeholder in capitals, as `crates/NAME/specs/`.
 //! - Names. Names of definitions and laws stand before their file in brackets: `` `one` (`crates/x/specs/File.antt`) `` or
 //!   `` `one`, `two` and `three` (`crates/x/proofs/File.antt`) ``. The file declares them.
-//! - Calls. `` `crate::name` `` is a function, a type, a constant or a module in that crate's `src/`.
+//! - Calls. `` `crate::name` `` is a function, a type, a trait, a constant or a module in that crate's `src/`.
 //! - Vectors. On a line with the word Vector or Vectors, `` `# room 50` `` begins a line of `crates/vectors/stdin`.
 //! - Crates. `docs/ARCHITECTURE.md` shows them between the lines `<!-- crates -->` and `<!-- /crates -->`, each on a line
 //!   `name ── one, two, three` with the crates of the repository that it uses and that none of these uses in turn, or `name ──`
@@ -247,7 +247,7 @@ fn calls_are_in_their_crates() {
             };
             let item: String = item.chars().take_while(|c| c.is_ascii_alphanumeric() || *c == '_').collect();
             let source = source(name);
-            let declared = ["fn", "struct", "enum", "const", "mod"].iter().any(|keyword| {
+            let declared = ["fn", "struct", "enum", "trait", "const", "mod"].iter().any(|keyword| {
                 let declaration = format!("{keyword} {item}");
                 source.match_indices(&declaration).any(|(at, _)| {
                     let next = source[at + declaration.len()..].chars().next();
