@@ -19,7 +19,7 @@ count 1 'a test of the number of an answer' '(number\((a|answer)\)|if number) !=
 count 1 'a number that stands for none' '(TOP|MARK) as usize|_ => 16|(place|size): usize = 0|(place|size) == 0'
 count 1 'a number for a kind, a service, a version or a form' '\b(kind|service|form|version): (u8|usize)'
 count 2 'a function for each width' 'fn [a-z_]*(8|16|32|64)\('
-count 2 'a function or a type that stands twice but for a name' 'fn (read_full|hour_part|part_of|hour_sums|sums_of|put_house|put_section|put_head|put_refused|one|two|four)\(|struct (Hour)?(Part|Sums) '
+count 2 'a function or a type that stands twice but for a name' 'fn (read_full|hour_part|part_of|hour_sums|sums_of|put_house|put_section|put_head|put_refused|one|two|four)[<(]|struct (Hour)?(Part|Sums) '
 count 3 'a while loop' '^\s*while '
 count 4 'a conversion, or the greater or lesser, by hand' '\b(wide8|wide32|word8|long16|long32|greater|lesser|least)\('
 count 4 'a cast' ' as (u8|u16|u32|u64|usize|i16|i32|i64)\b'
