@@ -1,3 +1,4 @@
 pub mod Fields
 pub mod Signed
 pub mod Bits
+pub mod Rows

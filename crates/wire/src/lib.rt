@@ -1,14 +1,17 @@
 // Numbers in byte slices, the highest byte first, and signed ones in two's complement.
 #![tactic(auto)]
 
-ghost use Rattle.std.specs.Prelude.{◌≡◌, ℕ, ◌+◌, ◌≤◌, length};
+ghost use Rattle.std.specs.Prelude.{◌≡◌, ℕ, ◌+◌, ◌*◌, ◌≤◌, length};
+ghost use Rattle.std.specs.List.{flat_map};
 ghost use Rattle.basis.specs.Stored.{stored};
 ghost use Rattle.wire.specs.Wire.{be_at, bytes_of, signed_of, bits_of};
 
 /// A number as a record has it.
 pub trait Field: Copy {
-    // How many bytes it has.
-    ghost width: { ℕ };
+    /// How many bytes it has.
+    const WIDTH: usize;
+
+    ghost WIDTH: { ℕ };
 
     // What the number in its bytes stands for, and back.
     ghost value: { ℕ → Self };
@@ -17,17 +20,19 @@ pub trait Field: Copy {
 
     /// The number in the bytes from i on.
     fn at(s: &[u8], i: usize) -> Self
-        requires { i + width ≤ length s.now }
-        ensures { result ≡ value (be_at width s.now i) };
+        requires { i + WIDTH ≤ length s.now }
+        ensures { result ≡ value (be_at WIDTH s.now i) };
 
     /// Writes it to the bytes from i on.
     fn put_at(self, s: &mut [u8], i: usize)
-        requires { i + width ≤ length s.old }
-        ensures { s.new ≡ stored s.old i (bytes_of width (bits self)) };
+        requires { i + WIDTH ≤ length s.old }
+        ensures { s.new ≡ stored s.old i (bytes_of WIDTH (bits self)) };
 }
 
 impl Field for u16 {
-    ghost width = { 2 };
+    const WIDTH: usize = 2;
+
+    ghost WIDTH = { 2 };
 
     ghost value = { λ n. n };
 
@@ -43,7 +48,9 @@ impl Field for u16 {
 }
 
 impl Field for u32 {
-    ghost width = { 4 };
+    const WIDTH: usize = 4;
+
+    ghost WIDTH = { 4 };
 
     ghost value = { λ n. n };
 
@@ -59,7 +66,9 @@ impl Field for u32 {
 }
 
 impl Field for i16 {
-    ghost width = { 2 };
+    const WIDTH: usize = 2;
+
+    ghost WIDTH = { 2 };
 
     ghost value = { signed_of 16 };
 
@@ -75,7 +84,9 @@ impl Field for i16 {
 }
 
 impl Field for i32 {
-    ghost width = { 4 };
+    const WIDTH: usize = 4;
+
+    ghost WIDTH = { 4 };
 
     ghost value = { signed_of 32 };
 
@@ -96,4 +107,14 @@ pub fn put(s: &mut [u8], i: usize, x: &[u8])
     ensures { s.new ≡ stored s.old i x.now }
 {
     s[i..i + x.len()].copy_from_slice(x);
+}
+
+/// Writes the numbers one after another, from a place on.
+pub fn put_all<T: Field>(s: &mut [u8], from: usize, numbers: &[T])
+    requires { from + T.WIDTH * length numbers.now ≤ length s.old }
+    ensures { s.new ≡ stored s.old from (flat_map (λ number. bytes_of T.WIDTH (T.bits number)) numbers.now) }
+{
+    for (i, number) in numbers.iter().enumerate() {
+        number.put_at(s, from + T::WIDTH * i);
+    }
 }
