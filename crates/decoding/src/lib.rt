@@ -67,7 +67,7 @@ fn section_from(b: &[u8], at: usize) -> Section
     }
 }
 
-// Sections 1 to count; the other places are blank.
+// Sections 1 to count; the other places are blank. No heap: 64 places, whatever the count.
 #[tactic(auto, using(record::proofs::Lengths::from_in, basis::proofs::Slots::slots_none, crate::proofs::Arrays::one_more))]
 fn sections_of(b: &[u8], count: usize) -> [Section; 64]
     requires { (count ≤ 63) × (length_of (version_at b.now) count ≤ length b.now) }

@@ -4,7 +4,6 @@
 ghost use Rattle.std.specs.Prelude.{◌≡◌, ◌+◌, ◌-◌, ◌≤◌, length, get_or};
 ghost use Rattle.basis.specs.Range.{concat_to};
 ghost use Rattle.basis.specs.Stored.{stored};
-ghost use Rattle.wire.specs.Wire.{bytes_of};
 ghost use Rattle.fields.specs.Fields.{blank_section, version_of, count_of};
 ghost use Rattle.record.specs.Record.{sections_from, length_of, header_bytes, section_bytes, service_bytes, encode};
 ghost use Rattle.record.specs.Edited.{edited};
@@ -18,6 +17,7 @@ fn put_header(out: &mut [u8], h: Header)
     requires { 16 ≤ length out.old }
     ensures { out.new ≡ stored out.old 0 (header_bytes h) }
 {
+    // std has no From from usize to u32; a length is at most 2,591.
     let length = length_of(h.version, h.sections) as u32;
     length.put_at(out, 0);
     wire::put(out, 4, &[h.version, h.tenths, h.sections, h.hours]);
@@ -25,16 +25,6 @@ fn put_header(out: &mut [u8], h: Header)
     h.guaranteed.put_at(out, 10);
     h.delivered.put_at(out, 12);
     h.limit.put_at(out, 14);
-}
-
-// The residents of kinds 1 to 12, from byte 16 on. One helper for rows of any numbers would take their width beside them, and be no plainer.
-fn put_residents(out: &mut [u8], residents: [u16; 12])
-    requires { 40 ≤ length out.old }
-    ensures { out.new ≡ stored out.old 16 (concat_to 12 (λ kind. bytes_of 2 (get_or residents (kind - 1) 0))) }
-{
-    for (c, residents) in residents.iter().enumerate() {
-        residents.put_at(out, 16 + 2 * c);
-    }
 }
 
 // The service byte of version 2.
@@ -60,7 +50,7 @@ fn put_section(out: &mut [u8], at: usize, s: Section)
     s.free.put_at(out, at + 8);
 }
 
-// The sections, from the first one's place on.
+// The sections, from the first one's place on. The version is a number and no enum, as place_of takes it.
 fn put_sections(out: &mut [u8], version: u8, sections: &[Section])
     requires { (length sections.now ≤ 63) × (length_of version (length sections.now) ≤ length out.old) }
     ensures { out.new ≡ stored out.old (sections_from version)
@@ -90,7 +80,7 @@ pub fn put_job(out: &mut [u8], job: Job)
     let header = job.header;
     let count = usize::from(header.sections);
     put_header(out, header);
-    put_residents(out, job.residents);
+    wire::put_all(out, 16, &job.residents);
     put_service(out, header);
     put_sections(out, header.version, &job.sections[1..=count]);
 }

@@ -33,5 +33,6 @@ pub struct Header {
 pub struct Job {
     pub header: Header,
     pub residents: [u16; 12],
+    // No heap: 64 places, of which the head's count says how many are sections.
     pub sections: [Section; 64],
 }

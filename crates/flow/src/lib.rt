@@ -3,12 +3,10 @@
 
 mod pump;
 
-ghost use Rattle.std.specs.Prelude.{◌≡◌, ◌≤◌, ◌-◌, length, get_or};
-ghost use Rattle.basis.specs.Range.{concat_to};
+ghost use Rattle.std.specs.Prelude.{◌≡◌, ◌≤◌, length};
 ghost use Rattle.basis.specs.Stored.{stored};
 ghost use Rattle.answer.specs.Answer.{number_of};
 ghost use Rattle.answer.specs.Checks.{buffer_after};
-ghost use Rattle.wire.specs.Wire.{bytes_of};
 ghost use Rattle.fields.specs.Fields.{count_of};
 ghost use Rattle.record.specs.Record.{decode};
 ghost use Rattle.flow.specs.Calls.{flow_length, house_bytes, flow_bytes, flow_no};
@@ -18,16 +16,6 @@ use answer::Refusal;
 use demand::AcceptedJob;
 pub use pump::duty;
 use wire::Field;
-
-// The sections' flows, from byte 12 on.
-fn put_flows(out: &mut [u8], flows: &[u32])
-    requires { flow_length (length flows.now) ≤ length out.old }
-    ensures { out.new ≡ stored out.old 12 (concat_to (length flows.now) (λ i. bytes_of 4 (get_or flows.now (i - 1) 0))) }
-{
-    for (i, flow) in flows.iter().enumerate() {
-        flow.put_at(out, 12 + 4 * i);
-    }
-}
 
 // The house's hour, day and mean hour.
 fn put_house(out: &mut [u8], hour: u32, day: u32, mean: u32)
@@ -53,7 +41,7 @@ fn put_result(out: &mut [u8], accepted: &AcceptedJob)
         demand::day_of(accepted.job),
         accepted.mean(),
     );
-    put_flows(out, &flows[1..=count]);
+    wire::put_all(out, 12, &flows[1..=count]);
 }
 
 /// The flow call: hour, day, mean hour and S flows at the front of the buffer, or a number and the buffer as it was.

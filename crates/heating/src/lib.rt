@@ -49,6 +49,7 @@ impl Asked {
     {
         let degrees = 55 - u64::from(self.t);
         let heat = round::divide_up(116 * u64::from(litres) * degrees, 100);
+        // std has no From from u64 to u32.
         (heat + u64::from(self.loss)) as u32
     }
 }

@@ -18,6 +18,7 @@ fn shape_refusal(b: &[u8]) -> Result<(), Refusal>
     if b.len() < 40 {
         return Err(Refusal::JobLength);
     }
+    // std has no From from u32 to usize, whose 64 bits hold it.
     if u32::at(b, 0) as usize != b.len() {
         return Err(Refusal::JobLength);
     }

@@ -16,6 +16,7 @@ fn put_result(out: &mut [u8], place: usize, b: &[u8], loss: u32)
     requires { (place ≤ 8) × (loss ≤ 500) × (meter_place + 2 ≤ length b.now) × (meter_length (length b.now) ≤ length out.old) }
     ensures { out.new ≡ stored out.old 0 (place ∷ edited 2 b.now meter_place loss) }
 {
+    // std has no From to fewer bits; the clause says that both fit.
     out[0] = place as u8;
     encoding::put_edited(out, 1, b, record::METER, loss as u16);
 }
@@ -34,9 +35,7 @@ pub fn meter(b: &[u8], meters: &[u8], out: &mut [u8]) -> Result<(), Refusal>
         return Err(Refusal::ResultShort);
     }
     let q = accepted.house_flow();
-    let Some(place) = meters::winner(meters, q, accepted.mean()) else {
-        return Err(Refusal::NoMeter);
-    };
+    let place = meters::winner(meters, q, accepted.mean()).ok_or(Refusal::NoMeter)?;
     let loss = meters::loss_of(meters::meter_at(meters, place), q);
     put_result(out, place, b, loss);
     Ok(())

@@ -9,7 +9,7 @@ use wire::Field;
 
 /// A meter: its form, the paper's type (1 vane, 2 turbine), its resistance in ten-thousandths of m per (l/s) squared, and service flow in l/h.
 /// The form is the field as the list has it, which 17 may refuse: so it is a number.
-#[derive(Clone, Copy)]
+#[derive(Clone, Copy, Debug, PartialEq, Eq)]
 pub struct Meter {
     pub form: u8,
     pub resistance: u16,
@@ -59,6 +59,7 @@ pub fn loss_of(m: Meter, q: u32) -> u32
     ensures { result ≡ meter_loss m q }
 {
     let flow = u64::from(q);
+    // std has no From from u64 to u32, which holds the loss.
     round::divide_up(u64::from(m.resistance) * flow * flow, 100000000) as u32
 }
 

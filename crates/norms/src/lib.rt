@@ -44,7 +44,7 @@ static HOURLY: [[u64; 12]; 2] = [
 ];
 
 /// D, Q, Z and O of a kind.
-#[derive(Clone, Copy)]
+#[derive(Clone, Copy, Debug, PartialEq, Eq)]
 pub struct Norm {
     pub day: u64,
     pub hour: u64,
@@ -53,6 +53,7 @@ pub struct Norm {
 }
 
 /// The norms of a kind, 1 to 12, for a service.
+// Numbers and no enums: they are the places of columns and rows in the tables.
 pub fn norm_of(service: u8, kind: usize) -> Norm
     requires { (1 ≤ kind) × (kind ≤ 12) }
     ensures { result ≡ norm_of service kind }

@@ -10,6 +10,8 @@ pub const METER: usize = 8;
 /// Where the service stands in version 2.
 pub const SERVICE: usize = 40;
 
+// The version is a number and no enum in all three: the writer is given any, and lays out all but 2 as 1.
+
 // Where the sections begin.
 #[tactic(auto, unfolding(crate::specs::Record::sections_from))]
 fn sections_from(version: u8) -> usize

@@ -28,5 +28,6 @@ pub fn line_at(low: Point, high: Point, x: u32) -> u32
     let rise = u64::from(high.y - low.y);
     let run = u64::from(high.x - low.x);
     let far = u64::from(x - low.x);
+    // std has no From from u64 to u32; at x the line has risen by no more than `rise`.
     low.y + divide_up(rise * far, run) as u32
 }

@@ -1,9 +1,11 @@
 -- The parts of the record are written one after another.
 -- Assumes nothing.
-use Rattle.std.proofs.Common.{◌≡◌, ◌+◌, ◌-◌, ◌≤◌, ◌<◌, List, length, get_or, take, drop, arith, rules, length-drop, get_or-drop, get_or-take}
+use Rattle.std.proofs.Common.{◌≡◌, ℕ, ◌+◌, ◌-◌, ◌≤◌, ◌<◌, List, length, get_or, take, drop, arith, rules, length-drop, get_or-drop, get_or-take}
 use Rattle.std.proofs.Math.ListN.{length-take}
 use Rattle.basis.specs.Range.{concat_to}
 use Rattle.basis.proofs.Concat.{concat_ext}
+use Rattle.wire.specs.Wire.{bytes_of}
+use Rattle.wire.proofs.Rows.{row_concat}
 use Rattle.fields.specs.declared.Section.{Section}
 use Rattle.fields.specs.declared.Job.{Job}
 use Rattle.fields.specs.Fields.{blank_section, count_of}
@@ -37,12 +39,15 @@ pub returns : goal.returns
 unfolding residents_bytes
 returns c =
     let long : length c.args.job.sections ≡ 64 = search rules in
+    let twelve : length c.args.job.residents ≡ 12 = search rules in
     rw (
       c.put_sections.ensures,
       c.from-count.ensures,
       row_written c.args.job (omega arith) long,
       c.put_service.ensures,
-      c.put_residents.ensures,
+      c.put_all.ensures,
+      row_concat (λ (n : ℕ). bytes_of 2 n) c.args.job.residents 0,
+      twelve,
       c.put_header.ensures,
     )
     (whole_stored c.args.job c.args.out.now (omega arith))
