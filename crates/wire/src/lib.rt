@@ -38,10 +38,12 @@ impl Field for u16 {
 
     ghost bits = { λ n. n };
 
+    #[tactic(auto, using(crate::proofs::Bits::from_be_two))]
     fn at(s: &[u8], i: usize) -> u16 {
         u16::from_be_bytes([s[i], s[i + 1]])
     }
 
+    #[tactic(auto, using(crate::proofs::Bits::to_be_two))]
     fn put_at(self, s: &mut [u8], i: usize) {
         put(s, i, &self.to_be_bytes())
     }
@@ -56,10 +58,12 @@ impl Field for u32 {
 
     ghost bits = { λ n. n };
 
+    #[tactic(auto, using(crate::proofs::Bits::from_be_four))]
     fn at(s: &[u8], i: usize) -> u32 {
         u32::from_be_bytes([s[i], s[i + 1], s[i + 2], s[i + 3]])
     }
 
+    #[tactic(auto, using(crate::proofs::Bits::to_be_four))]
     fn put_at(self, s: &mut [u8], i: usize) {
         put(s, i, &self.to_be_bytes())
     }
@@ -74,10 +78,12 @@ impl Field for i16 {
 
     ghost bits = { bits_of 16 };
 
+    #[tactic(auto, using(crate::proofs::Bits::signed_held))]
     fn at(s: &[u8], i: usize) -> i16 {
         u16::at(s, i).cast_signed()
     }
 
+    #[tactic(auto, using(crate::proofs::Bits::bits_held))]
     fn put_at(self, s: &mut [u8], i: usize) {
         self.cast_unsigned().put_at(s, i)
     }
@@ -92,10 +98,12 @@ impl Field for i32 {
 
     ghost bits = { bits_of 32 };
 
+    #[tactic(auto, using(crate::proofs::Bits::signed_held))]
     fn at(s: &[u8], i: usize) -> i32 {
         u32::at(s, i).cast_signed()
     }
 
+    #[tactic(auto, using(crate::proofs::Bits::bits_held))]
     fn put_at(self, s: &mut [u8], i: usize) {
         self.cast_unsigned().put_at(s, i)
     }

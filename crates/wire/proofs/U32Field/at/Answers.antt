@@ -1,8 +1,0 @@
--- `u32::at` meets its contract.
--- Assumes nothing.
-use mathlib.Core.Path.{◌∙◌}
-use Rattle.wire.proofs.Bits.{from_be_four}
-use Rattle.wire.proofs.U32Field.at.Goals as goal
-
-pub returns : goal.returns
-returns c = c.from_be_bytes.ensures ∙ from_be_four c.args.s.now c.args.i
