@@ -1,6 +1,6 @@
 -- The house's flows are written, and then the sections'.
 -- Assumes nothing.
-use Rattle.std.proofs.Common.{◌≡◌, ℕ, ◌+◌, ◌-◌, ◌≤◌, List, length, get_or, arith, refl, ◌∙◌, length-drop}
+use Rattle.std.proofs.Common.{◌≡◌, ℕ, ◌+◌, ◌-◌, ◌≤◌, List, length, arith, refl, ◌∙◌, length-drop}
 use Rattle.std.proofs.Math.ListN.{length-take}
 use Rattle.std.specs.List.{flat_map}
 use Rattle.basis.specs.Part.{part}
