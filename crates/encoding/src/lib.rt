@@ -13,6 +13,7 @@ use record::{length_of, place_of};
 use wire::Field;
 
 // The head fields.
+#[tactic(auto, using(basis::proofs::Stored::stored_next, wire::proofs::Fields::bytes_length), unfolding(record::specs::Record::header_bytes))]
 fn put_header(out: &mut [u8], h: Header)
     requires { 16 ≤ length out.old }
     ensures { out.new ≡ stored out.old 0 (header_bytes h) }
@@ -39,6 +40,7 @@ fn put_service(out: &mut [u8], h: Header)
 }
 
 // The fields of a section.
+#[tactic(auto, using(basis::proofs::Stored::stored_next, wire::proofs::Fields::bytes_length), unfolding(record::specs::Record::section_bytes))]
 fn put_section(out: &mut [u8], at: usize, s: Section)
     requires { at + 10 ≤ length out.old }
     ensures { out.new ≡ stored out.old at (section_bytes s) }

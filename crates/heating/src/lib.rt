@@ -55,7 +55,7 @@ impl Asked {
 }
 
 // The mean hour's heat flow, then the greatest hour's.
-#[tactic(auto, using(demand::proofs::DesignFlows::house_hour_top))]
+#[tactic(auto, using(demand::proofs::DesignFlows::house_hour_top, basis::proofs::Stored::stored_next, wire::proofs::Fields::bytes_length), unfolding(crate::specs::Calls::heat_bytes))]
 fn put_result(out: &mut [u8], accepted: AcceptedJob, asked: Asked)
     requires { (service_of accepted.job ≡ 2) × (8 ≤ length out.old) }
     ensures { out.new ≡ stored out.old 0 (heat_bytes accepted.job asked.t asked.loss) }
@@ -67,7 +67,7 @@ fn put_result(out: &mut [u8], accepted: AcceptedJob, asked: Asked)
 }
 
 /// The heat flows of the mean hour and of the greatest hour at the front of the buffer, or a number and the buffer as it was.
-#[tactic(auto, using(crate::proofs::Ordering::heat_other, crate::proofs::Ordering::heat_range, crate::proofs::Ordering::heat_short, crate::proofs::Ordering::heat_done))]
+#[tactic(auto, using(crate::proofs::Ordering::heat_other, crate::proofs::Ordering::heat_range, crate::proofs::Ordering::heat_short, crate::proofs::Ordering::heat_done, answer::proofs::Some::number_at_exit, acceptance::proofs::Accepting::job_refused), unfolding(crate::specs::Calls::heat_no))]
 pub fn heat(b: &[u8], t: u32, loss: u32, out: &mut [u8]) -> Result<(), Refusal>
     ensures number { number_of result ≡ heat_no b.now t loss (length out.old) }
     ensures buffer { out.new ≡ buffer_after (number_of result) (heat_bytes (decode b.now) t loss) out.old }
