@@ -53,6 +53,7 @@ fn put_section(out: &mut [u8], at: usize, s: Section)
 }
 
 // The sections, from the first one's place on. The version is a number and no enum, as place_of takes it.
+#[tactic(auto, using(basis::proofs::Stored::stored_none, basis::proofs::Concat::concat_none))]
 fn put_sections(out: &mut [u8], version: u8, sections: &[Section])
     requires { (length sections.now ≤ 63) × (length_of version (length sections.now) ≤ length out.old) }
     ensures { out.new ≡ stored out.old (sections_from version)

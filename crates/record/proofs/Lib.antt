@@ -2,4 +2,3 @@ pub mod Lengths
 pub mod Service
 pub mod RoundTrip
 pub mod Edited
-pub mod Written
