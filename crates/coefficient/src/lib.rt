@@ -23,6 +23,7 @@ fn place(t: &[(u32, u32); 486], m: u32) -> usize
 }
 
 /// The coefficient of m, read from the lent table.
+#[tactic(auto, using(crate::proofs::Coefficient::alpha_low))]
 pub fn alpha(t: &[(u32, u32); 486], m: u32) -> u32
     requires { t.now ≡ pairs }
     ensures { result ≡ alpha_of m }

@@ -54,6 +54,7 @@ pub fn meters_ok(list: &[u8]) -> bool
 }
 
 /// A meter's loss in cm at the house's design flow. It stays under 12,454,000, which the field of a record does not hold.
+#[tactic(auto, using(crate::proofs::Qualifying::square_top, basis::proofs::Round::up_le), unfolding(crate::specs::Meters::meter_loss))]
 pub fn loss_of(m: Meter, q: u32) -> u32
     requires { q ≤ 137850 }
     ensures { result ≡ meter_loss m q }

@@ -21,6 +21,7 @@ pub fn divide_up(a: u64, b: u64) -> u64
 }
 
 /// The straight line from a point to another at x, up.
+#[tactic(auto, using(crate::proofs::Piecewise::piece_sum), unfolding(basis::specs::Round::line))]
 pub fn line_at(low: Point, high: Point, x: u32) -> u32
     requires { Piece low.x low.y high.x high.y x }
     ensures { result ≡ line low.x low.y high.x high.y x }

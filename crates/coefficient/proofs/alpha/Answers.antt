@@ -1,13 +1,9 @@
--- `coefficient::alpha` meets its contract, by what the search ensures of the place.
+-- From the first key on `coefficient::alpha` meets its contract, by what the search ensures of the place.
 -- Assumes nothing.
-use Rattle.std.proofs.Common.{◌+◌, sym, ◌∙◌, arith}
-use Rattle.coefficient.proofs.Coefficient.{alpha_low}
+use Rattle.std.proofs.Common.{◌+◌, ◌∙◌, arith}
 use Rattle.coefficient.proofs.Pairs.{pair_at}
 use Rattle.coefficient.proofs.Reading.{reached_last, reached_piece, reached_line}
 use Rattle.coefficient.proofs.alpha.Goals as goal
-
-pub returns-then-m-lt-FIRST_KEY : goal.returns-then-m-lt-FIRST_KEY
-returns-then-m-lt-FIRST_KEY c = sym (alpha_low _ (omega arith))
 
 pub returns-then-i-eq485 : goal.returns-then-i-eq485
 returns-then-i-eq485 c =
