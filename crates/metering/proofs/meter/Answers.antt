@@ -1,4 +1,4 @@
--- `metering::meter` meets its contract.
+-- `metering::meter` meets its contract where no meter qualifies and where one wins.
 -- Assumes nothing.
 use mathlib.Core.Path.{◌≡◌, sym, ap, ◌∙◌}
 use mathlib.Core.Bool.{false}
@@ -14,21 +14,9 @@ use Rattle.meters.proofs.Bounds.{list_in}
 use Rattle.meters.proofs.Qualifying.{loss_top}
 use Rattle.meters.proofs.Least.{winner_zero, winner_some, winner_first}
 use Rattle.metering.specs.Calls.{place_for, loss_for, metered_record, meter_bytes}
-use Rattle.metering.proofs.Ordering.{meter_refused, meter_listed, meter_short, meter_none, meter_done}
+use Rattle.metering.proofs.Ordering.{meter_none, meter_done}
 use Rattle.metering.proofs.meter.Goals as goal
 use Rattle.metering.proofs.meter.Goals.{In_ok-place, After-loss_of-loss}
-
-pub returns-in_err-accepted-clause-number : goal.returns-in_err-accepted-clause-number
-returns-in_err-accepted-clause-number c =
-    number_at_exit _ _ c.from_residual.ensures.1 ∙ meter_refused _ _ _ _ c.in_err-accepted.ensures.number
-
-pub returns-then-not-meters_ok-clause-number : goal.returns-then-not-meters_ok-clause-number
-returns-then-not-meters_ok-clause-number c =
-    sym (meter_listed _ _ _ (sym c.in_ok-accepted.ensures.number) (sym c.meters_ok.ensures ∙ c.if-not-meters_ok.true))
-
-pub returns-then-out-b-clause-number : goal.returns-then-out-b-clause-number
-returns-then-out-b-clause-number c =
-    sym (meter_short _ _ _ (sym c.in_ok-accepted.ensures.number) (sym c.meters_ok.ensures ∙ c.if-not-meters_ok.false) (omega arith))
 
 pub returns-in_err-place-clause-number : goal.returns-in_err-place-clause-number
 returns-in_err-place-clause-number c =
