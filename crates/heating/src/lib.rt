@@ -55,7 +55,7 @@ impl Asked {
 }
 
 // The mean hour's heat flow, then the greatest hour's.
-#[tactic(auto, using(demand::proofs::DesignFlows::house_hour_top, basis::proofs::Stored::stored_next, wire::proofs::Fields::bytes_length), unfolding(crate::specs::Calls::heat_bytes))]
+#[tactic(auto, using(demand::proofs::DesignFlows::house_hour_top))]
 fn put_result(out: &mut [u8], accepted: AcceptedJob, asked: Asked)
     requires { (service_of accepted.job ≡ 2) × (8 ≤ length out.old) }
     ensures { out.new ≡ stored out.old 0 (heat_bytes accepted.job asked.t asked.loss) }
