@@ -3,11 +3,10 @@
 use mathlib.Core.Path.{◌≡◌, refl, sym, ◌∙◌}
 use mathlib.Core.Logic.{⊎_elim}
 use mathlib.Core.List.{List}
-use Prim.Native.Nat.{ℕ, ◌+◌, ◌-◌, ◌*◌, ◌^◌, ◌%◌, ◌≤◌, ◌<◌}
+use Prim.Native.Nat.{ℕ, ◌+◌, ◌-◌, ◌*◌, ◌^◌, ◌≤◌, ◌<◌}
 use native.Mathlib.Omega.{arith}
 use lib.ListN.{get_or, set, replicate, length-set, get_or-replicate}
 use lib.Seq.{get_or-set_same, get_or-set_other}
-use Rattle.std.proofs.lemmas.Nat.{one_shl}
 use Rattle.std.proofs.lemmas.Bool.Decides.{nat_tests}
 use Rattle.basis.proofs.Split.{eq_or_ne}
 use Rattle.fields.specs.declared.Job.{Job}
@@ -28,10 +27,6 @@ filled_more {f} {v} {j} done p w here else =
 -- a place past those that are filled
 rest : {f v : ℕ → ℕ} {j : ℕ} → Filled (j - 1) f v → 0 < j → j < 64 → v j ≡ 0
 rest {f} {v} {j} done p h = let old = done.at j h in grind (arith, nat_tests)
-
--- a shift of one
-pub shifted : (j : ℕ) → j < 64 → (1 * 2 ^ j) % 2 ^ 64 ≡ 2 ^ j
-shifted j h = one_shl j 64 h
 
 pub singles_start : Singles 0 (replicate 64 0)
 singles_start =
@@ -63,12 +58,13 @@ module _ {job : Job} {j : ℕ} {n : List ℕ} (o : Owned job (j - 1) n) (p : 0 <
       before : (i ≡ j → ⊥) → i ≤ j - 1
       before ne = omega arith
 
-  pub owned_skip : (section_of job j).kind ≡ 0 → Owned job (j + 1 - 1) n
-  owned_skip e =
+  -- a kind that is none of the twelve
+  pub owned_skip : ((c : ℕ) → c < 12 → (section_of job j).kind ≡ c + 1 → ⊥) → Owned job (j + 1 - 1) n
+  owned_skip ne =
       record {
         long = o.long;
         own = λ c k. filled_more (o.own c k) p (λ i. cell n i c)
-            (rest (o.own c k) p h ∙ sym (own_not job (c + 1) j (λ x. omega arith))) (λ i ne. refl);
+            (rest (o.own c k) p h ∙ sym (own_not job (c + 1) j (ne c k))) (λ i ne. refl);
         small = small_more;
       }
 
