@@ -7,4 +7,4 @@ use Rattle.rules.proofs.Ends.{childless_zero_at}
 use Rattle.rules.proofs.childless_zero.Given as goal
 
 abbrev pub invariant-loop-i : goal.invariant-loop-i
-invariant-loop-i l = (l.i ≤ count_of l.job + 1) × (any_to (l.i - 1) (childless_zero_at l.job) ≡ false)
+invariant-loop-i l = (l.i ≤ count_of l.tree.job.now + 1) × (any_to (l.i - 1) (childless_zero_at l.tree.job.now) ≡ false)

@@ -21,11 +21,11 @@ loop-i-preserved c =
 pub returns : goal.returns
 unfolding sections_ok
 returns c =
-    let e : c.loop-i.i - 1 ≡ count_of c.args.job = omega arith in
+    let e : c.loop-i.i - 1 ≡ count_of c.args.job.now = omega arith in
     sym (rw e at c.loop-i.invariant.1)
 
 pub returns-else-not-section_ok : goal.returns-else-not-section_ok
 unfolding sections_ok
 returns-else-not-section_ok c =
-    let e : c.loop-i.i ≡ count_of c.args.job = omega arith in
+    let e : c.loop-i.i ≡ count_of c.args.job.now = omega arith in
     rw (← e) (sym (all_more (c.loop-i.i - 1) c.loop-i.i _ (omega arith) c.loop-i.invariant.1 cc))

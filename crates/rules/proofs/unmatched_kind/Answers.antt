@@ -9,18 +9,18 @@ use Rattle.rules.proofs.unmatched_kind.Goals as goal
 pub loop-c-init : goal.loop-c-init
 loop-c-init c = any_none _
 
-pub returns-then-job-c : goal.returns-then-job-c
+pub returns-then-tree-c : goal.returns-then-tree-c
 unfolding unmatched
-returns-then-job-c c =
+returns-then-tree-c c =
     let row : 0 * 12 + c.loop-c.c ≡ c.loop-c.c = omega arith in
     let own = rw row at (c.counts-served.ensures.at 0 c.loop-c.c (omega arith) (omega arith)) in
-    sym (any_true 12 (c.loop-c.c + 1) _ (omega arith) (omega arith) (odd_served c.requires.0 c.loop-c.c _ own ∙ c.if-job-c.true))
+    sym (any_true 12 (c.loop-c.c + 1) _ (omega arith) (omega arith) (odd_served c.args.tree.now.rooted c.loop-c.c _ own ∙ c.if-tree-c.true))
 
 pub loop-c-preserved : goal.loop-c-preserved
 loop-c-preserved c =
     let row : 0 * 12 + c.loop-c.c ≡ c.loop-c.c = omega arith in
     let own = rw row at (c.counts-served.ensures.at 0 c.loop-c.c (omega arith) (omega arith)) in
-    any_more _ _ _ refl c.loop-c.invariant (odd_served c.requires.0 c.loop-c.c _ own ∙ c.if-job-c.false)
+    any_more _ _ _ refl c.loop-c.invariant (odd_served c.args.tree.now.rooted c.loop-c.c _ own ∙ c.if-tree-c.false)
 
 pub returns : goal.returns
 unfolding unmatched

@@ -6,4 +6,4 @@ use Rattle.rules.proofs.House.{odd_at}
 use Rattle.rules.proofs.unmatched_kind.Given as goal
 
 abbrev pub invariant-loop-c : goal.invariant-loop-c
-invariant-loop-c l = any_to l.c (odd_at l.job) ≡ false
+invariant-loop-c l = any_to l.c (odd_at l.tree.job.now) ≡ false
