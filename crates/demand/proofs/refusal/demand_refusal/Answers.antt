@@ -1,21 +1,14 @@
 -- `demand::refusal::demand_refusal` meets its contract: each test in its turn.
 -- Assumes nothing.
 use Rattle.std.proofs.Common.{arith}
-use Rattle.demand.proofs.Validity.{valid_rooted, valid_kinds}
 use Rattle.demand.proofs.Deciding.{found, over_house, over_hour, table_one_house, table_one_any, table_one_hour, table_one_not}
 use Rattle.demand.proofs.refusal.demand_refusal.Goals as goal
 
-pub counts-served-requires : goal.counts-served-requires
-counts-served-requires c = (valid_rooted c.requires, valid_kinds c.requires)
-
-pub sets-sets-requires : goal.sets-sets-requires
-sets-sets-requires c = valid_rooted c.requires
-
 pub sums_of-house-requires : goal.sums_of-house-requires
-sums_of-house-requires c = (valid_rooted c.requires, c.counts-served.ensures, omega arith)
+sums_of-house-requires c = (c.counts-served.ensures, omega arith)
 
 pub fixtures_below-fixtures-requires : goal.fixtures_below-fixtures-requires
-fixtures_below-fixtures-requires c = (valid_rooted c.requires, omega arith, c.sets-sets.ensures 0 (omega arith))
+fixtures_below-fixtures-requires c = (omega arith, c.sets-sets.ensures 0 (omega arith))
 
 pub returns-then-house-gt400000000 : goal.returns-then-house-gt400000000
 returns-then-house-gt400000000 c =
