@@ -4,12 +4,6 @@ use Rattle.std.proofs.Common.{arith}
 use Rattle.demand.proofs.Deciding.{found, over_house, over_hour, table_one_house, table_one_any, table_one_hour, table_one_not}
 use Rattle.demand.proofs.refusal.demand_refusal.Goals as goal
 
-pub sums_of-house-requires : goal.sums_of-house-requires
-sums_of-house-requires c = (c.counts-served.ensures, omega arith)
-
-pub fixtures_below-fixtures-requires : goal.fixtures_below-fixtures-requires
-fixtures_below-fixtures-requires c = (omega arith, c.sets-sets.ensures 0 (omega arith))
-
 pub returns-then-house-gt400000000 : goal.returns-then-house-gt400000000
 returns-then-house-gt400000000 c =
     let k = found c.requires c.sums_of-house.ensures.0 c.fixtures_below-fixtures.ensures c.hour_sums-hour.ensures.0 in

@@ -11,15 +11,6 @@ use Rattle.demand.proofs.refusal.section_needs_table_one.Goals as goal
 pub loop-i-init : goal.loop-i-init
 loop-i-init c = (omega arith, any_none _)
 
-pub sums_of-sums-requires : goal.sums_of-sums-requires
-sums_of-sums-requires c = (c.requires.counts, omega (arith, c.args.tree.now.rooted.few))
-
-pub bounds-sets-i : goal.bounds-sets-i
-bounds-sets-i c = omega (arith, c.args.tree.now.rooted.few)
-
-pub fixtures_below-fixtures-requires : goal.fixtures_below-fixtures-requires
-fixtures_below-fixtures-requires c = (omega arith, c.requires.sets c.loop-i.i (omega (arith, c.args.tree.now.rooted.few)))
-
 pub returns-then-needs_table_one : goal.returns-then-needs_table_one
 returns-then-needs_table_one c =
     let e = tested _ c.loop-i.i c.needs_table_one.ensures c.sums_of-sums.ensures.0 c.fixtures_below-fixtures.ensures in

@@ -20,22 +20,22 @@ returns-then-residents-eq0 c =
     }
 
 pub overflow_mul-hour : goal.overflow_mul-hour
-overflow_mul-hour c = let f = hour_fits _ c.norm_of-hour.ensures c.from-residents.result (omega arith) c.requires in omega arith
+overflow_mul-hour c = let f = hour_fits _ c.norm_of-hour.ensures c.requires.0 c.requires.1 {residents = c.from-residents.result} (omega arith) in omega arith
 
 pub overflow_mul-hour-2 : goal.overflow_mul-hour-2
-overflow_mul-hour-2 c = let f = hour_fits _ c.norm_of-hour.ensures c.from-residents.result (omega arith) c.requires in omega arith
+overflow_mul-hour-2 c = let f = hour_fits _ c.norm_of-hour.ensures c.requires.0 c.requires.1 {residents = c.from-residents.result} (omega arith) in omega arith
 
 pub divide_up-shares-requires : goal.divide_up-shares-requires
-divide_up-shares-requires c = let f = hour_fits _ c.norm_of-hour.ensures c.from-residents.result (omega arith) c.requires in omega arith
+divide_up-shares-requires c = let f = hour_fits _ c.norm_of-hour.ensures c.requires.0 c.requires.1 {residents = c.from-residents.result} (omega arith) in omega arith
 
 pub overflow_mul-result : goal.overflow_mul-result
 overflow_mul-result c =
-    let f = hour_fits _ c.norm_of-hour.ensures c.from-residents.result (omega arith) c.requires in
+    let f = hour_fits _ c.norm_of-hour.ensures c.requires.0 c.requires.1 {residents = c.from-residents.result} (omega arith) in
     omega (arith, hourly_top f c.divide_up-shares.ensures)
 
 pub returns : goal.returns
 returns c =
-    let f = hour_fits _ c.norm_of-hour.ensures c.from-residents.result (omega arith) c.requires in
+    let f = hour_fits _ c.norm_of-hour.ensures c.requires.0 c.requires.1 {residents = c.from-residents.result} (omega arith) in
     let norm : c.norm_of-hour.result ≡ norm_at c.args.job.now c.args.kind = c.norm_of-hour.ensures in
     record {
       share_is = rw (← norm, ← c.from-residents.ensures) c.divide_up-shares.ensures;
