@@ -21,7 +21,7 @@ use Rattle.rules.proofs.Kept.{Kept, kept_of, sections_in, rooted_of}
 use Rattle.demand.specs.Demand.{fixtures_of, Valid}
 
 module _ {job : Job} (r : Valid job) where
-  valid_head : HeaderIn job.header
+  pub valid_head : HeaderIn job.header
   valid_head = header_in job.header r.header
 
   pub valid_hours : Within 1 24 job.header.hours

@@ -70,7 +70,7 @@ impl AcceptedJob {
     }
 
     /// The mean hour in l/h.
-    #[tactic(auto, using(crate::proofs::Validity::valid_hours, crate::proofs::Tops::mean_top), unfolding(crate::specs::Demand::mean_of))]
+    #[tactic(auto, using(crate::proofs::Validity::valid_head, crate::proofs::Tops::mean_top), unfolding(crate::specs::Demand::mean_of))]
     pub fn mean(&self) -> u32
         ensures { result ≡ mean_of self.now.job }
     {
