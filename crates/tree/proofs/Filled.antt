@@ -43,14 +43,6 @@ own_not job kind j ne = grind (arith, nat_tests)
 pub zeros : Zeros (replicate 768 0)
 zeros = record { long = refl; zero = λ x h. get_or-replicate 768 x 0 0 h }
 
-pub owned_start : (job : Job) {n : List ℕ} → Zeros n → Owned job 0 n
-owned_start job {n} z =
-    record {
-      long = z.long;
-      own = λ c k. filled_start (own_of job (c + 1)) (λ i. cell n i c) (λ i h. z.zero (i * 12 + c) (omega arith));
-      small = λ j p q. absurd (omega arith);
-    }
-
 module _ {job : Job} {j : ℕ} {n : List ℕ} (o : Owned job (j - 1) n) (p : 0 < j) (h : j < 64) (s : (section_of job j).fixtures < 65536) where
   small_more : (i : ℕ) → 0 < i → i ≤ j + 1 - 1 → (section_of job i).fixtures < 65536
   small_more i a b = ⊎_elim (λ e. rw e s) (λ ne. o.small i a (before ne)) (eq_or_ne i j)
