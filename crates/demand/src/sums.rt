@@ -18,8 +18,8 @@ pub struct Sums {
     pub tap: u64,
 }
 
-/// Of the house's hour, or of one of its kinds: the sum of the shares, and of share × O. One type with `Sums`, and one function for both, would be
-/// no plainer: the hour has no tap, and each sum has its own bounds.
+/// Of the house's hour, or of one of its kinds: the sum of the shares, and of share × O. One type with `Sums` would be no plainer: the hour has no
+/// tap, and each sum has its own bounds.
 #[derive(Clone, Copy, Default)]
 pub struct HourSums {
     pub shares: u64,
@@ -66,7 +66,8 @@ pub fn sums_of(tree: &Tree, counts: &[u32; 768], i: usize) -> Sums
     sums
 }
 
-// What a kind adds to the sums of the house's hour. Without residents nothing is looked up or divided.
+// What a kind adds to the sums of the house's hour. Without residents nothing is looked up or divided. Beside `part_of`, which has a kind's
+// fixtures and a tap, one function for both would be no plainer.
 // A number and no enum: the kind is the caller's counter and the place in the tables.
 fn hour_part(job: &Job, kind: usize) -> HourSums
     requires { (1 ≤ kind) × (kind ≤ 12) }
