@@ -81,12 +81,7 @@ fn sections_ok(job: &Job) -> bool
     requires { count_of job.now ≤ 63 }
     ensures { result ≡ sections_ok job.now }
 {
-    for i in 1..=usize::from(job.header.sections) {
-        if !section_ok(i, job.sections[i]) {
-            return false;
-        }
-    }
-    true
+    (1..usize::from(job.header.sections) + 1).all(|i| section_ok(i, job.sections[i]))
 }
 
 // Kind 0 on section i, s, of which the set is its own bit alone.
@@ -103,12 +98,11 @@ fn childless_zero(tree: &Tree) -> bool
     ensures { result ≡ childless_zero tree.now.job.now }
 {
     let below = tree.sets();
-    for i in 1..=usize::from(tree.job.header.sections) {
-        if bare_end(tree.job.sections[i], below[i], i) {
-            return true;
-        }
-    }
-    false
+    (1..usize::from(tree.job.header.sections) + 1).any(|i| bare_end(
+        tree.job.sections[i],
+        below[i],
+        i,
+    ))
 }
 
 // 7: a kind has residents without fixtures, or the reverse.
@@ -116,12 +110,7 @@ fn unmatched_kind(tree: &Tree) -> bool
     ensures { result ≡ unmatched tree.now.job.now }
 {
     let served = tree.counts();
-    for c in 0..12 {
-        if (tree.job.residents[c] == 0) != (served[c] == 0) {
-            return true;
-        }
-    }
-    false
+    (0..12).any(|c| (tree.job.residents[c] == 0) != (served[c] == 0))
 }
 
 /// The first of 5, 6 and 7 that the job breaks, if it breaks one.
