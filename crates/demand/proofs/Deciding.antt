@@ -5,6 +5,7 @@ use mathlib.Core.Bool.{Bool, true, false}
 use Prim.Native.Nat.{ℕ, ◌≤◌, ◌<◌}
 use borrow.Author.Tests.{lt-ltb, le-ltb}
 use Rattle.basis.specs.Range.{any_to}
+use Rattle.basis.proofs.Each.{any_ext}
 use Rattle.answer.specs.Checks.{first_no}
 use Rattle.fields.specs.declared.Job.{Job}
 use Rattle.fields.specs.Fields.{count_of}
@@ -26,25 +27,33 @@ module _ {job : Job} (r : Rooted job) where
   house_fixtures = fixtures_same job (served_of job 0) (house_of job) (λ kind a b. served_house r kind)
 
 -- the test of section i, by what its sums and its set give
-pub section_test : {job : Job} → Valid job → (i : ℕ) → {m fixtures : ℕ} {r : Bool} →
-    r ≡ needs_table_one m fixtures → m ≡ m_of job (served_of job i) → fixtures ≡ fixtures_below job i →
-    r ≡ needs_table_one (m_of job (served_of job i)) (fixtures_of (served_of job i))
-section_test valid i e m f = e ∙ rw (m, f ∙ valid_fixtures valid i)
+abbrev pub section_test : Job → ℕ → Bool
+section_test job i = needs_table_one (m_of job (served_of job i)) (fixtures_below job i)
 
--- what is found of the house: its m, its fixtures and the hour's sum of shares
+pub tested : (job : Job) (i : ℕ) {m fixtures : ℕ} {r : Bool} →
+    r ≡ needs_table_one m fixtures → m ≡ m_of job (served_of job i) → fixtures ≡ fixtures_below job i → r ≡ section_test job i
+tested job i e m f = e ∙ rw (m, f)
+
+abbrev any_section : Job → Bool
+any_section job = any_to (count_of job) (section_test job)
+
+-- what is found: the house's m, its fixtures and the hour's sum of shares, and that a section's set has the fixtures of the kinds that it serves
 pub record Found (job : Job) (m fixtures hour : ℕ) : Type 0 where
   pub m_is : m ≡ m_of job (house_of job)
   pub fixtures_is : fixtures ≡ fixtures_of (house_of job)
   pub hour_is : hour ≡ hour_sum_of job
+  pub sections_are : any_section job ≡ any_to (count_of job) (λ i. needs_table_one (m_of job (served_of job i)) (fixtures_of (served_of job i)))
 
 pub found : {job : Job} → Valid job → {m fixtures hour : ℕ} →
     m ≡ m_of job (served_of job 0) → fixtures ≡ fixtures_below job 0 → hour ≡ hour_sum_of job → Found job m fixtures hour
-found valid m f h =
+found {job} valid m f h =
     let r = valid_rooted valid in
-    record { m_is = m ∙ house_m r; fixtures_is = f ∙ valid_fixtures valid 0 ∙ house_fixtures r; hour_is = h }
-
-abbrev any_section : Job → Bool
-any_section job = any_to (count_of job) (λ i. needs_table_one (m_of job (served_of job i)) (fixtures_of (served_of job i)))
+    record {
+      m_is = m ∙ house_m r;
+      fixtures_is = f ∙ valid_fixtures valid 0 ∙ house_fixtures r;
+      hour_is = h;
+      sections_are = any_ext (count_of job) (section_test job) _ (λ i p q. rw (valid_fixtures valid i));
+    }
 
 module _ {job : Job} {m fixtures hour : ℕ} (k : Found job m fixtures hour) where
   pub over_house : 400000000 < m → 8 ≡ first_no (demand_checks job)
@@ -68,13 +77,13 @@ module _ {job : Job} {m fixtures hour : ℕ} (k : Found job m fixtures hour) whe
       module _ (house : false ≡ needs_table_one m fixtures) where
         pub table_one_any : true ≡ any_section job → 9 ≡ first_no (demand_checks job)
         unfolding demand_checks first_no over_probability
-        table_one_any e = rw (not_over, ← k.m_is, ← k.fixtures_is, ← house, ← e)
+        table_one_any e = rw (not_over, ← k.m_is, ← k.fixtures_is, ← house, ← k.sections_are, ← e)
 
         module _ (any : false ≡ any_section job) where
           pub table_one_hour : true ≡ needs_table_one hour fixtures → 9 ≡ first_no (demand_checks job)
           unfolding demand_checks first_no over_probability
-          table_one_hour e = rw (not_over, ← k.m_is, ← k.fixtures_is, ← k.hour_is, ← house, ← any, ← e)
+          table_one_hour e = rw (not_over, ← k.m_is, ← k.fixtures_is, ← k.hour_is, ← house, ← k.sections_are, ← any, ← e)
 
           pub table_one_not : false ≡ needs_table_one hour fixtures → 0 ≡ first_no (demand_checks job)
           unfolding demand_checks first_no over_probability
-          table_one_not e = rw (not_over, ← k.m_is, ← k.fixtures_is, ← k.hour_is, ← house, ← any, ← e)
+          table_one_not e = rw (not_over, ← k.m_is, ← k.fixtures_is, ← k.hour_is, ← house, ← k.sections_are, ← any, ← e)

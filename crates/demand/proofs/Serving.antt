@@ -18,9 +18,8 @@ use Rattle.tree.specs.Tree.{own_of, served_of, house_of, Rooted}
 use Rattle.tree.proofs.Served.{own_served, served_child, served_le}
 use Rattle.rules.specs.Rules.{childless, childless_zero}
 use Rattle.rules.proofs.Ends.{childless_zero_at}
-use Rattle.rules.proofs.Kept.{sections_in}
 use Rattle.demand.specs.Demand.{Valid}
-use Rattle.demand.proofs.Validity.{valid_rooted, valid_kinds, valid_sections, valid_ends, valid_count}
+use Rattle.demand.proofs.Validity.{valid_rooted, valid_kind, valid_ends, valid_count}
 
 -- a kind of which a vector has fixtures
 pub record Serves (n : ℕ → ℕ) : Type 0 where
@@ -51,11 +50,11 @@ module _ {job : Job} (r : Valid job) where
     end_serves : childless job i ≡ true → Serves (served_of job i)
     end_serves c =
         let p : 0 < (section_of job i).kind = end_kind c in
-        let f : 1 ≤ (section_of job i).fixtures = (sections_in job (valid_sections r) i a b).kinds.fitted p in
+        let f : 1 ≤ (section_of job i).fixtures = (valid_kind r i a b).fitted p in
         record {
           kind = (section_of job i).kind;
           low = p;
-          high = (valid_kinds r).twelve i a b;
+          high = (valid_kind r i a b).twelve;
           some = omega (arith, own_kind job i, own_served rooted i (section_of job i).kind a b);
         }
 

@@ -10,18 +10,18 @@ use Rattle.basis.proofs.Bools.{neither, not_both}
 use Rattle.basis.proofs.Each.{any_at}
 use Rattle.basis.proofs.Within.{Within}
 use Rattle.fields.specs.declared.Job.{Job}
-use Rattle.fields.specs.Fields.{count_of, residents_of}
+use Rattle.fields.specs.Fields.{count_of, section_of, residents_of}
 use Rattle.tree.specs.Tree.{Rooted, served_of, house_of, fixtures_below}
-use Rattle.tree.specs.Rows.{Kinds}
 use Rattle.tree.proofs.Served.{served_all}
 use Rattle.rules.specs.Rules.{sections_ok, childless_zero, unmatched}
 use Rattle.rules.proofs.HeaderBounds.{HeaderIn, header_in}
 use Rattle.rules.proofs.House.{odd_at}
-use Rattle.rules.proofs.Kept.{Kept, kept_of, sections_in, rooted_of, kinds_of}
+use Rattle.rules.proofs.SectionBounds.{KindIn}
+use Rattle.rules.proofs.Kept.{Kept, kept_of, sections_in, rooted_of}
 use Rattle.demand.specs.Demand.{fixtures_of, Valid}
 
 module _ {job : Job} (r : Valid job) where
-  valid_head : HeaderIn job.header
+  pub valid_head : HeaderIn job.header
   valid_head = header_in job.header r.header
 
   pub valid_hours : Within 1 24 job.header.hours
@@ -45,13 +45,13 @@ module _ {job : Job} (r : Valid job) where
   pub valid_rooted : Rooted job
   valid_rooted = rooted_of job valid_count.high valid_sections
 
-  pub valid_kinds : Kinds job
-  valid_kinds = kinds_of job valid_sections
+  pub valid_kind : (j : ℕ) → 0 < j → j ≤ count_of job → KindIn (section_of job j)
+  valid_kind j p q = (sections_in job valid_sections j p q).kinds
 
   -- all fixtures at or below a section, and the sum of its counts of the kinds
   pub valid_fixtures : (i : ℕ) → fixtures_below job i ≡ fixtures_of (served_of job i)
   unfolding fixtures_of
-  valid_fixtures i = sym (served_all job valid_kinds (λ j p q z. ((sections_in job valid_sections j p q).kinds.bare z).0) i)
+  valid_fixtures i = sym (served_all job (λ j p q. (valid_kind j p q).twelve) (λ j p q z. ((valid_kind j p q).bare z).0) i)
 
   module _ (kind : ℕ) (low : 0 < kind) (high : kind ≤ 12) where
     -- neither is zero without the other

@@ -9,6 +9,7 @@ ghost use Rattle.demand.specs.Demand.{Accepted};
 use crate::day::day_of;
 use crate::sums::{Sums, hour_sums, sums_of};
 use fields::Job;
+use tree::Tree;
 
 /// A job that every check up to 9 let pass.
 #[derive(Clone, Copy)]
@@ -22,6 +23,7 @@ fn flow(t: &[(u32, u32); 486], s: Sums) -> u32
     requires { (t.now ≡ pairs) × (0 < s.m) × (s.m ≤ 400000000) × (s.weighted ≤ 30 * s.m) × (s.tap ≤ 300) }
     ensures { result ≡ max (up (s.weighted * alpha_of s.m) (20000 * s.m)) s.tap }
 {
+    // Casts: std has no `From` from 64 to 32 bits.
     let alpha = u64::from(coefficient::alpha(t, s.m as u32));
     let average = round::divide_up(s.weighted * alpha, 20000 * s.m);
     average.max(s.tap) as u32
@@ -31,27 +33,29 @@ impl AcceptedJob {
     ghost use Rattle.fields.specs.Fields.{count_of};
     ghost use Rattle.demand.specs.Demand.{section_flow, house_flow, hour_of, mean_of};
 
-    /// The flow of each section, at the section's place.
-    #[tactic(auto, using(crate::proofs::Validity::valid_rooted, crate::proofs::Validity::valid_kinds, crate::proofs::Validity::valid_count, crate::proofs::Totals::m_pos, crate::proofs::Totals::section_m_top, crate::proofs::DesignFlows::flow_asks))]
+    /// The flow of each section, at the section's place. (64 places whatever S is: there is no heap.)
+    #[tactic(auto, using(crate::proofs::Validity::valid_rooted, crate::proofs::Validity::valid_count, crate::proofs::Totals::m_pos, crate::proofs::Totals::section_m_top, crate::proofs::DesignFlows::flow_asks))]
     pub fn flows(&self) -> [u32; 64]
         ensures { result ≡ slots 64 1 (count_of self.now.job + 1) 0 (section_flow self.now.job) }
     {
-        let served = tree::counts(self.job);
+        let tree = Tree { job: &self.job };
+        let served = tree.counts();
         let table = coefficient::table2();
         let mut flows = [0; 64];
         for i in 1..=usize::from(self.job.header.sections) {
-            flows[i] = flow(table, sums_of(&self.job, &served, i));
+            flows[i] = flow(table, sums_of(&tree, &served, i));
         }
         flows
     }
 
     /// The house's design flow, which the pump set delivers.
-    #[tactic(auto, using(crate::proofs::Validity::valid_rooted, crate::proofs::Validity::valid_kinds, crate::proofs::Deciding::house_m, crate::proofs::Totals::house_m_pos, crate::proofs::Totals::house_m_top, crate::proofs::DesignFlows::flow_asks))]
+    #[tactic(auto, using(crate::proofs::Validity::valid_rooted, crate::proofs::Deciding::house_m, crate::proofs::Totals::house_m_pos, crate::proofs::Totals::house_m_top, crate::proofs::DesignFlows::flow_asks))]
     pub fn house_flow(&self) -> u32
         ensures { result ≡ house_flow self.now.job }
     {
-        let served = tree::counts(self.job);
-        flow(coefficient::table2(), sums_of(&self.job, &served, 0))
+        let tree = Tree { job: &self.job };
+        let served = tree.counts();
+        flow(coefficient::table2(), sums_of(&tree, &served, 0))
     }
 
     /// The flow of the greatest hour in l/h.
@@ -59,18 +63,20 @@ impl AcceptedJob {
     pub fn hour(&self) -> u32
         ensures { result ≡ hour_of self.now.job }
     {
-        let sums = hour_sums(self.job);
+        let sums = hour_sums(&self.job);
+        // Casts: std has no `From` from 64 to 32 bits.
         let alpha = u64::from(coefficient::alpha(coefficient::table2(), sums.shares as u32));
         round::divide_up(sums.weighted * alpha, 200000 * sums.shares) as u32
     }
 
     /// The mean hour in l/h.
-    #[tactic(auto, using(crate::proofs::Validity::valid_hours, crate::proofs::Tops::mean_top), unfolding(crate::specs::Demand::mean_of))]
+    #[tactic(auto, using(crate::proofs::Validity::valid_head, crate::proofs::Tops::mean_top), unfolding(crate::specs::Demand::mean_of))]
     pub fn mean(&self) -> u32
         ensures { result ≡ mean_of self.now.job }
     {
         let day = u64::from(day_of(self.job));
         let hours = u64::from(self.job.header.hours);
+        // A cast: std has no `From` from 64 to 32 bits.
         round::divide_up(day, hours) as u32
     }
 }

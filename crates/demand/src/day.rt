@@ -6,6 +6,7 @@ ghost use Rattle.demand.specs.Demand.{norm_at, day_of};
 use fields::Job;
 
 // The greatest day of a kind's residents. Without residents nothing is looked up.
+// A number and no enum: the kind is the caller's counter and the place in the tables.
 fn day_part(job: &Job, kind: usize) -> u64
     requires { (1 ≤ kind) × (kind ≤ 12) }
     ensures { (result ≡ (norm_at job.now kind).day * residents_of job.now kind) × (result ≤ 26214000) }
@@ -26,5 +27,6 @@ pub fn day_of(job: Job) -> u32
     for kind in 1..=12 {
         day += day_part(&job, kind);
     }
+    // A cast: std has no `From` from 64 to 32 bits.
     day as u32
 }

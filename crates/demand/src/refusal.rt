@@ -4,13 +4,14 @@ ghost use Rattle.basis.specs.Range.{any_to};
 ghost use Rattle.answer.specs.Answer.{number_of};
 ghost use Rattle.answer.specs.Checks.{first_no};
 ghost use Rattle.fields.specs.Fields.{count_of};
-ghost use Rattle.tree.specs.Tree.{served_of, set_of};
+ghost use Rattle.tree.specs.Tree.{served_of, set_of, fixtures_below};
 ghost use Rattle.tree.specs.Rows.{Counted};
-ghost use Rattle.demand.specs.Demand.{m_of, fixtures_of, needs_table_one, demand_checks, Valid};
+ghost use Rattle.demand.specs.Demand.{m_of, needs_table_one, demand_checks, Valid};
 
 use crate::sums::{hour_sums, sums_of};
 use answer::Refusal;
 use fields::Job;
+use tree::Tree;
 
 // m over 100,000 × fixtures with at most 200 fixtures: then Table 1 of appendix 4 would apply, which is left out.
 #[tactic(auto, unfolding(crate::specs::Demand::needs_table_one))]
@@ -21,13 +22,15 @@ fn needs_table_one(m: u64, fixtures: u64) -> bool
 }
 
 // Whether any section does. No `any`: the closure's contract would have to ask again for all that its two calls ask.
-fn section_needs_table_one(job: Job, served: &[u32; 768], sets: &[u64; 64]) -> bool
-    requires { Valid job × Counted job served.now × ((i : ℕ) → i < 64 → get_or sets.now i 0 ≡ set_of job i) }
-    ensures { result ≡ any_to (count_of job) (λ i. needs_table_one (m_of job (served_of job i)) (fixtures_of (served_of job i))) }
+fn section_needs_table_one(tree: &Tree, served: &[u32; 768], sets: &[u64; 64]) -> bool
+    requires counts { Counted tree.now.job.now served.now }
+    requires sets { (i : ℕ) → i < 64 → get_or sets.now i 0 ≡ set_of tree.now.job.now i }
+    ensures { result ≡ any_to (count_of tree.now.job.now)
+        (λ i. needs_table_one (m_of tree.now.job.now (served_of tree.now.job.now i)) (fixtures_below tree.now.job.now i)) }
 {
-    for i in 1..=usize::from(job.header.sections) {
-        let sums = sums_of(&job, served, i);
-        let fixtures = tree::fixtures_below(job, sets[i], i);
+    for i in 1..=usize::from(tree.job.header.sections) {
+        let sums = sums_of(tree, served, i);
+        let fixtures = tree.fixtures_below(sets[i], i);
         if needs_table_one(sums.m, fixtures) {
             return true;
         }
@@ -36,15 +39,17 @@ fn section_needs_table_one(job: Job, served: &[u32; 768], sets: &[u64; 64]) -> b
 }
 
 /// 8 and 9, of a job that 3 and 5 to 7 let pass.
+#[tactic(auto, using(crate::proofs::Validity::valid_rooted))]
 pub fn demand_refusal(job: Job) -> Result<(), Refusal>
     requires { Valid job }
     ensures { number_of result ≡ first_no (demand_checks job) }
 {
-    let served = tree::counts(job);
-    let sets = tree::sets(job);
-    let house = sums_of(&job, &served, 0);
-    let fixtures = tree::fixtures_below(job, sets[0], 0);
-    let hour = hour_sums(job);
+    let tree = Tree { job: &job };
+    let served = tree.counts();
+    let sets = tree.sets();
+    let house = sums_of(&tree, &served, 0);
+    let fixtures = tree.fixtures_below(sets[0], 0);
+    let hour = hour_sums(&job);
     if 400000000 < house.m {
         return Err(Refusal::DemandOverTable);
     }
@@ -54,7 +59,7 @@ pub fn demand_refusal(job: Job) -> Result<(), Refusal>
     if needs_table_one(house.m, fixtures) {
         return Err(Refusal::DemandOverFixtures);
     }
-    if section_needs_table_one(job, &served, &sets) {
+    if section_needs_table_one(&tree, &served, &sets) {
         return Err(Refusal::DemandOverFixtures);
     }
     if needs_table_one(hour.shares, fixtures) {

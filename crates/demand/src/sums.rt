@@ -1,13 +1,14 @@
 // The sums over the twelve kinds: shares, and shares by norm; and one tap of the kinds served.
 ghost use Rattle.std.specs.Prelude.{◌≡◌, ◌≤◌, ◌<◌};
 ghost use Rattle.fields.specs.Fields.{residents_of};
-ghost use Rattle.tree.specs.Tree.{served_of, Rooted};
+ghost use Rattle.tree.specs.Tree.{served_of};
 ghost use Rattle.tree.specs.Rows.{Counted};
 ghost use Rattle.demand.specs.Steps.{Adds, HourAdds};
 ghost use Rattle.demand.specs.Demand.{norm_at, m_of, fixture_sum_of, one_tap_of, hour_sum_of, hourly_sum_of};
 
 use fields::Job;
 use norms::Norm;
+use tree::Tree;
 
 /// Of a section or the house, or of one of its kinds: m, the sum of share × Z, and one tap in ml/s.
 #[derive(Clone, Copy, Default)]
@@ -17,7 +18,8 @@ pub struct Sums {
     pub tap: u64,
 }
 
-/// Of the house's hour, or of one of its kinds: the sum of the shares, and of share × O.
+/// Of the house's hour, or of one of its kinds: the sum of the shares, and of share × O. One type with `Sums` would be no plainer: the hour has no
+/// tap, and each sum has its own bounds.
 #[derive(Clone, Copy, Default)]
 pub struct HourSums {
     pub shares: u64,
@@ -26,6 +28,7 @@ pub struct HourSums {
 
 // What a kind with n of the house's fixtures adds to the sums. Most sections serve few kinds, and without fixtures nothing is looked up or
 // divided. Everything is multiplied before it is divided.
+// A number and no enum: the kind is the caller's counter and the place in the tables.
 fn part_of(job: &Job, kind: usize, n: u64, house: u64) -> Sums
     requires { (1 ≤ kind) × (kind ≤ 12) × (n ≤ house) × (house ≤ 4128705) }
     ensures { Adds (norm_at job.now kind) (residents_of job.now kind) n house result.m result.weighted result.tap }
@@ -45,16 +48,17 @@ fn part_of(job: &Job, kind: usize, n: u64, house: u64) -> Sums
 
 /// The sums of row i of the counts: section i's, or the house's where i is 0. The loops here, in `hour_sums` and in `day_of` stay three: one
 /// over a closure would ask each caller again for the bounds against overflow, which differ.
-pub fn sums_of(job: &Job, counts: &[u32; 768], i: usize) -> Sums
-    requires { Rooted job.now × Counted job.now counts.now × (i < 64) }
-    ensures { (result.m ≡ m_of job.now (served_of job.now i)) × (result.weighted ≡ fixture_sum_of job.now (served_of job.now i))
-        × (result.tap ≡ one_tap_of job.now (served_of job.now i)) }
+pub fn sums_of(tree: &Tree, counts: &[u32; 768], i: usize) -> Sums
+    requires { Counted tree.now.job.now counts.now × (i < 64) }
+    ensures { (result.m ≡ m_of tree.now.job.now (served_of tree.now.job.now i))
+        × (result.weighted ≡ fixture_sum_of tree.now.job.now (served_of tree.now.job.now i))
+        × (result.tap ≡ one_tap_of tree.now.job.now (served_of tree.now.job.now i)) }
 {
     let mut sums = Sums::default();
     for kind in 1..=12 {
         let n = u64::from(counts[i * 12 + (kind - 1)]);
         let house = u64::from(counts[kind - 1]);
-        let part = part_of(job, kind, n, house);
+        let part = part_of(tree.job, kind, n, house);
         sums.m += part.m;
         sums.weighted += part.weighted;
         sums.tap = sums.tap.max(part.tap);
@@ -62,7 +66,9 @@ pub fn sums_of(job: &Job, counts: &[u32; 768], i: usize) -> Sums
     sums
 }
 
-// What a kind adds to the sums of the house's hour. Without residents nothing is looked up or divided.
+// What a kind adds to the sums of the house's hour. Without residents nothing is looked up or divided. Beside `part_of`, which has a kind's
+// fixtures and a tap, one function for both would be no plainer.
+// A number and no enum: the kind is the caller's counter and the place in the tables.
 fn hour_part(job: &Job, kind: usize) -> HourSums
     requires { (1 ≤ kind) × (kind ≤ 12) }
     ensures { HourAdds (norm_at job.now kind) (residents_of job.now kind) result.shares result.weighted }
@@ -80,12 +86,12 @@ fn hour_part(job: &Job, kind: usize) -> HourSums
 }
 
 /// The sums of the house's hour.
-pub fn hour_sums(job: Job) -> HourSums
-    ensures { (result.shares ≡ hour_sum_of job) × (result.weighted ≡ hourly_sum_of job) }
+pub fn hour_sums(job: &Job) -> HourSums
+    ensures { (result.shares ≡ hour_sum_of job.now) × (result.weighted ≡ hourly_sum_of job.now) }
 {
     let mut sums = HourSums::default();
     for kind in 1..=12 {
-        let part = hour_part(&job, kind);
+        let part = hour_part(job, kind);
         sums.shares += part.shares;
         sums.weighted += part.weighted;
     }

@@ -1,4 +1,4 @@
--- What the rules say of the job: which of 5 to 7 it keeps, bounds on each section, parents before their sections, and no kind over 12.
+-- What the rules say of the job: which of 5 to 7 it keeps, bounds on each section, and parents before their sections.
 -- Assumes nothing.
 use mathlib.Core.Path.{◌≡◌}
 use mathlib.Core.Bool.{true, false, not}
@@ -11,7 +11,6 @@ use Rattle.answer.proofs.First.{first_clear}
 use Rattle.fields.specs.declared.Job.{Job}
 use Rattle.fields.specs.Fields.{count_of, section_of}
 use Rattle.tree.specs.Tree.{Rooted}
-use Rattle.tree.specs.Rows.{Kinds}
 use Rattle.rules.specs.Rules.{section_ok, sections_ok, childless_zero, unmatched, field_checks}
 use Rattle.rules.proofs.SectionBounds.{SectionIn, section_in}
 
@@ -36,6 +35,3 @@ module _ (job : Job) where
 
   pub rooted_of : count_of job ≤ 63 → sections_ok job ≡ true → Rooted job
   rooted_of few ok = record { few = few; lower = λ j h k. (sections_in ok j h k).parent }
-
-  pub kinds_of : sections_ok job ≡ true → Kinds job
-  kinds_of ok = record { twelve = λ j h k. (sections_in ok j h k).kinds.twelve }

@@ -1,3 +1,4 @@
+pub mod Ranges
 pub mod HeaderBounds
 pub mod Elevation
 pub mod SectionBounds

@@ -5,13 +5,11 @@ ghost use Rattle.std.specs.Prelude.{◌≡◌, ◌≤◌, ◌<◌, ◌^◌, ◌&
 ghost use Rattle.answer.specs.Answer.{number_of};
 ghost use Rattle.answer.specs.Checks.{first_no};
 ghost use Rattle.fields.specs.Fields.{count_of};
-ghost use Rattle.tree.specs.Tree.{Rooted};
-ghost use Rattle.tree.specs.Rows.{Kinds};
 ghost use Rattle.rules.specs.Rules.{version_ok, service_ok, header_ok, kind_ok, elevation_ok, section_ok, sections_ok, childless_zero, unmatched, field_checks};
 
 use answer::Refusal;
 use fields::{Header, Job, Section};
-use tree::{counts, sets};
+use tree::Tree;
 
 /// 2: the version is 1 or 2.
 #[tactic(auto, unfolding(crate::specs::Rules::version_ok))]
@@ -79,68 +77,56 @@ fn section_ok(i: usize, s: Section) -> bool
 }
 
 // 5: every section keeps its own fields' rules.
-fn sections_ok(job: Job) -> bool
-    requires { count_of job ≤ 63 }
-    ensures { result ≡ sections_ok job }
+fn sections_ok(job: &Job) -> bool
+    requires { count_of job.now ≤ 63 }
+    ensures { result ≡ sections_ok job.now }
 {
-    for i in 1..=usize::from(job.header.sections) {
-        if !section_ok(i, job.sections[i]) {
-            return false;
-        }
-    }
-    true
+    (1..usize::from(job.header.sections) + 1).all(|i| section_ok(i, job.sections[i]))
 }
 
-// Kind 0 on section i, of which the set is its own bit alone.
+// Kind 0 on section i, s, of which the set is its own bit alone.
 #[tactic(auto, using(std::proofs::lemmas::Nat::one_shl))]
-fn bare_end(kind: u8, set: u64, i: usize) -> bool
+fn bare_end(s: Section, set: u64, i: usize) -> bool
     requires { i < 64 }
-    ensures { result ≡ (eqb kind 0 && eqb set (2 ^ i)) }
+    ensures { result ≡ (eqb s.kind 0 && eqb set (2 ^ i)) }
 {
-    kind == 0 && set == 1u64 << i
+    s.kind == 0 && set == 1u64 << i
 }
 
 // 6: a section that nobody has for a parent, whose set is its own bit alone, has kind 0.
-fn childless_zero(job: Job) -> bool
-    requires { Rooted job }
-    ensures { result ≡ childless_zero job }
+fn childless_zero(tree: &Tree) -> bool
+    ensures { result ≡ childless_zero tree.now.job.now }
 {
-    let below = sets(job);
-    for i in 1..=usize::from(job.header.sections) {
-        if bare_end(job.sections[i].kind, below[i], i) {
-            return true;
-        }
-    }
-    false
+    let below = tree.sets();
+    (1..usize::from(tree.job.header.sections) + 1).any(|i| bare_end(
+        tree.job.sections[i],
+        below[i],
+        i,
+    ))
 }
 
 // 7: a kind has residents without fixtures, or the reverse.
-fn unmatched_kind(job: Job) -> bool
-    requires { Rooted job × Kinds job }
-    ensures { result ≡ unmatched job }
+fn unmatched_kind(tree: &Tree) -> bool
+    ensures { result ≡ unmatched tree.now.job.now }
 {
-    let served = counts(job);
-    for c in 0..12 {
-        if (job.residents[c] == 0) != (served[c] == 0) {
-            return true;
-        }
-    }
-    false
+    let served = tree.counts();
+    (0..12).any(|c| (tree.job.residents[c] == 0) != (served[c] == 0))
 }
 
 /// The first of 5, 6 and 7 that the job breaks, if it breaks one.
-#[tactic(auto, using(crate::proofs::Kept::rooted_of, crate::proofs::Kept::kinds_of), unfolding(crate::specs::Rules::field_checks, answer::specs::Checks::first_no))]
+#[tactic(auto, using(crate::proofs::Kept::rooted_of), unfolding(crate::specs::Rules::field_checks, answer::specs::Checks::first_no))]
 pub fn broken_rule(job: Job) -> Result<(), Refusal>
     requires { count_of job ≤ 63 }
     ensures { number_of result ≡ first_no (field_checks job) }
 {
-    if !sections_ok(job) {
+    if !sections_ok(&job) {
         return Err(Refusal::SectionRules);
     }
-    if childless_zero(job) {
+    let tree = Tree { job: &job };
+    if childless_zero(&tree) {
         return Err(Refusal::ChildlessKind);
     }
-    if unmatched_kind(job) {
+    if unmatched_kind(&tree) {
         return Err(Refusal::Residents);
     }
     Ok(())

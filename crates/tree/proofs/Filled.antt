@@ -3,11 +3,10 @@
 use mathlib.Core.Path.{◌≡◌, refl, sym, ◌∙◌}
 use mathlib.Core.Logic.{⊎_elim}
 use mathlib.Core.List.{List}
-use Prim.Native.Nat.{ℕ, ◌+◌, ◌-◌, ◌*◌, ◌^◌, ◌%◌, ◌≤◌, ◌<◌}
+use Prim.Native.Nat.{ℕ, ◌+◌, ◌-◌, ◌*◌, ◌^◌, ◌≤◌, ◌<◌}
 use native.Mathlib.Omega.{arith}
 use lib.ListN.{get_or, set, replicate, length-set, get_or-replicate}
 use lib.Seq.{get_or-set_same, get_or-set_other}
-use Rattle.std.proofs.lemmas.Nat.{one_shl}
 use Rattle.std.proofs.lemmas.Bool.Decides.{nat_tests}
 use Rattle.basis.proofs.Split.{eq_or_ne}
 use Rattle.fields.specs.declared.Job.{Job}
@@ -29,10 +28,6 @@ filled_more {f} {v} {j} done p w here else =
 rest : {f v : ℕ → ℕ} {j : ℕ} → Filled (j - 1) f v → 0 < j → j < 64 → v j ≡ 0
 rest {f} {v} {j} done p h = let old = done.at j h in grind (arith, nat_tests)
 
--- a shift of one
-pub shifted : (j : ℕ) → j < 64 → (1 * 2 ^ j) % 2 ^ 64 ≡ 2 ^ j
-shifted j h = one_shl j 64 h
-
 pub singles_start : Singles 0 (replicate 64 0)
 singles_start =
     record { long = refl; own = filled_start (λ j. 2 ^ j) (λ i. get_or (replicate 64 0) i 0) (λ i h. get_or-replicate 64 i 0 0 h) }
@@ -48,14 +43,6 @@ own_not job kind j ne = grind (arith, nat_tests)
 pub zeros : Zeros (replicate 768 0)
 zeros = record { long = refl; zero = λ x h. get_or-replicate 768 x 0 0 h }
 
-pub owned_start : (job : Job) {n : List ℕ} → Zeros n → Owned job 0 n
-owned_start job {n} z =
-    record {
-      long = z.long;
-      own = λ c k. filled_start (own_of job (c + 1)) (λ i. cell n i c) (λ i h. z.zero (i * 12 + c) (omega arith));
-      small = λ j p q. absurd (omega arith);
-    }
-
 module _ {job : Job} {j : ℕ} {n : List ℕ} (o : Owned job (j - 1) n) (p : 0 < j) (h : j < 64) (s : (section_of job j).fixtures < 65536) where
   small_more : (i : ℕ) → 0 < i → i ≤ j + 1 - 1 → (section_of job i).fixtures < 65536
   small_more i a b = ⊎_elim (λ e. rw e s) (λ ne. o.small i a (before ne)) (eq_or_ne i j)
@@ -63,12 +50,13 @@ module _ {job : Job} {j : ℕ} {n : List ℕ} (o : Owned job (j - 1) n) (p : 0 <
       before : (i ≡ j → ⊥) → i ≤ j - 1
       before ne = omega arith
 
-  pub owned_skip : (section_of job j).kind ≡ 0 → Owned job (j + 1 - 1) n
-  owned_skip e =
+  -- a kind that is none of the twelve
+  pub owned_skip : ((c : ℕ) → c < 12 → (section_of job j).kind ≡ c + 1 → ⊥) → Owned job (j + 1 - 1) n
+  owned_skip ne =
       record {
         long = o.long;
         own = λ c k. filled_more (o.own c k) p (λ i. cell n i c)
-            (rest (o.own c k) p h ∙ sym (own_not job (c + 1) j (λ x. omega arith))) (λ i ne. refl);
+            (rest (o.own c k) p h ∙ sym (own_not job (c + 1) j (ne c k))) (λ i ne. refl);
         small = small_more;
       }
 

@@ -30,7 +30,6 @@ use Rattle.basis.proofs.Sum.{
 use Rattle.fields.specs.declared.Job.{Job}
 use Rattle.fields.specs.Fields.{count_of, section_of}
 use Rattle.tree.specs.Tree.{below, own_of, served_of, house_of, set_of, fixtures_below, Rooted}
-use Rattle.tree.specs.Rows.{Kinds}
 use Rattle.tree.proofs.Below.{reach_same, below_self, below_up, below_under, below_pump, child_below, below_child}
 use Rattle.tree.proofs.Climb.{climb, climb_stop, climb_step}
 use Rattle.tree.proofs.Taken.{part}
@@ -162,14 +161,15 @@ own_all job j h bare =
     (λ z. sum_out 12 (section_of job j).kind (λ kind. (section_of job j).fixtures) (λ p. absurd (omega arith)) ∙ sym (bare (omega arith)))
     (lt_or_ge 0 (section_of job j).kind)
 
--- all fixtures are the sum over the kinds, where kind 0 has none
-pub served_all : (job : Job) → Kinds job → ((j : ℕ) → 0 < j → j ≤ count_of job → (section_of job j).kind ≡ 0 → (section_of job j).fixtures ≡ 0) →
+-- all fixtures are the sum over the kinds, where no kind is over 12 and kind 0 has none
+pub served_all : (job : Job) → ((j : ℕ) → 0 < j → j ≤ count_of job → (section_of job j).kind ≤ 12) →
+    ((j : ℕ) → 0 < j → j ≤ count_of job → (section_of job j).kind ≡ 0 → (section_of job j).fixtures ≡ 0) →
     (i : ℕ) → sum_to 12 (served_of job i) ≡ fixtures_below job i
 unfolding served_of fixtures_below
-served_all job kinds bare i =
+served_all job twelve bare i =
     exchange 12 (count_of job) (λ kind j. cond (below job i j) (own_of job kind j) 0) ∙
     sum_ext (count_of job) _ _ (λ j p q.
-    sum_if (below job i j) 12 (λ kind. own_of job kind j) ∙ rw (own_all job j (kinds.twelve j p q) (bare j p q)))
+    sum_if (below job i j) 12 (λ kind. own_of job kind j) ∙ rw (own_all job j (twelve j p q) (bare j p q)))
 
 -- the house's fixtures are those of the sections up to the last
 pub house_same : (a b : Job) → count_of a ≡ count_of b → ((j : ℕ) → 0 < j → j ≤ count_of a → section_of a j ≡ section_of b j) →

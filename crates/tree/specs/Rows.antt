@@ -3,12 +3,8 @@
 use Rattle.std.specs.Prelude.{◌≡◌, cond, List, ℕ, ◌+◌, ◌*◌, ◌^◌, ◌<◌, ◌≤◌, eqb, length, get_or}
 use Rattle.basis.specs.Range.{within}
 use Rattle.fields.specs.declared.Job.{Job}
-use Rattle.fields.specs.Fields.{count_of, section_of}
+use Rattle.fields.specs.Fields.{section_of}
 use Rattle.tree.specs.Tree.{own_of, served_of}
-
--- no kind over 12
-pub record Kinds (job : Job) : Type 0 where
-  pub twelve : (j : ℕ) → 0 < j → j ≤ count_of job → (section_of job j).kind ≤ 12
 
 -- places 1 to n of 64 hold the values of f, and the others nothing
 pub record Filled (n : ℕ) (f v : ℕ → ℕ) : Type 0 where

@@ -1,11 +1,12 @@
 // Where each section hangs, and what it serves: the set of the sections at or below it, and their fixtures of each kind.
+// The tables have 64 places, or 64 rows of twelve, whatever the job's number of sections: there is no heap.
 #![tactic(auto)]
 
 ghost use Rattle.std.specs.Prelude.{◌≡◌, ℕ, ◌+◌, ◌*◌, ◌≤◌, ◌<◌, get_or};
 ghost use Rattle.basis.specs.Slots.{slots};
 ghost use Rattle.fields.specs.Fields.{count_of};
 ghost use Rattle.tree.specs.Tree.{parent_of, set_of, fixtures_below, Rooted};
-ghost use Rattle.tree.specs.Rows.{Kinds, RowsFit, RowAdded, Zeros, Owned, Counted, Singles};
+ghost use Rattle.tree.specs.Rows.{RowsFit, RowAdded, Zeros, Owned, Counted, Singles};
 
 use fields::{Job, Section};
 
@@ -35,34 +36,6 @@ fn singles(count: usize) -> [u64; 64]
     sets
 }
 
-/// The sections at or below each section, a bit for each, filled from the leaves up. The sets of a section's children share no bit, so their
-/// sum is their union. Place 0 has every section.
-pub fn sets(job: Job) -> [u64; 64]
-    requires { Rooted job }
-    ensures { (i : ℕ) → i < 64 → get_or result i 0 ≡ set_of job i }
-{
-    let count = usize::from(job.header.sections);
-    let mut sets = singles(count);
-    for t in (1..=count).rev() {
-        sets[usize::from(job.sections[t].parent)] += sets[t];
-    }
-    sets
-}
-
-/// All fixtures at the ends of section i's set, those of the house where i is 0: bit by bit from the section's own, as no section of the set
-/// has a lower number, to the set's highest.
-pub fn fixtures_below(job: Job, set: u64, i: usize) -> u64
-    requires { Rooted job × (i ≤ count_of job) × (set ≡ set_of job i) }
-    ensures { result ≡ fixtures_below job i }
-{
-    let end = (u64::BITS - set.leading_zeros()) as usize;
-    let mut sum = 0;
-    for j in i..end {
-        sum += ((set >> j) & 1) * u64::from(job.sections[j].fixtures);
-    }
-    sum
-}
-
 // Adds the twelve counts of one section to those of another.
 fn add_row(n: &mut [u32; 768], from: usize, to: usize)
     requires { RowsFit n.old «from» to }
@@ -73,38 +46,74 @@ fn add_row(n: &mut [u32; 768], from: usize, to: usize)
     }
 }
 
-// Each section's own fixtures, over zeros.
-fn fill(job: Job, n: &mut [u32; 768])
-    requires { (count_of job ≤ 63) × Kinds job × Zeros n.old }
-    ensures { Owned job (count_of job) n.new }
-{
-    for j in 1..=usize::from(job.header.sections) {
-        let Section { kind, fixtures, .. } = job.sections[j];
-        if 0 < kind {
-            n[j * 12 + (usize::from(kind) - 1)] = u32::from(fixtures);
+/// A job whose sections hang as a tree: at most 63 of them, and each parent's number less than the section's own.
+#[derive(Clone, Copy)]
+pub struct Tree<'a> {
+    pub job: &'a Job,
+    pub ghost rooted: { Rooted job.now },
+}
+
+impl Tree<'_> {
+    /// The sections at or below each section, a bit for each, filled from the leaves up. The sets of a section's children share no bit, so
+    /// their sum is their union. Place 0 has every section.
+    pub fn sets(&self) -> [u64; 64]
+        ensures { (i : ℕ) → i < 64 → get_or result i 0 ≡ set_of self.now.job.now i }
+    {
+        let count = usize::from(self.job.header.sections);
+        let mut sets = singles(count);
+        for t in (1..=count).rev() {
+            sets[usize::from(self.job.sections[t].parent)] += sets[t];
+        }
+        sets
+    }
+
+    /// All fixtures at the ends of section i's set, those of the house where i is 0: bit by bit from the section's own, as no section of the
+    /// set has a lower number, to the set's highest.
+    pub fn fixtures_below(&self, set: u64, i: usize) -> u64
+        requires { (i ≤ count_of self.now.job.now) × (set ≡ set_of self.now.job.now i) }
+        ensures { result ≡ fixtures_below self.now.job.now i }
+    {
+        // A cast: std has no `From` from 32 bits to a place.
+        let end = (u64::BITS - set.leading_zeros()) as usize;
+        let mut sum = 0;
+        for j in i..end {
+            sum += ((set >> j) & 1) * u64::from(self.job.sections[j].fixtures);
+        }
+        sum
+    }
+
+    // Each section's own fixtures, over zeros.
+    fn fill(&self, n: &mut [u32; 768])
+        requires { Zeros n.old }
+        ensures { Owned self.now.job.now (count_of self.now.job.now) n.new }
+    {
+        for j in 1..=usize::from(self.job.header.sections) {
+            let Section { kind, fixtures, .. } = self.job.sections[j];
+            if (1..=12).contains(&kind) {
+                n[j * 12 + (usize::from(kind) - 1)] = u32::from(fixtures);
+            }
         }
     }
-}
 
-// Adds each section's counts to its parent's, from the leaves up.
-fn gather(job: Job, n: &mut [u32; 768])
-    requires { Rooted job × Owned job (count_of job) n.old }
-    ensures { Counted job n.new }
-{
-    for t in (1..=usize::from(job.header.sections)).rev() {
-        add_row(n, t, usize::from(job.sections[t].parent));
+    // Adds each section's counts to its parent's, from the leaves up.
+    fn gather(&self, n: &mut [u32; 768])
+        requires { Owned self.now.job.now (count_of self.now.job.now) n.old }
+        ensures { Counted self.now.job.now n.new }
+    {
+        for t in (1..=usize::from(self.job.header.sections)).rev() {
+            add_row(n, t, usize::from(self.job.sections[t].parent));
+        }
     }
-}
 
-/// The fixtures of each kind at a section's end or at any end below it: kind c + 1 of section i at place i * 12 + c. Row 0 is the house.
-/// One list and no array of rows, which would be no plainer: each contract, here and above, would have to say how long every row is.
-#[tactic(auto, using(crate::proofs::Filled::zeros))]
-pub fn counts(job: Job) -> [u32; 768]
-    requires { Rooted job × Kinds job }
-    ensures { Counted job result }
-{
-    let mut n = [0u32; 768];
-    fill(job, &mut n);
-    gather(job, &mut n);
-    n
+    /// The fixtures of each kind at a section's end or at any end below it: kind c + 1 of section i at place i * 12 + c. Row 0 is the house.
+    /// One list and no array of rows, which would be no plainer: each contract, here and above, would have to say how long every row is.
+    #[tactic(auto, using(crate::proofs::Filled::zeros))]
+    pub fn counts(&self) -> [u32; 768]
+        ensures { Counted self.now.job.now result }
+    {
+        let mut n = [0u32; 768];
+        self.fill(&mut n);
+        self.gather(&mut n);
+        n
+    }
 }

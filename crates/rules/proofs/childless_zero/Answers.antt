@@ -1,40 +1,23 @@
--- `rules::childless_zero`: the test of a turn is that the section is childless and has kind 0.
+-- `rules::childless_zero` meets its contract: the chain tests each section's kind and set.
 -- Assumes nothing.
-use Rattle.std.proofs.Common.{◌≡◌, ◌-◌, sym, ◌∙◌, arith}
-use Rattle.std.proofs.Math.Nat.{add-sub_cancel}
-use Rattle.basis.proofs.Each.{any_none, any_more, any_true}
-use Rattle.fields.specs.Fields.{count_of}
+use Rattle.std.proofs.Common.{ℕ, ◌+◌, ◌^◌, ◌&&◌, eqb, get_or, ap, sym, ◌∙◌, rules, tests, arith}
+use Rattle.std.proofs.lemmas.Iterator.{YieldsList-from_range}
+use Rattle.std.proofs.lemmas.Iterator.Search.{any_from_yields_List}
+use Rattle.fields.specs.Fields.{count_of, section_of}
 use Rattle.rules.specs.Rules.{childless_zero}
-use Rattle.rules.proofs.Ends.{zero_set}
+use Rattle.rules.proofs.Ends.{childless_zero_at, zero_set}
+use Rattle.rules.proofs.Ranges.{range_any}
 use Rattle.rules.proofs.childless_zero.Goals as goal
-
-pub loop-i-init : goal.loop-i-init
-loop-i-init c = (omega arith, any_none _)
-
-pub returns-then-bare_end : goal.returns-then-bare_end
-unfolding childless_zero
-returns-then-bare_end c =
-    let set = c.sets-below.ensures c.loop-i.i (omega arith) in
-    let found = zero_set c.requires c.loop-i.i (omega arith) (omega arith) _ set ∙ sym c.if-bare_end.ensures in
-    sym (any_true _ c.loop-i.i _ (omega arith) (omega arith) found)
-
-pub loop-i-preserved : goal.loop-i-preserved
-loop-i-preserved c =
-    let set = c.sets-below.ensures c.loop-i.i (omega arith) in
-    let passed = zero_set c.requires c.loop-i.i (omega arith) (omega arith) _ set ∙ sym c.if-bare_end.ensures in
-    (omega arith, rw (add-sub_cancel c.loop-i.i 1) (any_more (c.loop-i.i - 1) c.loop-i.i _ (omega arith) c.loop-i.invariant.1 passed))
 
 pub returns : goal.returns
 unfolding childless_zero
 returns c =
-    let e : c.loop-i.i - 1 ≡ count_of c.args.job = omega arith in
-    sym (rw e at c.loop-i.invariant.1)
-
-pub returns-else-bare_end : goal.returns-else-bare_end
-unfolding childless_zero
-returns-else-bare_end c =
-    let set = c.sets-below.ensures c.loop-i.i (omega arith) in
-    let passed = zero_set c.requires c.loop-i.i (omega arith) (omega arith) _ set ∙ sym c.if-bare_end.ensures in
-    let e : c.loop-i.i ≡ count_of c.args.job = omega arith in
-    let all = any_more (c.loop-i.i - 1) c.loop-i.i _ (omega arith) c.loop-i.invariant.1 passed in
-    sym (rw e at all)
+    let tree = c.args.tree.now in
+    let job = tree.job.now in
+    let n = count_of job in
+    let below = c.sets-below.result in
+    let test = λ (i : ℕ). eqb (section_of job i).kind 0 && eqb (get_or below i 0) (2 ^ i) in
+    let each = any_from_yields_List test _ _ _ c.any.ensures.ran (YieldsList-from_range 1 (n + 1) n (cc) (omega arith)) (λ x b q k. search (rules, tests)) in
+    each ∙ range_any test (childless_zero_at job) 1 n
+    (λ k h. ap test (omega arith) ∙
+    sym (zero_set tree.rooted (k + 1) (omega arith) (omega arith) _ (c.sets-below.ensures (k + 1) (omega (arith, tree.rooted.few)))))

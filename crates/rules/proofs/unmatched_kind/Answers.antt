@@ -1,29 +1,21 @@
--- `rules::unmatched_kind`: the test of a turn is that of the kind, by the house's row of counts.
+-- `rules::unmatched_kind` meets its contract: the chain tests each kind by its residents and the house's row of counts.
 -- Assumes nothing.
-use Rattle.std.proofs.Common.{◌≡◌, ◌+◌, ◌*◌, refl, sym, ◌∙◌, arith}
-use Rattle.basis.proofs.Each.{any_none, any_more, any_true}
+use Rattle.std.proofs.Common.{◌≡◌, ℕ, ◌+◌, ◌*◌, not, eqb, get_or, ap, sym, ◌∙◌, refl, rules, tests, arith}
+use Rattle.std.specs.Bool.{beq}
+use Rattle.std.proofs.lemmas.Iterator.{YieldsList-from_range}
+use Rattle.std.proofs.lemmas.Iterator.Search.{any_from_yields_List}
 use Rattle.rules.specs.Rules.{unmatched}
-use Rattle.rules.proofs.House.{odd_served}
+use Rattle.rules.proofs.House.{odd_at, odd_served}
+use Rattle.rules.proofs.Ranges.{range_any}
 use Rattle.rules.proofs.unmatched_kind.Goals as goal
-
-pub loop-c-init : goal.loop-c-init
-loop-c-init c = any_none _
-
-pub returns-then-job-c : goal.returns-then-job-c
-unfolding unmatched
-returns-then-job-c c =
-    let row : 0 * 12 + c.loop-c.c ≡ c.loop-c.c = omega arith in
-    let own = rw row at (c.counts-served.ensures.at 0 c.loop-c.c (omega arith) (omega arith)) in
-    sym (any_true 12 (c.loop-c.c + 1) _ (omega arith) (omega arith) (odd_served c.requires.0 c.loop-c.c _ own ∙ c.if-job-c.true))
-
-pub loop-c-preserved : goal.loop-c-preserved
-loop-c-preserved c =
-    let row : 0 * 12 + c.loop-c.c ≡ c.loop-c.c = omega arith in
-    let own = rw row at (c.counts-served.ensures.at 0 c.loop-c.c (omega arith) (omega arith)) in
-    any_more _ _ _ refl c.loop-c.invariant (odd_served c.requires.0 c.loop-c.c _ own ∙ c.if-job-c.false)
 
 pub returns : goal.returns
 unfolding unmatched
 returns c =
-    let e : c.loop-c.c ≡ 12 = omega arith in
-    sym (rw e at c.loop-c.invariant)
+    let tree = c.args.tree.now in
+    let served = c.counts-served.result in
+    let test = λ (i : ℕ). not (beq (eqb (get_or tree.job.now.residents i 0) 0) (eqb (get_or served i 0) 0)) in
+    let each = any_from_yields_List test _ _ _ c.any.ensures.ran (YieldsList-from_range 0 12 12 (cc) refl) (λ x b q k. search (rules, tests)) in
+    each ∙ range_any test (odd_at tree.job.now) 0 12
+    (λ k h. let row : 0 * 12 + k ≡ k = omega arith in
+    ap test (omega arith) ∙ sym (odd_served tree.rooted k _ (rw row at (c.counts-served.ensures.at 0 k (omega arith) h))))

@@ -1,48 +1,39 @@
 -- `demand::refusal::demand_refusal` meets its contract: each test in its turn.
 -- Assumes nothing.
 use Rattle.std.proofs.Common.{arith}
-use Rattle.demand.proofs.Validity.{valid_rooted, valid_kinds}
-use Rattle.demand.proofs.Deciding.{found, over_house, over_hour, table_one_house, table_one_any, table_one_hour, table_one_not}
+use Rattle.demand.proofs.Deciding.{Found, found, over_house, over_hour, table_one_house, table_one_any, table_one_hour, table_one_not}
 use Rattle.demand.proofs.refusal.demand_refusal.Goals as goal
+use Rattle.demand.proofs.refusal.demand_refusal.Goals.{After-hour_sums-hour}
 
-pub counts-served-requires : goal.counts-served-requires
-counts-served-requires c = (valid_rooted c.requires, valid_kinds c.requires)
-
-pub sets-sets-requires : goal.sets-sets-requires
-sets-sets-requires c = valid_rooted c.requires
-
-pub sums_of-house-requires : goal.sums_of-house-requires
-sums_of-house-requires c = (valid_rooted c.requires, c.counts-served.ensures, omega arith)
-
-pub fixtures_below-fixtures-requires : goal.fixtures_below-fixtures-requires
-fixtures_below-fixtures-requires c = (valid_rooted c.requires, omega arith, c.sets-sets.ensures 0 (omega arith))
+facts : (c : After-hour_sums-hour) → Found c.args.job c.sums_of-house.result.m c.fixtures_below-fixtures.result c.hour_sums-hour.result.shares
+facts c = found c.requires c.sums_of-house.ensures.0 c.fixtures_below-fixtures.ensures c.hour_sums-hour.ensures.0
 
 pub returns-then-house-gt400000000 : goal.returns-then-house-gt400000000
 returns-then-house-gt400000000 c =
-    let k = found c.requires c.sums_of-house.ensures.0 c.fixtures_below-fixtures.ensures c.hour_sums-hour.ensures.0 in
+    let k = facts (goal.at.returns-then-house-gt400000000 c).After-hour_sums-hour in
     over_house k (omega arith)
 
 pub returns-then-hour-gt400000000 : goal.returns-then-hour-gt400000000
 returns-then-hour-gt400000000 c =
-    let k = found c.requires c.sums_of-house.ensures.0 c.fixtures_below-fixtures.ensures c.hour_sums-hour.ensures.0 in
+    let k = facts (goal.at.returns-then-hour-gt400000000 c).After-hour_sums-hour in
     over_hour k (omega arith) (omega arith)
 
 pub returns-then-needs_table_one : goal.returns-then-needs_table_one
 returns-then-needs_table_one c =
-    let k = found c.requires c.sums_of-house.ensures.0 c.fixtures_below-fixtures.ensures c.hour_sums-hour.ensures.0 in
+    let k = facts (goal.at.returns-then-needs_table_one c).After-hour_sums-hour in
     table_one_house k (omega arith) (omega arith) c.if-needs_table_one.ensures
 
 pub returns-then-section_needs_table_one : goal.returns-then-section_needs_table_one
 returns-then-section_needs_table_one c =
-    let k = found c.requires c.sums_of-house.ensures.0 c.fixtures_below-fixtures.ensures c.hour_sums-hour.ensures.0 in
+    let k = facts (goal.at.returns-then-section_needs_table_one c).After-hour_sums-hour in
     table_one_any k (omega arith) (omega arith) c.if-needs_table_one.ensures c.if-section_needs_table_one.ensures
 
 pub returns-then-needs_table_one-2 : goal.returns-then-needs_table_one-2
 returns-then-needs_table_one-2 c =
-    let k = found c.requires c.sums_of-house.ensures.0 c.fixtures_below-fixtures.ensures c.hour_sums-hour.ensures.0 in
+    let k = facts (goal.at.returns-then-needs_table_one-2 c).After-hour_sums-hour in
     table_one_hour k (omega arith) (omega arith) c.if-needs_table_one.ensures c.if-section_needs_table_one.ensures c.if-needs_table_one-2.ensures
 
 pub returns : goal.returns
 returns c =
-    let k = found c.requires c.sums_of-house.ensures.0 c.fixtures_below-fixtures.ensures c.hour_sums-hour.ensures.0 in
+    let k = facts (goal.at.returns c).After-hour_sums-hour in
     table_one_not k (omega arith) (omega arith) c.if-needs_table_one.ensures c.if-section_needs_table_one.ensures c.if-needs_table_one-2.ensures

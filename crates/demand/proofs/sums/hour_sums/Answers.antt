@@ -12,7 +12,7 @@ pub loop-kind-preserved : goal.loop-kind-preserved
 unfolding hour_share_of
 loop-kind-preserved c =
     let part = c.hour_part-part.ensures in
-    let share : c.hour_part-part.result.shares ≡ hour_share_of c.args.job c.loop-kind.kind = part.share_is in (
+    let share : c.hour_part-part.result.shares ≡ hour_share_of c.args.job.now c.loop-kind.kind = part.share_is in (
       omega arith,
       sum_turn c.loop-kind.invariant.1 (omega arith) share part.share_top,
       sum_turn c.loop-kind.invariant.2 (omega arith) (part.weighted_is ∙ rw share) part.weighted_top,

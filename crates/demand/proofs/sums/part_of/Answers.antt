@@ -6,8 +6,13 @@ use Rattle.fields.specs.Fields.{residents_of}
 use Rattle.demand.specs.Demand.{norm_at}
 use Rattle.demand.proofs.Equations.{share_by}
 use Rattle.demand.proofs.Shares.{by_zero}
-use Rattle.demand.proofs.Tops.{share_fits, share_top, fixture_top}
+use Rattle.demand.proofs.Tops.{ShareFits, share_fits, share_top, fixture_top}
 use Rattle.demand.proofs.sums.part_of.Goals as goal
+use Rattle.demand.proofs.sums.part_of.Goals.{After-norm_of-hour}
+
+-- the products fit, by the bounds of the norms
+fits : (c : After-norm_of-hour) → ShareFits c.norm_of-hour.result c.from-residents.result
+fits c = share_fits _ c.norm_of-hour.ensures c.requires.0 c.requires.1 (omega arith)
 
 pub returns-then-n-eq0 : goal.returns-then-n-eq0
 unfolding share_by
@@ -22,40 +27,41 @@ returns-then-n-eq0 c =
     }
 
 pub overflow_mul-hour : goal.overflow_mul-hour
-overflow_mul-hour c = let f = share_fits _ c.norm_of-hour.ensures c.from-residents.result (omega arith) c.requires (omega arith) in omega arith
+overflow_mul-hour c = let f = fits (goal.at.overflow_mul-hour c).After-norm_of-hour in omega arith
 
 pub overflow_mul-hour-2 : goal.overflow_mul-hour-2
-overflow_mul-hour-2 c = let f = share_fits _ c.norm_of-hour.ensures c.from-residents.result (omega arith) c.requires (omega arith) in omega arith
+overflow_mul-hour-2 c = let f = fits (goal.at.overflow_mul-hour-2 c).After-norm_of-hour in omega arith
 
 pub overflow_mul-hour-3 : goal.overflow_mul-hour-3
-overflow_mul-hour-3 c = let f = share_fits _ c.norm_of-hour.ensures c.from-residents.result (omega arith) c.requires (omega arith) in omega arith
+overflow_mul-hour-3 c = let f = fits (goal.at.overflow_mul-hour-3 c).After-norm_of-hour in omega (arith, f.over)
 
 pub overflow_mul-fixture : goal.overflow_mul-fixture
-overflow_mul-fixture c = let f = share_fits _ c.norm_of-hour.ensures c.from-residents.result (omega arith) c.requires (omega arith) in omega arith
+overflow_mul-fixture c = let f = fits (goal.at.overflow_mul-fixture c).After-norm_of-hour in omega arith
 
 pub overflow_mul-fixture-2 : goal.overflow_mul-fixture-2
-overflow_mul-fixture-2 c = let f = share_fits _ c.norm_of-hour.ensures c.from-residents.result (omega arith) c.requires (omega arith) in omega arith
+overflow_mul-fixture-2 c = let f = fits (goal.at.overflow_mul-fixture-2 c).After-norm_of-hour in omega (arith, f.under)
 
 pub divide_up-share-requires : goal.divide_up-share-requires
-divide_up-share-requires c = let f = share_fits _ c.norm_of-hour.ensures c.from-residents.result (omega arith) c.requires (omega arith) in omega arith
+divide_up-share-requires c = let f = fits (goal.at.divide_up-share-requires c).After-norm_of-hour in omega (arith, f.over, f.under, f.some)
 
 pub overflow_mul-result : goal.overflow_mul-result
 overflow_mul-result c =
-    let f = share_fits _ c.norm_of-hour.ensures c.from-residents.result (omega arith) c.requires (omega arith) in
-    omega (arith, fixture_top f c.divide_up-share.ensures)
+    let f = fits (goal.at.overflow_mul-result c).After-norm_of-hour in
+    omega (arith, fixture_top (share_top c.divide_up-share.ensures (omega (arith, f.over)) (omega (arith, f.some))) f.norms.fixture.high)
 
 pub overflow_mul-result-2 : goal.overflow_mul-result-2
-overflow_mul-result-2 c = let f = share_fits _ c.norm_of-hour.ensures c.from-residents.result (omega arith) c.requires (omega arith) in omega arith
+overflow_mul-result-2 c = let f = fits (goal.at.overflow_mul-result-2 c).After-norm_of-hour in omega arith
 
 pub returns : goal.returns
 returns c =
-    let f = share_fits _ c.norm_of-hour.ensures c.from-residents.result (omega arith) c.requires (omega arith) in
+    let f = fits (goal.at.returns c).After-norm_of-hour in
     let some : c.args.house ≡ 0 → ⊥ = λ e. omega arith in
+    let share = share_top c.divide_up-share.ensures (omega (arith, f.over)) (omega (arith, f.some)) in
     let norm : c.norm_of-hour.result ≡ norm_at c.args.job.now c.args.kind = c.norm_of-hour.ensures in
     record {
       share_is = rw (ne_eqb _ _ some, ← norm, ← c.from-residents.ensures) c.divide_up-share.ensures;
-      share_top = share_top f c.divide_up-share.ensures;
+      share_top = share;
       weighted_is = rw norm;
-      weighted_top = fixture_top f c.divide_up-share.ensures;
+      weighted_top = fixture_top share f.norms.fixture.high;
       tap_is = rw (lt-ltb 0 c.args.n (omega arith), norm);
     }

@@ -15,16 +15,16 @@ loop-kind-init c =
 
 pub part_of-part-requires : goal.part_of-part-requires
 part_of-part-requires c =
-    let k = kind_counts {i = c.args.i} {kind = c.loop-kind.kind} c.requires.0 c.requires.1 (omega arith) (omega arith, omega arith) in
+    let k = kind_counts {i = c.args.i} {kind = c.loop-kind.kind} c.args.tree.now.rooted c.requires.0 (omega arith) (omega arith, omega arith) in
     (omega arith, omega arith, omega arith, omega arith)
 
 pub loop-kind-preserved : goal.loop-kind-preserved
 unfolding share_of tap_of
 loop-kind-preserved c =
     let part = c.part_of-part.ensures in
-    let job = c.args.job.now in
+    let job = c.args.tree.now.job.now in
     let served = served_of job c.args.i in
-    let k = kind_counts {i = c.args.i} {kind = c.loop-kind.kind} c.requires.0 c.requires.1 (omega arith) (omega arith, omega arith) in
+    let k = kind_counts {i = c.args.i} {kind = c.loop-kind.kind} c.args.tree.now.rooted c.requires.0 (omega arith) (omega arith, omega arith) in
     let n : c.from-n.result ≡ served c.loop-kind.kind = c.from-n.ensures ∙ k.served in
     let share : c.part_of-part.result.m ≡ share_of job served c.loop-kind.kind =
     rw (← n, ← k.house, ← c.from-house.ensures) part.share_is in

@@ -10,6 +10,6 @@ use Rattle.demand.proofs.sums.sums_of.Given as goal
 abbrev pub invariant-loop-kind : goal.invariant-loop-kind
 invariant-loop-kind l =
     (l.kind ≤ 13) ×
-    SoFar (λ k. share_of l.job (served_of l.job l.i) k) 22547890181250000 l.kind l.sums.m ×
-    SoFar (λ k. share_of l.job (served_of l.job l.i) k * (norm_at l.job k).fixture) 676436705437500000 l.kind l.sums.weighted ×
-    (l.sums.tap ≡ 10 * most_to (l.kind - 1) (tap_of l.job (served_of l.job l.i)))
+    SoFar (λ k. share_of l.tree.job.now (served_of l.tree.job.now l.i) k) 22547890181250000 l.kind l.sums.m ×
+    SoFar (λ k. share_of l.tree.job.now (served_of l.tree.job.now l.i) k * (norm_at l.tree.job.now k).fixture) 676436705437500000 l.kind l.sums.weighted ×
+    (l.sums.tap ≡ 10 * most_to (l.kind - 1) (tap_of l.tree.job.now (served_of l.tree.job.now l.i)))
