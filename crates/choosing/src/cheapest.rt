@@ -44,7 +44,6 @@ pub fn cheapest(
     ensures { MatchOption result ((y : List ℕ) → SuitableAt accepted.now.job catalogue.now.bytes.now delivered y → ⊥)
         (λ c. Least accepted.now.job catalogue.now.bytes.now delivered c.cost (take (count_of accepted.now.job) c.sizes)) }
 {
-    let tables = tables_of(accepted, catalogue);
     let meter = usize::from(accepted.job.header.meter);
-    search::choose(work, &tables, delivered + 1000 - meter)
+    search::choose(work, tables_of(accepted, catalogue), delivered + 1000 - meter)
 }
