@@ -11,11 +11,11 @@ use Rattle.choosing.proofs.Entries.{flow_held}
 use Rattle.choosing.proofs.Placed.{tabled_more, tabled_end}
 use Rattle.choosing.proofs.options.put_options.Goals as goal
 
-pub put_row-requires : goal.put_row-requires
-put_row-requires c =
+pub invariant_of-pipe : goal.invariant_of-pipe
+invariant_of-pipe c =
     let valid = c.args.accepted.now.accepted.valid in
     let section = sections_in c.args.accepted.now.job (valid_sections valid) c.loop-i.i (omega arith) (omega arith) in
-    (omega (arith, (valid_count valid).high), (section.decimetres.high, (header_in c.args.accepted.now.job.header valid.header).tenths.high))
+    record { short = section.decimetres.high; few = (header_in c.args.accepted.now.job.header valid.header).tenths.high }
 
 pub loop-i-preserved : goal.loop-i-preserved
 unfolding loss_entry price_at

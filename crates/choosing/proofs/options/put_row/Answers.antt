@@ -24,17 +24,17 @@ loop-s-preserved c =
     let thin = (cat_counts c.args.catalogue.now.accepted).0.high in
     record {
       within = omega arith;
-      losses = entered_more _ _ _ _ _ _ c.requires.0 (omega arith) (omega (arith, thin)) c.loop-s.invariant.losses (c.entry.ensures ∙ ap entry_of c.try_size-tried.ensures.is);
-      costs = entered_more _ _ _ _ _ _ c.requires.0 (omega arith) (omega (arith, thin)) c.loop-s.invariant.costs (cc);
+      losses = entered_more _ _ _ _ _ _ c.requires (omega arith) (omega (arith, thin)) c.loop-s.invariant.losses (c.entry.ensures ∙ ap entry_of c.try_size-tried.ensures.is);
+      costs = entered_more _ _ _ _ _ _ c.requires (omega arith) (omega (arith, thin)) c.loop-s.invariant.costs (cc);
     }
 
 pub returns-2-clause-losses : goal.returns-2-clause-losses
 returns-2-clause-losses c =
     let thin = (cat_counts c.args.catalogue.now.accepted).0.high in
     entered_end _ _ _ _ _ _ (omega arith)
-    (entered_more _ _ _ _ _ _ c.requires.0 (omega arith) (omega (arith, thin)) c.loop-s.invariant.losses (c.entry.ensures ∙ ap entry_of c.try_size-tried.ensures.is))
+    (entered_more _ _ _ _ _ _ c.requires (omega arith) (omega (arith, thin)) c.loop-s.invariant.losses (c.entry.ensures ∙ ap entry_of c.try_size-tried.ensures.is))
 
 pub returns-2-clause-costs : goal.returns-2-clause-costs
 returns-2-clause-costs c =
     let thin = (cat_counts c.args.catalogue.now.accepted).0.high in
-    entered_end _ _ _ _ _ _ (omega arith) (entered_more _ _ _ _ _ _ c.requires.0 (omega arith) (omega (arith, thin)) c.loop-s.invariant.costs (cc))
+    entered_end _ _ _ _ _ _ (omega arith) (entered_more _ _ _ _ _ _ c.requires (omega arith) (omega (arith, thin)) c.loop-s.invariant.costs (cc))
