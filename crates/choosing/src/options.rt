@@ -21,6 +21,7 @@ fn entry(tried: Option<Tried>) -> u32
 }
 
 // Row i of both tables, of the pipe there with each size at its flow. No heap: the tables have room for 63 sections of 12 sizes, each at its number.
+#[tactic(auto, using(catalogue::proofs::AcceptedCat::cat_counts, catalogue::proofs::AcceptedCat::cat_sized, catalogue::proofs::ShapeBounds::shape_in))]
 fn put_row(
     pipe: Pipe,
     catalogue: &Catalogue,
