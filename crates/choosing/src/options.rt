@@ -1,5 +1,5 @@
 // What each section may have: loss and cost with each size of the catalogue.
-ghost use Rattle.std.specs.Prelude.{◌≡◌, ◌*◌, ◌≤◌, ◌<◌};
+ghost use Rattle.std.specs.Prelude.{◌≡◌, ◌*◌, ◌<◌};
 ghost use Rattle.fields.specs.Fields.{count_of};
 ghost use Rattle.catalogue.specs.Layout.{sizes_of, price_of};
 ghost use Rattle.choosing.specs.Suitable.{price_at};
