@@ -6,7 +6,7 @@ ghost use Rattle.nets.specs.Tables.{net_of, Sound};
 /// The loss of a size that may not be taken. (A mark, since an optional number takes twice the room in fixed tables.)
 pub const TOP: u32 = 4294967295;
 
-/// A net as tables: section s at place s, its size t at place 13 s + t.
+/// A net as tables: section s at place s, its size t at place 13 s + t. (Places for 63 sections and 12 sizes, since there is no heap.)
 #[derive(Clone, Copy)]
 pub struct Tables {
     pub sections: usize,

@@ -58,6 +58,7 @@ fn least_of(losses: &[u32]) -> Option<u32>
 }
 
 /// The least loss of the sizes of section s that may be taken.
+#[tactic(auto, using(crate::proofs::Rows::row_least))]
 pub fn least_loss(tables: &Tables, s: usize) -> Option<u32>
     requires { s ≤ tables.now.sections }
     ensures { MatchOption result (Emptied (net_in tables.now) s) (LeastLoss (net_in tables.now) s) }

@@ -1,4 +1,5 @@
 // A section is added to its parent's row.
+// Casts from a table's 32 bits to a place: std has no `From` between them.
 ghost use Rattle.std.specs.Prelude.{◌≡◌, true, false, ℕ, ◌+◌, ◌-◌, ◌*◌, ◌≤◌, ◌<◌, min, length, get_or, set};
 ghost use Rattle.nets.specs.Tables.{top};
 ghost use Rattle.plan.specs.Plan.{mark};

@@ -71,14 +71,3 @@ module _ {N : Net} {a : ℕ} (few : N.sections ≤ 63) (lower : (s : ℕ) → 0 
             (λ n. two.below j t (omega arith) k x y z)
             (eq_or_ne j s);
       }
-
-  -- and the pump's end
-  pub usable_end : {highs : List ℕ} {v : ℕ} → UsableAbove N a highs 0 → v ≡ max (get_or highs 0 0) (min a (N.need 0)) → Usable N a (λ s. get_or (set highs 0 v) s 0)
-  usable_end {highs} {v} st ev =
-      let all = usable_up st 0 v (omega arith) (omega arith) (omega arith) (omega (arith, st.most 0 (omega arith))) in
-      let at : get_or (set highs 0 v) 0 0 ≡ v = get_or-set_same highs 0 v 0 (omega (arith, st.long)) in
-      record {
-        most = all.most;
-        own = λ s l. ⊎_elim (λ (e : s ≡ 0). rw e (omega (arith, at))) (λ p. all.own s p l) (eq-zero-or-pos s);
-        below = λ s t p l x y z. all.below s t p l x y z;
-      }

@@ -21,9 +21,6 @@ loop-t-preserved c =
           ];
     }
 
-pub returns : goal.returns
-returns c = c.loop-t.invariant.picking.pick c.args.tables.now.sizes (omega arith)
-
 pub returns-after-cost-best : goal.returns-after-cost-best
 returns-after-cost-best c =
     let i = c.loop-t.invariant.picking in
