@@ -8,7 +8,7 @@ use Rattle.nets.specs.Tables.{top, net_of, Sound}
 use Rattle.nets.specs.NetIn.{net_in}
 use Rattle.nets.specs.declared.Tables.{Tables}
 use Rattle.pruning.specs.Steps.{Alike, AsGood, Needless, Trimmed}
-use Rattle.pruning.proofs.Keeping.{keeps_self, keeps_then, sound_like, keeps_long, keeps_worse}
+use Rattle.pruning.proofs.Keeping.{keeps_then, sound_like, keeps_long, keeps_worse}
 
 module _ (sections sizes : ℕ) (parents needs before costs : List ℕ) (a s : ℕ) where
   abbrev with : List ℕ → Net

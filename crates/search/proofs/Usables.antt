@@ -5,7 +5,6 @@ use mathlib.Core.Logic.{⊎_elim}
 use mathlib.Core.Bool.{true}
 use mathlib.Core.List.{List}
 use Prim.Native.Nat.{ℕ, ◌+◌, ◌-◌, ◌≤◌, ◌<◌, min, max}
-use native.Mathlib.Nat.{eq-zero-or-pos}
 use native.Mathlib.Omega.{arith}
 use lib.Dec.{ltb}
 use lib.ListN.{length, get_or, set, replicate, length-set, length-replicate, get_or-replicate}
@@ -14,7 +13,6 @@ use borrow.Author.Tests.{ltb-true}
 use Rattle.basis.proofs.Split.{eq_or_ne}
 use Rattle.nets.specs.Net.{Net}
 use Rattle.nets.specs.Tables.{top}
-use Rattle.plan.specs.Plan.{Usable}
 
 -- after all sections of higher numbers than s
 pub record UsableAbove (N : Net) (a : ℕ) (highs : List ℕ) (s : ℕ) : Type 0 where
