@@ -12,7 +12,7 @@ pub fn get(ws: &[u8], k: usize) -> u32
     u32::from_le_bytes(ws.as_chunks::<4>().0[k])
 }
 
-/// Writes v to cell k.
+/// Writes v to cell k. (Not by `as_chunks_mut`: std does not say what a slice ends as after it.)
 #[tactic(auto, using(crate::proofs::Workspace::cell_written))]
 pub fn put(ws: &mut [u8], k: usize, v: u32)
     requires { 4 * k + 4 ≤ length ws.old }

@@ -1,4 +1,5 @@
 // The cells of a row, written from what its end needs to what it can use.
+// Cell by cell: a part of the workspace would ask that the start be no higher than the end, and an empty row may need more than its end can use.
 ghost use Rattle.std.specs.Prelude.{ℕ, ◌+◌, ◌*◌, ◌≤◌, ◌<◌, min, length, get_or};
 ghost use Rattle.plan.specs.Plan.{mark};
 ghost use Rattle.cells.specs.Cells.{cell_at};

@@ -9,7 +9,7 @@ use nets::Tables;
 use plan::MARK;
 use rows::Row;
 
-// What size t and all below cost at the head h, or the mark, which is above all costs, where it leaves its end too little. (In 64 bits: a cost and a cell may add up to more than 32 hold.)
+// What size t and all below cost at the head h, or the mark, which is above all costs, where it leaves its end too little. (In 64 bits: a cost and a cell may add up to more than 32 hold. No Option: a cell has the mark too, where nothing fits below, so that sums are held against it in any case.)
 fn cost_at(ws: &[u8], tables: &Tables, row: Row, t: usize, h: usize) -> u64
     requires { (row.at + t < 832) × (row.need ≤ 4294967295)
         × (4 * (row.first + t * row.stride + row.high + 1) ≤ length ws.now) }

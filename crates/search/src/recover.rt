@@ -26,7 +26,7 @@ pub fn recover(ws: &[u8], rows: &Rows<'_>) -> [u8; 63]
         let t = cheapest(ws, tables, rows.row(s), above).unwrap();
         // Two casts: std has no `From` from a place to 8 bits, or from 32 bits to a place. A size is at most 12.
         list[s - 1] = t as u8;
-        heads[s] = rows.highs[s].min(above - tables.losses[s * 13 + t] as usize);
+        heads[s] = rows.highs[s].min(above - tables.loss(s, t) as usize);
     }
     list
 }

@@ -11,13 +11,11 @@ use nets::{TOP, Tables};
 fn greatest_of(losses: &[u32]) -> u32
     ensures { EachIndex losses.now (λ k. slice_index losses.now k < top → slice_index losses.now k ≤ result) }
 {
-    let mut most = 0;
-    for l in losses {
-        if *l < TOP {
-            most = most.max(*l);
-        }
-    }
-    most
+    losses
+        .iter()
+        .map(|l| if *l < TOP { *l } else { 0 })
+        .max()
+        .unwrap_or(0)
 }
 
 /// From the last section to the first: what its end needs, and what the ends below can use plus what is lost on the way there, but no more than the pump's head. (A place for each of 64 ends, since there is no heap.)

@@ -27,7 +27,7 @@ loop-s-preserved c =
           rw one
           (read_turn ok st (omega arith)
           (read_take ok st r.held (omega arith) (omega arith) r.some c.from.ensures (rw c.row.ensures.0 at pick))
-          (omega arith) r.some c.from.ensures refl c.min.ensures);
+          (omega arith) r.some c.from.ensures c.loss.ensures c.min.ensures);
     }
 
 pub returns : goal.returns
@@ -42,5 +42,5 @@ returns-2 c =
     read_all ok
     (read_turn ok st (omega arith)
     (read_take ok st r.held (omega arith) (omega arith) r.some c.from.ensures (rw c.row.ensures.0 at pick))
-    (omega arith) r.some c.from.ensures refl c.min.ensures)
+    (omega arith) r.some c.from.ensures c.loss.ensures c.min.ensures)
     (omega arith) (omega arith)
