@@ -8,7 +8,7 @@ use crate::raise::{Row, bests, hand_up, row_of};
 use cells::settle;
 use nets::Tables;
 
-/// The rows of the workspace for a net at a head: head + 1 cells for the pump, then as many for each section. `highs` is the most head that each end can use, at its place among 64, since there is no heap.
+/// The rows of the workspace for a net at a head: head + 1 cells for the pump, then as many for each section. `highs` is the most head that each end can use. (Fixed memory: places for 64 ends, found by number.)
 #[derive(Clone, Copy)]
 pub struct Rows<'a> {
     pub tables: &'a Tables,

@@ -17,7 +17,7 @@ use recover::recover;
 use rows::Rows;
 use usable::high_of;
 
-/// A list of least cost: the cost, and its sizes, section s at place s - 1. (Places for 63 sections, since there is no heap.)
+/// A list of least cost: the cost, and its sizes, section s at place s - 1. (Fixed memory: places for 63 sections, found by number.)
 #[derive(Clone, Copy)]
 pub struct Choice {
     pub cost: u32,

@@ -1,5 +1,5 @@
 // The list of sizes, read back from the rows.
-// Arrays have a place for each end or section there may be, since there is no heap.
+// Fixed memory: the arrays have a place for each end or section there may be, found by number.
 ghost use Rattle.std.specs.Prelude.{◌*◌, ◌≤◌, ◌<◌, length, take, slice_index};
 ghost use Rattle.nets.specs.Net.{Found};
 ghost use Rattle.nets.specs.NetIn.{net_in};

@@ -18,7 +18,7 @@ fn greatest_of(losses: &[u32]) -> u32
         .unwrap_or(0)
 }
 
-/// From the last section to the first: what its end needs, and what the ends below can use plus what is lost on the way there, but no more than the pump's head. (A place for each of 64 ends, since there is no heap.)
+/// From the last section to the first: what its end needs, and what the ends below can use plus what is lost on the way there, but no more than the pump's head. (Fixed memory: a place for each of 64 ends, found by number.)
 pub fn high_of(tables: &Tables, head: usize) -> [usize; 64]
     requires { head ≤ 7000 }
     ensures { Usable (net_in tables.now) head (λ s. slice_index result s) }
