@@ -30,8 +30,8 @@ fn offer_row(
     cost: u32,
     heads: Range<usize>,
 )
-    requires loss_le_start { (loss ≤ heads.start) × (heads.end ≤ 7001) × (4 * (row + (heads.end - loss)) ≤ length ws.now) × (cost ≤ 50000000) }
-    requires by_index { (h : ℕ) → heads.start ≤ h → h < heads.end → cell_at ws.now (row + (h - loss)) ≤ mark }
+    requires fits { (loss ≤ heads.start) × (heads.end ≤ 7001) × (4 * (row + (heads.end - loss)) ≤ length ws.now) × (cost ≤ 50000000) }
+    requires cells { (h : ℕ) → heads.start ≤ h → h < heads.end → cell_at ws.now (row + (h - loss)) ≤ mark }
     ensures { Offered best.old best.new heads.start heads.end (λ h. cost + cell_at ws.now (row + (h - loss))) }
 {
     for h in heads {
@@ -59,9 +59,9 @@ pub fn offer(
     cost: u32,
     heads: Range<usize>,
 )
-    requires loss_le_start { (loss ≤ heads.start) × (loss ≤ top) × (high ≤ top) × (heads.end ≤ 7001)
+    requires fits { (loss ≤ heads.start) × (loss ≤ top) × (high ≤ top) × (heads.end ≤ 7001)
         × (4 * (row + high + 1) ≤ length ws.now) × (cost ≤ 50000000) }
-    requires by_index { (h : ℕ) → heads.start ≤ h → h < heads.end → cell_at ws.now (row + min (h - loss) high) ≤ mark }
+    requires cells { (h : ℕ) → heads.start ≤ h → h < heads.end → cell_at ws.now (row + min (h - loss) high) ≤ mark }
     ensures { Offered best.old best.new heads.start heads.end (λ h. cost + cell_at ws.now (row + min (h - loss) high)) }
 {
     let mid = heads.end.min(loss + high + 1);

@@ -11,8 +11,8 @@ use std::ops::Range;
 
 /// Adds the best costs to the cells from up + heads.start to up + heads.end. A sum with the mark stops at the mark.
 pub fn add(ws: &mut [u8], best: &[u32; 7001], up: usize, heads: Range<usize>)
-    requires end_bound { (heads.end ≤ 7001) × (4 * (up + heads.end) ≤ length ws.old) }
-    requires by_index { (h : ℕ) → heads.start ≤ h → h < heads.end → cell_at ws.old (up + h) ≤ mark }
+    requires fits { (heads.end ≤ 7001) × (4 * (up + heads.end) ≤ length ws.old) }
+    requires cells { (h : ℕ) → heads.start ≤ h → h < heads.end → cell_at ws.old (up + h) ≤ mark }
     ensures { Filled ws.old ws.new up heads.start heads.end
         (λ h. min mark (cell_at ws.old (up + h) + get_or best.now h 0)) }
 {
