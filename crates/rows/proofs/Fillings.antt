@@ -18,7 +18,7 @@ use Rattle.nets.specs.NetIn.{net_in}
 use Rattle.plan.specs.Plan.{mark, least_to, option, cell, plan_of, Usable}
 use Rattle.cells.specs.Cells.{cell_at}
 use Rattle.rows.specs.Steps.{option_at, row_at, Moderate, Filling, Holds}
-use Rattle.rows.specs.Rows.{cells_of}
+use Rattle.rows.specs.Rows.{cells_of, plan_in, FilledTo}
 use Rattle.rows.specs.declared.filling.Rows.{Rows}
 use Rattle.cells.specs.Steps.{Filled, standing}
 use Rattle.plan.proofs.Least.{least_ext}
@@ -44,12 +44,13 @@ row_fits : (p n w : ℕ) → p ≤ n → p * w + w ≤ (n + 1) * w
 row_fits p n w l = rows_apart p (n + 1) w (omega arith)
 
 -- after no section
-pub filling_none : {N : Net} {a : ℕ} {high : ℕ → ℕ} {ws : List ℕ} → N.sections ≤ 63 → Filling N a high ws (replicate 64 false) N.sections
-filling_none {N} {a} {high} few =
+pub filling_none : (r : Rows) (ws : List ℕ) → FilledTo r ws (replicate 64 false) r.tables.now.sections
+filling_none r ws =
+    let few = r.tables.now.sound.few in
     record {
       long = length-replicate 64 false;
       at = λ p h l e. absurd (apart e (get_or-replicate 64 p false false (omega arith)));
-      new = λ p h l e. cell_last (plan_of N high) p h;
+      new = λ p h l e. cell_last (plan_in r) p h;
       done = λ p l m. absurd (omega arith);
     }
 

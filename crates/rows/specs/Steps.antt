@@ -2,8 +2,8 @@
 -- Assumes nothing.
 use Rattle.std.specs.Prelude.{◌≡◌, Bool, true, false, cond, List, ℕ, ◌+◌, ◌-◌, ◌*◌, ◌≤◌, ◌<◌, min, leb, length, get_or}
 use Rattle.nets.specs.Net.{Net}
-use Rattle.nets.specs.Tables.{top, Sound}
-use Rattle.plan.specs.Plan.{mark, least_to, cell, plan_of, Usable}
+use Rattle.nets.specs.Tables.{top}
+use Rattle.plan.specs.Plan.{mark, least_to, cell, plan_of}
 use Rattle.rows.specs.declared.raise.Row.{Row}
 use Rattle.cells.specs.Cells.{cell_at}
 

@@ -7,9 +7,8 @@ ghost use Rattle.plan.specs.Plan.{Usable};
 use crate::raise::{Row, bests, hand_up, row_of};
 use cells::settle;
 use nets::Tables;
-use plan::MARK;
 
-/// The rows of the workspace for a net at a head: head + 1 cells for the pump, then as many for each section. `highs` is the most head that each end can use.
+/// The rows of the workspace for a net at a head: head + 1 cells for the pump, then as many for each section. `highs` is the most head that each end can use. (Fixed memory: places for 64 ends, found by number.)
 #[derive(Clone, Copy)]
 pub struct Rows<'a> {
     pub tables: &'a Tables,
@@ -67,8 +66,8 @@ impl Rows<'_> {
         ensures long { length ws.new ≡ length ws.old }
         ensures held { Held self.now ws.new }
     {
-        let mut best = [MARK; 7001];
-        // Which rows hold something: a workspace that is cleared first takes longer (docs/PERFORMANCE.md).
+        // Fixed memory: a best cost for each head, and which rows hold something. (Clearing the workspace first takes longer, docs/PERFORMANCE.md.)
+        let mut best = [0; 7001];
         let mut begun = [false; 64];
         for s in (1..=self.tables.sections).rev() {
             self.take_up(ws, &mut best, &mut begun, s);

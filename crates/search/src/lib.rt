@@ -17,7 +17,7 @@ use recover::recover;
 use rows::Rows;
 use usable::high_of;
 
-/// A list of least cost: the cost, and its sizes, section s at place s - 1.
+/// A list of least cost: the cost, and its sizes, section s at place s - 1. (Fixed memory: places for 63 sections, found by number.)
 #[derive(Clone, Copy)]
 pub struct Choice {
     pub cost: u32,
@@ -27,7 +27,7 @@ pub struct Choice {
 // A list of least cost for tables in which the pump's end needs no more than its head, if one suits.
 fn cheapest_list(ws: &mut [u8], tables: &Tables, head: usize) -> Option<Choice>
     requires pump { slice_index tables.now.needs 0 ≤ head }
-    requires head_bound { (head ≤ 7000) × (4 * ((tables.now.sections + 1) * (head + 1)) ≤ length ws.old) }
+    requires room { (head ≤ 7000) × (4 * ((tables.now.sections + 1) * (head + 1)) ≤ length ws.old) }
     ensures { MatchOption result (NoneSuits (net_in tables.now) head)
         (λ c. Found (net_in tables.now) head c.cost (take tables.now.sections c.sizes)) }
 {

@@ -9,14 +9,14 @@ use nets::Tables;
 use plan::MARK;
 use rows::Row;
 
-// What size t and all below cost at the head h, or the mark, which is above all costs, where it leaves its end too little. A sum with the mark may pass 32 bits.
+// What size t and all below cost at the head h, or the mark, which is above all costs, where it leaves its end too little. (In 64 bits: a cost and a cell may add up to more than 32 hold. No Option: a cell has the mark too, where nothing fits below, so that sums are held against it in any case.)
 fn cost_at(ws: &[u8], tables: &Tables, row: Row, t: usize, h: usize) -> u64
     requires { (row.at + t < 832) × (row.need ≤ 4294967295)
         × (4 * (row.first + t * row.stride + row.high + 1) ≤ length ws.now) }
     ensures { result ≡ options_of row tables.now.losses tables.now.costs ws.now h t }
 {
     let at = row.at + t;
-    let loss = tables.losses[at] as usize;
+    let loss = tables.losses[at] as usize; // std has no `From` from 32 bits to a place
     if h < loss + row.need {
         return u64::from(MARK);
     }

@@ -1,4 +1,5 @@
 // The list of sizes, read back from the rows.
+// Fixed memory: the arrays have a place for each end or section there may be, found by number.
 ghost use Rattle.std.specs.Prelude.{◌*◌, ◌≤◌, ◌<◌, length, take, slice_index};
 ghost use Rattle.nets.specs.Net.{Found};
 ghost use Rattle.nets.specs.NetIn.{net_in};
@@ -23,8 +24,9 @@ pub fn recover(ws: &[u8], rows: &Rows<'_>) -> [u8; 63]
     for s in 1..=tables.sections {
         let above = heads[usize::from(tables.parents[s])];
         let t = cheapest(ws, tables, rows.row(s), above).unwrap();
+        // Two casts: std has no `From` from a place to 8 bits, or from 32 bits to a place. A size is at most 12.
         list[s - 1] = t as u8;
-        heads[s] = rows.highs[s].min(above - tables.losses[s * 13 + t] as usize);
+        heads[s] = rows.highs[s].min(above - tables.loss(s, t) as usize);
     }
     list
 }

@@ -2,7 +2,7 @@
 -- Assumes nothing.
 use Rattle.std.proofs.Common.{◌≡◌, ◌+◌, ◌-◌, refl, arith}
 use Rattle.rows.proofs.Fillings.{fillable}
-use Rattle.search.proofs.Reading.{read_none, read_turn, read_take, read_some, read_all}
+use Rattle.search.proofs.Reading.{read_none, read_next, read_some, read_all}
 use Rattle.search.proofs.recover.recover.Goals as goal
 
 pub loop-s-init : goal.loop-s-init
@@ -17,17 +17,14 @@ unwrap-t-requires c =
 pub loop-s-preserved : goal.loop-s-preserved
 loop-s-preserved c =
     let r = c.requires in
-    let ok = fillable c.args.rows.now r.room in
-    let st = c.loop-s.invariant.read in
     let one : c.loop-s.s + 1 - 1 ≡ c.loop-s.s = omega arith in
-    let pick = rw c.unwrap-t.ensures at c.cheapest.ensures in
+    let pick = rw (c.unwrap-t.ensures, c.row.ensures.0) at c.cheapest.ensures in
     record {
       within = omega arith;
       read =
           rw one
-          (read_turn ok st (omega arith)
-          (read_take ok st r.held (omega arith) (omega arith) r.some c.from.ensures (rw c.row.ensures.0 at pick))
-          (omega arith) r.some c.from.ensures refl c.min.ensures);
+          (read_next (fillable c.args.rows.now r.room) c.loop-s.invariant.read r.held (omega arith) (omega arith) r.some c.from.ensures pick c.loss.ensures
+          c.min.ensures);
     }
 
 pub returns : goal.returns
@@ -37,10 +34,7 @@ pub returns-2 : goal.returns-2
 returns-2 c =
     let r = c.requires in
     let ok = fillable c.args.rows.now r.room in
-    let st = c.loop-s.invariant.read in
-    let pick = rw c.unwrap-t.ensures at c.cheapest.ensures in
+    let pick = rw (c.unwrap-t.ensures, c.row.ensures.0) at c.cheapest.ensures in
     read_all ok
-    (read_turn ok st (omega arith)
-    (read_take ok st r.held (omega arith) (omega arith) r.some c.from.ensures (rw c.row.ensures.0 at pick))
-    (omega arith) r.some c.from.ensures refl c.min.ensures)
+    (read_next ok c.loop-s.invariant.read r.held (omega arith) (omega arith) r.some c.from.ensures pick c.loss.ensures c.min.ensures)
     (omega arith) (omega arith)

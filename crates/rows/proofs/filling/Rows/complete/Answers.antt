@@ -1,6 +1,6 @@
 -- `rows::filling::Rows::complete` meets its contract.
 -- Assumes nothing.
-use Rattle.std.proofs.Common.{refl, false, ◌+◌, ◌*◌, get_or, arith}
+use Rattle.std.proofs.Common.{refl, false, ◌+◌, get_or, arith}
 use Rattle.std.proofs.lemmas.Grind.{common_steps}
 use Rattle.cells.specs.Steps.{Filled, standing}
 use Rattle.rows.specs.Rows.{row_in}

@@ -22,8 +22,8 @@ bests-requires c =
       moderate = fill_moderate ok c.complete.ensures.filled c.complete.ensures.begun t.0 t.1 (omega (arith, ok.usable.most));
     })
 
-pub hand_up-requires-clause-end_bound : goal.hand_up-requires-clause-end_bound
-hand_up-requires-clause-end_bound c =
+pub hand_up-requires-clause-fits : goal.hand_up-requires-clause-fits
+hand_up-requires-clause-fits c =
     let a = c.args in
     let ok = fillable a.self.now c.requires.room in
     let t = c.requires.section in
@@ -31,16 +31,16 @@ hand_up-requires-clause-end_bound c =
     rw (c.row-parent.ensures.0, c.complete.ensures.long)
     (omega (arith, ok.sound.few), row_ends ok _ (omega arith), row_within ok _ (omega arith))
 
-pub hand_up-requires-clause-h_bound : goal.hand_up-requires-clause-h_bound
-hand_up-requires-clause-h_bound c =
+pub hand_up-requires-clause-cells : goal.hand_up-requires-clause-cells
+hand_up-requires-clause-cells c =
     let a = c.args in
     let ok = fillable a.self.now c.requires.room in
     let t = c.requires.section in
     rw c.row-parent.ensures.0
     (λ e h x y. fill_most ok c.complete.ensures.filled c.from-p.result (omega (arith, ok.sound.lower a.s t.0 t.1)) e h x (omega arith))
 
-pub hand_up-requires-clause-by_index : goal.hand_up-requires-clause-by_index
-hand_up-requires-clause-by_index c = λ h x y. omega (arith, c.bests.ensures.is h x y, least_most)
+pub hand_up-requires-clause-best : goal.hand_up-requires-clause-best
+hand_up-requires-clause-best c = λ h x y. omega (arith, c.bests.ensures.is h x y, least_most)
 
 pub returns-clause-filled : goal.returns-clause-filled
 returns-clause-filled c =
