@@ -1,6 +1,6 @@
 // A row of best costs at each head, to which the sizes of a section are offered one after another.
 // The heads go beside the whole row: in a part of it a place would no longer be the head that the cells are found by.
-// A cost where nothing fits is the mark and no Option, which takes twice the room in a cell and in fixed memory.
+// A cost where nothing fits is the mark, as in the cells of four bytes, between which and the row costs go to and fro: an Option would be turned into it at each head.
 ghost use Rattle.std.specs.Prelude.{◌≡◌, ℕ, ◌+◌, ◌-◌, ◌*◌, ◌≤◌, ◌<◌, min, length, get_or};
 ghost use Rattle.nets.specs.Tables.{top};
 ghost use Rattle.plan.specs.Plan.{mark};
@@ -11,9 +11,9 @@ use crate::cell::get;
 use plan::MARK;
 use std::ops::Range;
 
-/// The mark at each of the heads.
+/// The mark at each of the heads. (A loop: `fill` of a part would ask that the start be no higher than the end, and an empty row may need more than its end can use.)
 pub fn fresh(best: &mut [u32; 7001], heads: Range<usize>)
-    requires { (heads.end ≤ 7001) × (length best.old ≡ 7001) }
+    requires { heads.end ≤ 7001 }
     ensures { (length best.new ≡ 7001) × ((h : ℕ) → heads.start ≤ h → h < heads.end → get_or best.new h 0 ≡ mark) }
 {
     for h in heads {
@@ -30,8 +30,8 @@ fn offer_row(
     cost: u32,
     heads: Range<usize>,
 )
-    requires loss_le_start { (loss ≤ heads.start) × (heads.end ≤ 7001) × (4 * (row + (heads.end - loss)) ≤ length ws.now) × (cost ≤ 50000000) }
-    requires by_index { (h : ℕ) → heads.start ≤ h → h < heads.end → cell_at ws.now (row + (h - loss)) ≤ mark }
+    requires fits { (loss ≤ heads.start) × (heads.end ≤ 7001) × (4 * (row + (heads.end - loss)) ≤ length ws.now) × (cost ≤ 50000000) }
+    requires cells { (h : ℕ) → heads.start ≤ h → h < heads.end → cell_at ws.now (row + (h - loss)) ≤ mark }
     ensures { Offered best.old best.new heads.start heads.end (λ h. cost + cell_at ws.now (row + (h - loss))) }
 {
     for h in heads {
@@ -59,9 +59,9 @@ pub fn offer(
     cost: u32,
     heads: Range<usize>,
 )
-    requires loss_le_start { (loss ≤ heads.start) × (loss ≤ top) × (high ≤ top) × (heads.end ≤ 7001) × (length best.old ≡ 7001)
+    requires fits { (loss ≤ heads.start) × (loss ≤ top) × (high ≤ top) × (heads.end ≤ 7001)
         × (4 * (row + high + 1) ≤ length ws.now) × (cost ≤ 50000000) }
-    requires by_index { (h : ℕ) → heads.start ≤ h → h < heads.end → cell_at ws.now (row + min (h - loss) high) ≤ mark }
+    requires cells { (h : ℕ) → heads.start ≤ h → h < heads.end → cell_at ws.now (row + min (h - loss) high) ≤ mark }
     ensures { Offered best.old best.new heads.start heads.end (λ h. cost + cell_at ws.now (row + min (h - loss) high)) }
 {
     let mid = heads.end.min(loss + high + 1);

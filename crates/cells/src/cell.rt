@@ -4,6 +4,7 @@ ghost use Rattle.nets.specs.Tables.{top};
 ghost use Rattle.cells.specs.Cells.{cell_at, Written};
 
 /// Cell k.
+#[tactic(auto, using(crate::proofs::Workspace::cell_read))]
 pub fn get(ws: &[u8], k: usize) -> u32
     requires { 4 * k + 4 ≤ length ws.now }
     ensures { (result ≡ cell_at ws.now k) × (result ≤ top) }
@@ -11,7 +12,8 @@ pub fn get(ws: &[u8], k: usize) -> u32
     u32::from_le_bytes(ws.as_chunks::<4>().0[k])
 }
 
-/// Writes v to cell k.
+/// Writes v to cell k. (Not by `as_chunks_mut`: std does not say what a slice ends as after it.)
+#[tactic(auto, using(crate::proofs::Workspace::cell_written))]
 pub fn put(ws: &mut [u8], k: usize, v: u32)
     requires { 4 * k + 4 ≤ length ws.old }
     ensures { Written ws.old ws.new k v }

@@ -3,10 +3,11 @@
 
 ghost use Rattle.nets.specs.Tables.{net_of, Sound};
 
-/// The loss of a size that may not be taken. (A mark, since an optional number takes twice the room in fixed tables.)
+/// The loss of a size that may not be taken. (An Option is no plainer: this loss is more than any head, so that a size with it is ruled out wherever a loss is held against a head.)
 pub const TOP: u32 = 4294967295;
 
-/// A net as tables: section s at place s, its size t at place 13 s + t.
+/// A net as tables: section s at place s, its size t at place 13 s + t. (Fixed memory: places for 63 sections and 12 sizes, found by number.)
+// Losses and costs apart: a row of losses is lent as a slice, and one table of pairs is no plainer there.
 #[derive(Clone, Copy)]
 pub struct Tables {
     pub sections: usize,
@@ -20,6 +21,23 @@ pub struct Tables {
 
 impl Tables {
     ghost use Rattle.std.specs.Prelude.{◌≡◌, ℕ, ◌+◌, ◌*◌, ◌≤◌, ◌<◌, length, slice_index};
+    ghost use Rattle.nets.specs.NetIn.{net_in};
+
+    /// What section s loses with size t, `TOP` where it may not have it.
+    pub fn loss(&self, s: usize, t: usize) -> u32
+        requires { (s ≤ self.now.sections) × (t ≤ self.now.sizes) }
+        ensures { result ≡ (net_in self.now).loss s t }
+    {
+        self.losses[s * 13 + t]
+    }
+
+    /// What size t costs in section s.
+    pub fn cost(&self, s: usize, t: usize) -> u32
+        requires { (s ≤ self.now.sections) × (t ≤ self.now.sizes) }
+        ensures { result ≡ (net_in self.now).cost s t }
+    {
+        self.costs[s * 13 + t]
+    }
 
     /// The losses of the sizes of section s.
     pub fn losses_of(&self, s: usize) -> &[u32]

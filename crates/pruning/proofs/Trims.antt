@@ -8,7 +8,7 @@ use Rattle.nets.specs.Tables.{top, net_of, Sound}
 use Rattle.nets.specs.NetIn.{net_in}
 use Rattle.nets.specs.declared.Tables.{Tables}
 use Rattle.pruning.specs.Steps.{Alike, AsGood, Needless, Trimmed}
-use Rattle.pruning.proofs.Keeping.{keeps_self, keeps_then, sound_like, keeps_long, keeps_worse}
+use Rattle.pruning.proofs.Keeping.{keeps_then, sound_like, keeps_long, keeps_worse}
 
 module _ (sections sizes : ℕ) (parents needs before costs : List ℕ) (a s : ℕ) where
   abbrev with : List ℕ → Net
@@ -28,15 +28,6 @@ module _ (sections sizes : ℕ) (parents needs before costs : List ℕ) (a s : �
     pub kept : MatchOption last (Unit {0}) (IsKept losses t)
 
 module _ {sections sizes : ℕ} {parents needs before costs : List ℕ} {a s : ℕ} where
-  pub trims_none : length before ≡ 832 → Trims sections sizes parents needs before costs a s before None 1
-  trims_none l =
-      record {
-        long = l;
-        keeps = keeps_self a (net_of sections sizes parents needs before costs);
-        fits = λ u b p. absurd (omega arith);
-        kept = tt;
-      }
-
   module _ {losses : List ℕ} {last : Option ℕ} {t : ℕ} (st : Trims sections sizes parents needs before costs a s losses last t) where
     pub trims_end : sizes < t → Trimmed (net_of sections sizes parents needs losses costs) a s
     trims_end e = record { fits = λ u p l. st.fits u (omega arith) p }

@@ -13,9 +13,7 @@ fn as_good(tables: &Tables, s: usize, kept: usize, t: usize) -> bool
     requires { (s ≤ tables.now.sections) × (kept ≤ tables.now.sizes) × (t ≤ tables.now.sizes) }
     ensures { IsTrue result ↔ AsGood (net_in tables.now) s kept t }
 {
-    let kept = s * 13 + kept;
-    let at = s * 13 + t;
-    tables.losses[kept] <= tables.losses[at] && tables.costs[kept] <= tables.costs[at]
+    tables.loss(s, kept) <= tables.loss(s, t) && tables.cost(s, kept) <= tables.cost(s, t)
 }
 
 // Whether size t of section s loses too much, or loses and costs no less than the last one kept.
@@ -25,7 +23,8 @@ fn is_needless(tables: &Tables, head: usize, s: usize, last: Option<usize>, t: u
     ensures needless { result ≡ true → Needless (net_in tables.now) head s last t }
     ensures kept { result ≡ false → slice_index tables.now.losses (s * 13 + t) + slice_index tables.now.needs s ≤ head }
 {
-    let over = head < tables.losses[s * 13 + t] as usize + tables.needs[s] as usize;
+    // std has no `From` from 32 bits to a place.
+    let over = head < tables.loss(s, t) as usize + tables.needs[s] as usize;
     over || last.is_some_and(|kept| as_good(tables, s, kept, t))
 }
 
@@ -57,6 +56,7 @@ fn least_of(losses: &[u32]) -> Option<u32>
 }
 
 /// The least loss of the sizes of section s that may be taken.
+#[tactic(auto, using(crate::proofs::Rows::row_least))]
 pub fn least_loss(tables: &Tables, s: usize) -> Option<u32>
     requires { s ≤ tables.now.sections }
     ensures { MatchOption result (Emptied (net_in tables.now) s) (LeastLoss (net_in tables.now) s) }

@@ -2,8 +2,8 @@
 -- Assumes nothing.
 use Rattle.std.specs.Prelude.{◌≡◌, Bool, true, false, cond, List, ℕ, ◌+◌, ◌-◌, ◌*◌, ◌≤◌, ◌<◌, min, leb, length, get_or}
 use Rattle.nets.specs.Net.{Net}
-use Rattle.nets.specs.Tables.{top, Sound}
-use Rattle.plan.specs.Plan.{mark, least_to, cell, plan_of, Usable}
+use Rattle.nets.specs.Tables.{top}
+use Rattle.plan.specs.Plan.{mark, least_to, cell, plan_of}
 use Rattle.rows.specs.declared.raise.Row.{Row}
 use Rattle.cells.specs.Cells.{cell_at}
 
@@ -54,13 +54,6 @@ pub record Lowest (best : List ℕ) (start end n : ℕ) (f : ℕ → ℕ → ℕ
 pub record Flat (best : List ℕ) (start end flat low : ℕ) : Type 0 where
   pub within : flat ≤ end
   pub is : (h : ℕ) → flat ≤ h → start ≤ h → h < end → get_or best h 0 ≤ low
-
--- a sound net, what its ends can use at the head a, and room for a row of a + 1 cells for the pump and for each section
-pub record Fillable (N : Net) (a : ℕ) (high : ℕ → ℕ) (room : ℕ) : Type 0 where
-  pub sound : Sound N
-  pub usable : Usable N a high
-  pub narrow : a ≤ 7000
-  pub rows : 4 * ((N.sections + 1) * (a + 1)) ≤ room
 
 -- From what its end needs to what it can use each row that is begun holds what the plan says after all sections of higher numbers than s, and the plan says 0 of the others; the rows of those sections are begun.
 pub record Filling (N : Net) (a : ℕ) (high : ℕ → ℕ) (ws : List ℕ) (begun : List Bool) (s : ℕ) : Type 0 where

@@ -1,4 +1,5 @@
 // A section is added to its parent's row.
+// Casts from a table's 32 bits to a place: std has no `From` between them.
 ghost use Rattle.std.specs.Prelude.{◌≡◌, true, false, ℕ, ◌+◌, ◌-◌, ◌*◌, ◌≤◌, ◌<◌, min, length, get_or, set};
 ghost use Rattle.nets.specs.Tables.{top};
 ghost use Rattle.plan.specs.Plan.{mark};
@@ -73,7 +74,7 @@ fn offer_next(
     level: Level,
 ) -> Level
     requires offerable { (0 < t) × Offerable row t parent.need (parent.high + 1) tables.now.costs ws.now }
-    requires lowest_2 { Lowest best.old parent.need (parent.high + 1) (t - 1) (options_of row tables.now.losses tables.now.costs ws.now)
+    requires before { Lowest best.old parent.need (parent.high + 1) (t - 1) (options_of row tables.now.losses tables.now.costs ws.now)
         × Flat best.old parent.need (parent.high + 1) level.head level.cost }
     ensures lowest { Lowest best.new parent.need (parent.high + 1) t (options_of row tables.now.losses tables.now.costs ws.now) }
     ensures flat { Flat best.new parent.need (parent.high + 1) result.head result.cost }
@@ -120,9 +121,9 @@ pub fn bests(ws: &[u8], best: &mut [u32; 7001], tables: &Tables, row: Row, paren
 
 /// Adds the best costs to what stands in row p, or writes them there where nothing does yet.
 pub fn hand_up(ws: &mut [u8], best: &[u32; 7001], begun: &mut [bool; 64], p: usize, row: Row)
-    requires end_bound { (p < 64) × (row.high + 1 ≤ 7001) × (4 * (row.first + (row.high + 1)) ≤ length ws.old) }
-    requires h_bound { get_or begun.old p false ≡ true → (h : ℕ) → row.need ≤ h → h < row.high + 1 → cell_at ws.old (row.first + h) ≤ mark }
-    requires by_index { (h : ℕ) → row.need ≤ h → h < row.high + 1 → get_or best.now h 0 ≤ mark }
+    requires fits { (p < 64) × (row.high + 1 ≤ 7001) × (4 * (row.first + (row.high + 1)) ≤ length ws.old) }
+    requires cells { get_or begun.old p false ≡ true → (h : ℕ) → row.need ≤ h → h < row.high + 1 → cell_at ws.old (row.first + h) ≤ mark }
+    requires best { (h : ℕ) → row.need ≤ h → h < row.high + 1 → get_or best.now h 0 ≤ mark }
     ensures filled { Filled ws.old ws.new row.first row.need (row.high + 1)
         (λ h. min mark (standing (get_or begun.old p false) ws.old row.first h + get_or best.now h 0)) }
     ensures begun { begun.new ≡ set begun.old p true }

@@ -10,7 +10,8 @@ use Rattle.nets.specs.Net.{Net, Found}
 use Rattle.plan.specs.Plan.{mark, least_to, cell, plan_of}
 use Rattle.plan.proofs.Potential.{Good, good_none, good_ext, good_real, good_more, next_least, Cheap, cheap_ok}
 use Rattle.plan.proofs.Optimum.{ok_fits, cost_of_lem, best_of, pump_most}
-use Rattle.rows.specs.Steps.{option_at, row_at, Fillable, Holds}
+use Rattle.rows.specs.Steps.{option_at, row_at, Holds}
+use Rattle.rows.proofs.Fillings.{Fillable}
 use Rattle.search.specs.Steps.{Picked}
 use Rattle.search.proofs.Picks.{picked_cheap, picked_least}
 
@@ -61,7 +62,7 @@ module _ {N : Net} {a : ℕ} {high : ℕ → ℕ} {room : ℕ} (ok : Fillable N 
       }
 
   -- the same with the numbers that the code has read
-  pub read_turn : {q t p l v : ℕ} → q ≡ s + 1 → Taken N high q (get_or heads p 0) t → q ≤ N.sections → cell (plan_of N high) 0 0 (high 0) < mark →
+  read_turn : {q t p l v : ℕ} → q ≡ s + 1 → Taken N high q (get_or heads p 0) t → q ≤ N.sections → cell (plan_of N high) 0 0 (high 0) < mark →
       p ≡ N.parent q → l ≡ N.loss q t → v ≡ min (high q) (get_or heads p 0 - l) → ReadBack N high (set list s t) (set heads q v) q
   read_turn {q} {t} {p} {l} {v} eq tk b c ep el ev =
       let e : q ≡ suc s = rw add-one at eq in
@@ -84,10 +85,14 @@ module _ {N : Net} {a : ℕ} {high : ℕ → ℕ} {room : ℕ} (ok : Fillable N 
         let up = ok.sound.lower q (omega arith) l in
         omega (arith, read_low p (omega arith), ok.usable.most p (omega arith))
 
-    pub read_take : {t : ℕ} → Picked N.sizes costs t → Taken N high q (get_or heads p 0) t
+    read_take : {t : ℕ} → Picked N.sizes costs t → Taken N high q (get_or heads p 0) t
     read_take pick =
         let cheap = picked_cheap ok hold q (get_or heads p 0) l low pick in
         record { cheap = cheap; fits = omega (arith, ok_fits N high q _ (get_or heads p 0) (cheap_ok (plan_of N high) cheap real)); few = pick.high }
+
+    -- the section takes that size
+    pub read_next : {t loss v : ℕ} → Picked N.sizes costs t → loss ≡ N.loss q t → v ≡ min (high q) (get_or heads p 0 - loss) → ReadBack N high (set list s t) (set heads q v) q
+    read_next pick el ev = read_turn eq (read_take pick) l m ep el ev
 
     -- one size will do
     pub read_some : (o : Option ℕ) → MatchOption o (least_to N.sizes costs ≡ mark) (Picked N.sizes costs) → IsSome o

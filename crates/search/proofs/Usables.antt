@@ -5,7 +5,6 @@ use mathlib.Core.Logic.{⊎_elim}
 use mathlib.Core.Bool.{true}
 use mathlib.Core.List.{List}
 use Prim.Native.Nat.{ℕ, ◌+◌, ◌-◌, ◌≤◌, ◌<◌, min, max}
-use native.Mathlib.Nat.{eq-zero-or-pos}
 use native.Mathlib.Omega.{arith}
 use lib.Dec.{ltb}
 use lib.ListN.{length, get_or, set, replicate, length-set, length-replicate, get_or-replicate}
@@ -14,7 +13,6 @@ use borrow.Author.Tests.{ltb-true}
 use Rattle.basis.proofs.Split.{eq_or_ne}
 use Rattle.nets.specs.Net.{Net}
 use Rattle.nets.specs.Tables.{top}
-use Rattle.plan.specs.Plan.{Usable}
 
 -- after all sections of higher numbers than s
 pub record UsableAbove (N : Net) (a : ℕ) (highs : List ℕ) (s : ℕ) : Type 0 where
@@ -70,15 +68,4 @@ module _ {N : Net} {a : ℕ} (few : N.sections ≤ 63) (lower : (s : ℕ) → 0 
             rw e (rw (← ep, same, raised) (omega arith)))
             (λ n. two.below j t (omega arith) k x y z)
             (eq_or_ne j s);
-      }
-
-  -- and the pump's end
-  pub usable_end : {highs : List ℕ} {v : ℕ} → UsableAbove N a highs 0 → v ≡ max (get_or highs 0 0) (min a (N.need 0)) → Usable N a (λ s. get_or (set highs 0 v) s 0)
-  usable_end {highs} {v} st ev =
-      let all = usable_up st 0 v (omega arith) (omega arith) (omega arith) (omega (arith, st.most 0 (omega arith))) in
-      let at : get_or (set highs 0 v) 0 0 ≡ v = get_or-set_same highs 0 v 0 (omega (arith, st.long)) in
-      record {
-        most = all.most;
-        own = λ s l. ⊎_elim (λ (e : s ≡ 0). rw e (omega (arith, at))) (λ p. all.own s p l) (eq-zero-or-pos s);
-        below = λ s t p l x y z. all.below s t p l x y z;
       }

@@ -1,4 +1,5 @@
 // The most head that each section's end can use.
+// Casts from a table's 32 bits to a place: std has no `From` between them.
 ghost use Rattle.std.specs.Prelude.{◌≤◌, ◌<◌, slice_index, EachIndex};
 ghost use Rattle.nets.specs.Tables.{top};
 ghost use Rattle.nets.specs.NetIn.{net_in};
@@ -10,16 +11,14 @@ use nets::{TOP, Tables};
 fn greatest_of(losses: &[u32]) -> u32
     ensures { EachIndex losses.now (λ k. slice_index losses.now k < top → slice_index losses.now k ≤ result) }
 {
-    let mut most = 0;
-    for l in losses {
-        if *l < TOP {
-            most = most.max(*l);
-        }
-    }
-    most
+    losses
+        .iter()
+        .map(|l| if *l < TOP { *l } else { 0 })
+        .max()
+        .unwrap_or(0)
 }
 
-/// From the last section to the first: what its end needs, and what the ends below can use plus what is lost on the way there, but no more than the pump's head.
+/// From the last section to the first: what its end needs, and what the ends below can use plus what is lost on the way there, but no more than the pump's head. (Fixed memory: a place for each of 64 ends, found by number.)
 pub fn high_of(tables: &Tables, head: usize) -> [usize; 64]
     requires { head ≤ 7000 }
     ensures { Usable (net_in tables.now) head (λ s. slice_index result s) }
