@@ -29,6 +29,9 @@ module _ {job : Job} {losses : List ℕ} (g : Given job losses) where
   pub given_rooted : Rooted job
   given_rooted = rooted_of job (omega (arith, given_head.sections.high)) g.sections
 
+  pub given_few : count_of job ≤ 63
+  given_few = given_rooted.few
+
   pub path_small : (i : ℕ) → i ≤ count_of job → path_of (parent_of job) (λ i. get_or losses i 0) i ≤ 268365825
   path_small i k = omega (arith, path_within (parent_lower job given_rooted) (λ i. get_or losses i 0) g.top i k, given_rooted.few)
 
