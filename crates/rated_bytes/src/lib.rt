@@ -1,10 +1,9 @@
 // The bytes of a rating result, and of the losses and heads results.
 #![tactic(auto)]
 
-ghost use Rattle.std.specs.Prelude.{◌≡◌, ◌++◌, ◌+◌, ◌-◌, ◌*◌, ◌≤◌, length, drop, get_or};
+ghost use Rattle.std.specs.Prelude.{◌≡◌, ◌+◌, ◌-◌, ◌*◌, ◌≤◌, length, drop, get_or};
 ghost use Rattle.basis.specs.Range.{concat_to};
 ghost use Rattle.basis.specs.Stored.{stored};
-ghost use Rattle.wire.specs.Wire.{bytes_of};
 ghost use Rattle.rated_bytes.specs.Figures.{figure_of, figure_bytes};
 ghost use Rattle.rated_bytes.specs.RatedBytes.{heads_length, heads_bytes};
 
