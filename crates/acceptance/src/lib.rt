@@ -7,6 +7,7 @@ ghost use Rattle.record.specs.Record.{decode};
 ghost use Rattle.acceptance.specs.Acceptance.{job_no, input_no};
 
 use answer::Refusal;
+use catalogue::Catalogue;
 use demand::AcceptedJob;
 
 /// Any bytes give an accepted job or a number from 1 to 9.
@@ -19,12 +20,12 @@ pub fn accept(b: &[u8]) -> Result<AcceptedJob, Refusal>
     Ok(AcceptedJob { job })
 }
 
-/// Any bytes give an accepted job beside an accepted catalogue, or a number from 1 to 11.
-pub fn accept_both(b: &[u8], cat: &[u8]) -> Result<AcceptedJob, Refusal>
+/// Any bytes give an accepted job and an accepted catalogue, or a number from 1 to 11.
+pub fn accept_both<'a>(b: &[u8], cat: &'a [u8]) -> Result<(AcceptedJob, Catalogue<'a>), Refusal>
     ensures number { number_of result ≡ input_no b.now cat.now }
-    ensures job { IfOk result (λ accepted. accepted.job ≡ decode b.now) }
+    ensures input { IfOk result (λ both. (both.0.job ≡ decode b.now) × (both.1.bytes.now ≡ cat.now)) }
 {
     let accepted = accept(b)?;
-    catalogue::catalogue_refusal(cat)?;
-    Ok(accepted)
+    let catalogue = catalogue::accept(cat)?;
+    Ok((accepted, catalogue))
 }

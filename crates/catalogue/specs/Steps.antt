@@ -1,6 +1,7 @@
 -- What the catalogue's contracts ask: room for size s, and rows that keep their rules; and a row as the code reads it.
 -- Assumes nothing.
 use Rattle.std.specs.Prelude.{◌≡◌, true, ℕ, ◌+◌, ◌-◌, ◌*◌, ◌≤◌, ◌<◌, cond, List, length, eqb}
+use Rattle.wire.specs.Wire.{byte_at}
 use Rattle.catalogue.specs.declared.layout.Row.{Row}
 use Rattle.catalogue.specs.Layout.{rows_of, size_length, flow_at, velocity_at, slope_at}
 use Rattle.catalogue.specs.Rules.{rows_ok, shape_ok, sizes_ok}
@@ -18,6 +19,10 @@ pub record Rows (rows : List ℕ) (n : ℕ) : Type 0 where
   pub high : n ≤ 64
   pub long : length rows ≡ 8 * n
   pub rules : rows_ok rows n ≡ true
+
+-- numbers that are bytes
+abbrev pub Bytes : List ℕ → Type 0
+Bytes l = (k : ℕ) → byte_at l k < 256
 
 -- a catalogue that 10 and 11 let pass
 pub record AcceptedCat (cat : List ℕ) : Type 0 where

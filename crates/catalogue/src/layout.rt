@@ -22,6 +22,9 @@ pub fn rows_of(cat: &[u8]) -> u8
     cat[6]
 }
 
+// `Sized` is a clause and no type: `bore_of` and what stands beside it are of a whole catalogue and a number, and a type of one size's bytes would
+// have to say which size it is.
+
 /// Where size s begins, from 1.
 pub fn size_from(cat: &[u8], s: usize) -> usize
     requires { Sized cat.now s }
@@ -60,7 +63,7 @@ pub fn rows_at(cat: &[u8], s: usize) -> &[[u8; 8]]
 }
 
 /// Flow in ml/s, velocity in mm/s and slope in mm per metre.
-#[derive(Clone, Copy)]
+#[derive(Clone, Copy, Default)]
 pub struct Row {
     pub flow: u32,
     pub velocity: u32,
@@ -117,11 +120,7 @@ pub fn row_before(rows: &[[u8; 8]], k: usize) -> Row
     ensures { result ≡ row_before (concat rows.now) k }
 {
     if k == 0 {
-        Row {
-            flow: 0,
-            velocity: 0,
-            slope: 0,
-        }
+        Row::default()
     } else {
         row_at(rows, k - 1)
     }

@@ -1,10 +1,10 @@
 // The catalogue of sizes: its acceptance, and a size read at a flow.
 #![tactic(auto)]
 
-mod accept;
+mod accepted;
 mod layout;
 mod reading;
 
-pub use accept::catalogue_refusal;
+pub use accepted::{Catalogue, accept};
 pub use layout::{bore, price, sizes_of};
-pub use reading::{Reading, read_size};
+pub use reading::Reading;

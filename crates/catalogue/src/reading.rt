@@ -3,8 +3,9 @@ ghost use Rattle.std.specs.List.{concat};
 ghost use Rattle.std.specs.Prelude.{◌≡◌, ◌-◌, ◌≤◌, ◌<◌, length};
 ghost use Rattle.catalogue.specs.Layout.{rows_of, sizes_of, part_of, flow_at};
 ghost use Rattle.catalogue.specs.Reading.{read_rows, served_of};
-ghost use Rattle.catalogue.specs.Steps.{Rows, AcceptedCat, Above};
+ghost use Rattle.catalogue.specs.Steps.{Rows, Above};
 
+use crate::accepted::Catalogue;
 use crate::layout::{row_at, row_before, row_flow, rows_at};
 
 /// Velocity in mm/s and slope in mm per metre.
@@ -39,10 +40,12 @@ fn read_rows(rows: &[[u8; 8]], q: u32) -> Option<Reading>
     })
 }
 
-/// Size s of an accepted catalogue read at q.
-pub fn read_size(cat: &[u8], s: usize, q: u32) -> Option<Reading>
-    requires { AcceptedCat cat.now × (0 < s) × (s ≤ sizes_of cat.now) }
-    ensures { result ≡ served_of (read_rows (part_of cat.now s) (rows_of cat.now) q) }
-{
-    read_rows(rows_at(cat, s), q)
+impl Catalogue<'_> {
+    /// Size s read at q.
+    pub fn read_size(&self, s: usize, q: u32) -> Option<Reading>
+        requires { (0 < s) × (s ≤ sizes_of self.now.bytes.now) }
+        ensures { result ≡ served_of (read_rows (part_of self.now.bytes.now s) (rows_of self.now.bytes.now) q) }
+    {
+        read_rows(rows_at(self.bytes, s), q)
+    }
 }

@@ -15,9 +15,6 @@ pub record Placed (P : ℕ → ℕ → Type 0) (i : ℕ) (l : List ℕ) : Type 0
   pub long : length l ≡ 64
   pub at : (j : ℕ) → 0 < j → j < i → P j (get_or l j 0)
 
-pub placed_start : (P : ℕ → ℕ → Type 0) (l : List ℕ) → length l ≡ 64 → Placed P 1 l
-placed_start P l e = record { long = e; at = λ j h k. absurd (omega arith) }
-
 pub placed_more : (P : ℕ → ℕ → Type 0) (i : ℕ) (l : List ℕ) (v : ℕ) → i < 64 → Placed P i l → P i v → Placed P (i + 1) (set l i v)
 placed_more P i l v h p t =
     record {

@@ -5,6 +5,9 @@ use mathlib.Core.Logic.{inl, inr}
 use mathlib.Core.List.{List, ◌++◌}
 use Rattle.std.proofs.Common.{Option, Some, MatchOption, subst, take}
 use Rattle.std.proofs.Common.{None as Nothing}
+use Rattle.std.specs.Prelude.{Err}
+use Rattle.std.specs.Option.{ok_or}
+use Rattle.answer.specs.declared.Refusal.{Refusal}
 use Rattle.fields.specs.Fields.{count_of}
 use Rattle.search.specs.declared.Choice.{Choice}
 use Prim.Native.Nat.{ℕ}
@@ -40,6 +43,11 @@ module _ {job : Job} {cat : List ℕ} {N : Net} (d : TreeOf job cat N) (valid : 
       MatchOption r ((y : List ℕ) → SuitableAt job cat delivered y → ⊥) (λ c. Least job cat delivered c.cost (take (count_of job) c.sizes))
   chosen_suitable Nothing n = none_suitable n
   chosen_suitable (Some c) f = subst (λ n. Least job cat delivered c.cost (take n c.sizes)) d.sections (least_suitable f)
+
+-- what a call gives where there is none
+pub none_refused : (r : Option Choice) (given e : Refusal) → Err e ≡ ok_or r given → e ≡ given
+none_refused Nothing given e same = cc
+none_refused (Some c) given e same = absurd cc
 
 -- the ends of the call: a number from 1 to 15, 16, and a result
 module _ {b cat out₀ work₀ : List ℕ} where

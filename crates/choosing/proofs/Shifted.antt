@@ -89,13 +89,17 @@ add_mono_right (pos n) a b h = le-leb (n + a) (n + b) (omega arith)
 add_mono_right (negsuc n) a b h = sub_mono a b n n h (omega arith)
 
 -- 1,000 more than an elevation in its range is not negative
-pub not_negative : (elevation : ℤ) (n : ℕ) → elevation_ok elevation ≡ true → 1000 ≤ n → T (non_neg (elevation +ℤ pos n))
+not_negative : (elevation : ℤ) (n : ℕ) → elevation_ok elevation ≡ true → 1000 ≤ n → T (non_neg (elevation +ℤ pos n))
 unfolding elevation_ok
 not_negative (pos a) n e h = tt
 not_negative (negsuc a) n e h =
     let low : a ≤ 999 = leb-true a 999 (left (leb a 999) (le_z (negsuc a) (pos 6000)) e) in
     rw (sub_over n (suc a) (omega arith)) tt
 
-pub size_of : (z : ℤ) → T (non_neg z) → pos (nat_abs z) ≡ z
+size_of : (z : ℤ) → T (non_neg z) → pos (nat_abs z) ≡ z
 size_of (pos n) t = refl
 size_of (negsuc n) t = absurd t
+
+pub shifted : (elevation : ℤ) (f : ℕ) {z : ℤ} {n : ℕ} → elevation_ok elevation ≡ true → z ≡ elevation +ℤ pos (f + 1000) → n ≡ nat_abs z →
+    pos n ≡ elevation +ℤ pos (f + 1000)
+shifted elevation f ok e abs = rw (abs, e) (size_of _ (not_negative elevation (f + 1000) ok (omega arith)))

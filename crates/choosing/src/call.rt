@@ -1,5 +1,5 @@
 // The choosing call.
-ghost use Rattle.std.specs.Prelude.{◌≡◌, ◌++◌, ◌+◌, ◌≤◌, length, take};
+ghost use Rattle.std.specs.Prelude.{◌≡◌, ◌++◌, ◌+◌, ◌≤◌, length};
 ghost use Rattle.basis.specs.Stored.{stored};
 ghost use Rattle.answer.specs.Answer.{number_of};
 ghost use Rattle.wire.specs.Wire.{bytes_of};
@@ -9,13 +9,14 @@ use crate::cheapest::cheapest;
 use answer::Refusal;
 use wire::Field;
 
-// The cost, then the sizes of sections 1 to count.
-fn put_result(out: &mut [u8], cost: u32, sizes: [u8; 63], count: usize)
-    requires { (count ≤ 63) × (choose_length count ≤ length out.old) }
-    ensures { out.new ≡ stored out.old 0 (bytes_of 4 cost ++ take count sizes) }
+// The cost, then the sizes of the sections.
+#[tactic(auto, using(basis::proofs::Stored::stored_next), unfolding(wire::specs::Wire::bytes_of))]
+fn put_result(out: &mut [u8], cost: u32, sizes: &[u8])
+    requires { choose_length (length sizes.now) ≤ length out.old }
+    ensures { out.new ≡ stored out.old 0 (bytes_of 4 cost ++ sizes.now) }
 {
     cost.put_at(out, 0);
-    wire::put(out, 4, &sizes[..count]);
+    wire::put(out, 4, sizes);
 }
 
 /// The least cost and a list of sizes that has it; or a number and the result buffer as it was. The workspace is touched only to search.
@@ -24,7 +25,7 @@ pub fn choose(b: &[u8], cat: &[u8], work: &mut [u8], out: &mut [u8]) -> Result<(
     ensures { Chosen b.now cat.now out.old work.old out.new work.new
         (number_of result) }
 {
-    let accepted = acceptance::accept_both(b, cat)?;
+    let (accepted, catalogue) = acceptance::accept_both(b, cat)?;
     let count = usize::from(accepted.job.header.sections);
     if out.len() < 4 + count {
         return Err(Refusal::ResultShort);
@@ -33,9 +34,7 @@ pub fn choose(b: &[u8], cat: &[u8], work: &mut [u8], out: &mut [u8]) -> Result<(
     if work.len() < 4 * ((count + 1) * (delivered + 1001)) {
         return Err(Refusal::WorkShort);
     }
-    let Some(choice) = cheapest(&accepted, cat, delivered, work) else {
-        return Err(Refusal::NoSuitableList);
-    };
-    put_result(out, choice.cost, choice.sizes, count);
+    let choice = cheapest(&accepted, &catalogue, delivered, work).ok_or(Refusal::NoSuitableList)?;
+    put_result(out, choice.cost, &choice.sizes[..count]);
     Ok(())
 }

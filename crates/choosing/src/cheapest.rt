@@ -1,7 +1,6 @@
 // The cheapest suitable list of an accepted job with an accepted catalogue.
 ghost use Rattle.std.specs.Prelude.{List, ℕ, ◌≤◌, length, take, MatchOption};
 ghost use Rattle.fields.specs.Fields.{count_of};
-ghost use Rattle.catalogue.specs.Steps.{AcceptedCat};
 ghost use Rattle.nets.specs.NetIn.{net_in};
 ghost use Rattle.choosing.specs.Suitable.{SuitableAt};
 ghost use Rattle.choosing.specs.Calls.{work_length};
@@ -9,25 +8,25 @@ ghost use Rattle.choosing.specs.Steps.{Least, TreeOf};
 
 use crate::ends::needs_of;
 use crate::options::put_options;
+use catalogue::Catalogue;
 use demand::AcceptedJob;
 use nets::Tables;
 use search::Choice;
 
 // The tree of a job's sections, and what each of the catalogue's sizes loses and costs there.
 #[tactic(auto, using(demand::proofs::Validity::valid_count))]
-fn tables_of(accepted: &AcceptedJob, cat: &[u8]) -> Tables
-    requires { AcceptedCat cat.now }
-    ensures { TreeOf accepted.now.job cat.now (net_in result) }
+fn tables_of(accepted: &AcceptedJob, catalogue: &Catalogue) -> Tables
+    ensures { TreeOf accepted.now.job catalogue.now.bytes.now (net_in result) }
 {
     let job = &accepted.job;
     let mut losses = [0u32; 832];
     let mut costs = [0u32; 832];
-    put_options(accepted, cat, &mut losses, &mut costs);
+    put_options(accepted, catalogue, &mut losses, &mut costs);
     Tables {
         sections: usize::from(job.header.sections),
-        sizes: usize::from(catalogue::sizes_of(cat)),
+        sizes: usize::from(catalogue::sizes_of(catalogue.bytes)),
         parents: tree::parents_of(*job),
-        needs: needs_of(job),
+        needs: needs_of(accepted),
         losses,
         costs,
     }
@@ -37,15 +36,14 @@ fn tables_of(accepted: &AcceptedJob, cat: &[u8]) -> Tables
 #[tactic(auto, using(rules::proofs::HeaderBounds::header_in))]
 pub fn cheapest(
     accepted: &AcceptedJob,
-    cat: &[u8],
+    catalogue: &Catalogue,
     delivered: usize,
     work: &mut [u8],
 ) -> Option<Choice>
-    requires { AcceptedCat cat.now × (delivered ≤ 6000) × (work_length (count_of accepted.now.job) delivered ≤ length work.old) }
-    ensures { MatchOption result ((y : List ℕ) → SuitableAt accepted.now.job cat.now delivered y → ⊥)
-        (λ c. Least accepted.now.job cat.now delivered c.cost (take (count_of accepted.now.job) c.sizes)) }
+    requires { (delivered ≤ 6000) × (work_length (count_of accepted.now.job) delivered ≤ length work.old) }
+    ensures { MatchOption result ((y : List ℕ) → SuitableAt accepted.now.job catalogue.now.bytes.now delivered y → ⊥)
+        (λ c. Least accepted.now.job catalogue.now.bytes.now delivered c.cost (take (count_of accepted.now.job) c.sizes)) }
 {
-    let tables = tables_of(accepted, cat);
     let meter = usize::from(accepted.job.header.meter);
-    search::choose(work, &tables, delivered + 1000 - meter)
+    search::choose(work, tables_of(accepted, catalogue), delivered + 1000 - meter)
 }

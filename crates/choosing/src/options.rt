@@ -1,11 +1,11 @@
 // What each section may have: loss and cost with each size of the catalogue.
-ghost use Rattle.std.specs.Prelude.{◌≡◌, ◌*◌, ◌≤◌, ◌<◌, length};
+ghost use Rattle.std.specs.Prelude.{◌≡◌, ◌*◌, ◌≤◌, ◌<◌};
 ghost use Rattle.fields.specs.Fields.{count_of};
 ghost use Rattle.catalogue.specs.Layout.{sizes_of, price_of};
-ghost use Rattle.catalogue.specs.Steps.{AcceptedCat};
 ghost use Rattle.choosing.specs.Suitable.{price_at};
 ghost use Rattle.choosing.specs.Steps.{entry_of, loss_by, loss_entry, Entered, Tabled};
 
+use catalogue::Catalogue;
 use demand::AcceptedJob;
 use fields::{Header, Section};
 use nets::TOP;
@@ -21,26 +21,34 @@ fn entry(tried: Option<Tried>) -> u32
     }
 }
 
-// Row i of both tables, of the section there with each size at its flow.
+// Row i of both tables, of the section there with each size at its flow. No heap: the tables are of fixed length, 64 rows of 13.
 fn put_row(
     head: Header,
     section: Section,
-    cat: &[u8],
+    catalogue: &Catalogue,
     i: usize,
     flow: u32,
     losses: &mut [u32; 832],
     costs: &mut [u32; 832],
 )
-    requires { AcceptedCat cat.now × (i < 64) × ((section.decimetres ≤ 5000) × (head.tenths ≤ 3)) }
-    ensures losses { Entered (loss_by head section cat.now flow) i (sizes_of cat.now) losses.old
-        losses.new }
-    ensures costs { Entered (λ s. price_of cat.now s * section.decimetres) i (sizes_of cat.now) costs.old
-        costs.new }
+    requires { (i < 64) × ((section.decimetres ≤ 5000) × (head.tenths ≤ 3)) }
+    ensures losses { Entered (loss_by head section catalogue.now.bytes.now flow) i (sizes_of catalogue.now.bytes.now)
+        losses.old losses.new }
+    ensures costs { Entered (λ s. price_of catalogue.now.bytes.now s * section.decimetres) i (sizes_of catalogue.now.bytes.now)
+        costs.old costs.new }
 {
-    for s in 1..=usize::from(catalogue::sizes_of(cat)) {
-        let tried = sizing::try_size(cat, s, flow, head.limit, section.decimetres, head.tenths);
+    for s in 1..=usize::from(catalogue::sizes_of(catalogue.bytes)) {
+        let tried = sizing::try_size(
+            catalogue,
+            s,
+            flow,
+            head.limit,
+            section.decimetres,
+            head.tenths,
+        );
         losses[i * 13 + s] = entry(tried);
-        costs[i * 13 + s] = u32::from(catalogue::price(cat, s)) * u32::from(section.decimetres);
+        costs[i * 13 + s] = u32::from(catalogue::price(catalogue.bytes, s))
+            * u32::from(section.decimetres);
     }
 }
 
@@ -48,17 +56,26 @@ fn put_row(
 #[tactic(auto, using(demand::proofs::Validity::valid_count))]
 pub fn put_options(
     accepted: &AcceptedJob,
-    cat: &[u8],
+    catalogue: &Catalogue,
     losses: &mut [u32; 832],
     costs: &mut [u32; 832],
 )
-    requires { AcceptedCat cat.now }
-    ensures losses { Tabled (loss_entry accepted.now.job cat.now) (count_of accepted.now.job) (sizes_of cat.now) losses.new }
-    ensures costs { Tabled (λ i s. price_at accepted.now.job cat.now s i) (count_of accepted.now.job) (sizes_of cat.now) costs.new }
+    ensures losses { Tabled (loss_entry accepted.now.job catalogue.now.bytes.now) (count_of accepted.now.job)
+        (sizes_of catalogue.now.bytes.now) losses.new }
+    ensures costs { Tabled (λ i s. price_at accepted.now.job catalogue.now.bytes.now s i) (count_of accepted.now.job)
+        (sizes_of catalogue.now.bytes.now) costs.new }
 {
     let flows = accepted.flows();
     let job = &accepted.job;
     for i in 1..=usize::from(job.header.sections) {
-        put_row(job.header, job.sections[i], cat, i, flows[i], losses, costs);
+        put_row(
+            job.header,
+            job.sections[i],
+            catalogue,
+            i,
+            flows[i],
+            losses,
+            costs,
+        );
     }
 }

@@ -11,15 +11,13 @@ ghost use Rattle.pruning.specs.Steps.{Alike, Pruned, Raised};
 use nets::Tables;
 use sizes::{least_loss, trim};
 
-// The tables with no need at the pump's end.
-fn without_own(tables: &Tables) -> Tables
-    ensures alike { Alike tables.now result }
-    ensures losses { result.losses ≡ tables.now.losses }
-    ensures needs { result.needs ≡ slice_set tables.now.needs 0 0 }
+// The pump's end needs nothing of its own.
+fn free_pump(tables: &mut Tables)
+    ensures alike { Alike tables.old tables.new }
+    ensures losses { tables.new.losses ≡ tables.old.losses }
+    ensures needs { tables.new.needs ≡ slice_set tables.old.needs 0 0 }
 {
-    let mut freed = *tables;
-    freed.needs[0] = 0;
-    freed
+    tables.needs[0] = 0;
 }
 
 // The parent's end needs at least what section s needs at its end and loses.
@@ -32,16 +30,16 @@ fn raise(tables: &mut Tables, s: usize, least: u32)
     tables.needs[p] = tables.needs[p].max(tables.needs[s] + least);
 }
 
-/// The tables with fewer sizes and greater needs, from the last section to the first. Where a section has no size left, no list suits.
-pub fn prune(tables: &Tables, head: usize) -> Option<Tables>
+/// Leaves fewer sizes and greater needs in the tables, from the last section to the first. Where a section has no size left, no list suits.
+pub fn prune(tables: &mut Tables, head: usize) -> Option<()>
     requires { head ≤ 7000 }
-    ensures { MatchOption result (NoneSuits (net_in tables.now) head) (Pruned tables.now head) }
+    ensures { MatchOption result (NoneSuits (net_in tables.old) head) (λ done. Pruned tables.old head tables.new) }
 {
-    let mut pruned = without_own(tables);
+    free_pump(tables);
     for s in (1..=tables.sections).rev() {
-        trim(&mut pruned, head, s);
-        let least = least_loss(&pruned, s)?;
-        raise(&mut pruned, s, least);
+        trim(tables, head, s);
+        let least = least_loss(tables, s)?;
+        raise(tables, s, least);
     }
-    Some(pruned)
+    Some(())
 }

@@ -25,6 +25,7 @@ fn is_needless(tables: &Tables, head: usize, s: usize, last: Option<usize>, t: u
     ensures needless { result ≡ true → Needless (net_in tables.now) head s last t }
     ensures kept { result ≡ false → slice_index tables.now.losses (s * 13 + t) + slice_index tables.now.needs s ≤ head }
 {
+    // std has no `From` from 32 bits to a place.
     let over = head < tables.losses[s * 13 + t] as usize + tables.needs[s] as usize;
     over || last.is_some_and(|kept| as_good(tables, s, kept, t))
 }

@@ -13,14 +13,28 @@ use Rattle.std.proofs.lemmas.Bool.Decides.{nat_tests}
 use Rattle.std.proofs.lemmas.Grind.{common_steps}
 use Rattle.basis.proofs.Bools.{apart}
 use Rattle.nets.specs.Net.{Net}
-use Rattle.nets.specs.Tables.{top}
-use Rattle.plan.specs.Plan.{mark, least_to, option, cell, plan_of}
+use Rattle.nets.specs.Tables.{top, Sound}
+use Rattle.nets.specs.NetIn.{net_in}
+use Rattle.plan.specs.Plan.{mark, least_to, option, cell, plan_of, Usable}
 use Rattle.cells.specs.Cells.{cell_at}
-use Rattle.rows.specs.Steps.{option_at, row_at, Moderate, Fillable, Filling, Holds}
+use Rattle.rows.specs.Steps.{option_at, row_at, Moderate, Filling, Holds}
+use Rattle.rows.specs.Rows.{cells_of}
+use Rattle.rows.specs.declared.filling.Rows.{Rows}
 use Rattle.cells.specs.Steps.{Filled, standing}
 use Rattle.plan.proofs.Least.{least_ext}
 use Rattle.plan.proofs.Falling.{cell_falls}
 use Rattle.plan.proofs.Potential.{cell_last, cell_most, cell_parent, cell_other, next_least}
+
+-- a sound net, what its ends can use at the head a, and room for a row of a + 1 cells for the pump and for each section
+pub record Fillable (N : Net) (a : ℕ) (high : ℕ → ℕ) (room : ℕ) : Type 0 where
+  pub sound : Sound N
+  pub usable : Usable N a high
+  pub narrow : a ≤ 7000
+  pub rows : 4 * ((N.sections + 1) * (a + 1)) ≤ room
+
+-- the rows of a net, where the workspace has room for them
+pub fillable : (r : Rows) {room : ℕ} → 4 * cells_of r ≤ room → Fillable (net_in r.tables.now) r.head (λ s. get_or r.highs s 0) room
+fillable r h = record { sound = r.tables.now.sound; usable = r.usable; narrow = r.narrow; rows = h }
 
 -- rows do not overlap, and none ends above the last
 rows_apart : (p q w : ℕ) → p < q → p * w + w ≤ q * w

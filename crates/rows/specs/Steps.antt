@@ -55,13 +55,6 @@ pub record Flat (best : List ℕ) (start end flat low : ℕ) : Type 0 where
   pub within : flat ≤ end
   pub is : (h : ℕ) → flat ≤ h → start ≤ h → h < end → get_or best h 0 ≤ low
 
--- a sound net, what its ends can use at the head a, and room for a row of a + 1 cells for the pump and for each section
-pub record Fillable (N : Net) (a : ℕ) (high : ℕ → ℕ) (room : ℕ) : Type 0 where
-  pub sound : Sound N
-  pub usable : Usable N a high
-  pub narrow : a ≤ 7000
-  pub rows : 4 * ((N.sections + 1) * (a + 1)) ≤ room
-
 -- From what its end needs to what it can use each row that is begun holds what the plan says after all sections of higher numbers than s, and the plan says 0 of the others; the rows of those sections are begun.
 pub record Filling (N : Net) (a : ℕ) (high : ℕ → ℕ) (ws : List ℕ) (begun : List Bool) (s : ℕ) : Type 0 where
   pub long : length begun ≡ 64

@@ -4,5 +4,5 @@
 mod filling;
 mod raise;
 
-pub use filling::fill;
+pub use filling::Rows;
 pub use raise::{Row, row_of};

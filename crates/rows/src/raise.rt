@@ -73,7 +73,7 @@ fn offer_next(
     level: Level,
 ) -> Level
     requires offerable { (0 < t) × Offerable row t parent.need (parent.high + 1) tables.now.costs ws.now }
-    requires lowest_2 { Lowest best.old parent.need (parent.high + 1) (t - 1) (options_of row tables.now.losses tables.now.costs ws.now)
+    requires before { Lowest best.old parent.need (parent.high + 1) (t - 1) (options_of row tables.now.losses tables.now.costs ws.now)
         × Flat best.old parent.need (parent.high + 1) level.head level.cost }
     ensures lowest { Lowest best.new parent.need (parent.high + 1) t (options_of row tables.now.losses tables.now.costs ws.now) }
     ensures flat { Flat best.new parent.need (parent.high + 1) result.head result.cost }

@@ -5,8 +5,8 @@ use Rattle.nets.specs.Net.{Net}
 use Rattle.plan.specs.Plan.{mark, least_to, plan_of}
 use Rattle.plan.proofs.Least.{least_none, least_next, least_most}
 use Rattle.plan.proofs.Potential.{next_least, Cheap}
-use Rattle.rows.specs.Steps.{option_at, row_at, Fillable, Holds}
-use Rattle.rows.proofs.Fillings.{option_row, least_row, row_final}
+use Rattle.rows.specs.Steps.{option_at, row_at, Holds}
+use Rattle.rows.proofs.Fillings.{Fillable, option_row, least_row, row_final}
 use Rattle.search.specs.Steps.{Picked}
 
 -- what is known of the sizes below t: the least cost of one, and one that has it

@@ -10,7 +10,8 @@ use Rattle.nets.specs.Net.{Net, Found}
 use Rattle.plan.specs.Plan.{mark, least_to, cell, plan_of}
 use Rattle.plan.proofs.Potential.{Good, good_none, good_ext, good_real, good_more, next_least, Cheap, cheap_ok}
 use Rattle.plan.proofs.Optimum.{ok_fits, cost_of_lem, best_of, pump_most}
-use Rattle.rows.specs.Steps.{option_at, row_at, Fillable, Holds}
+use Rattle.rows.specs.Steps.{option_at, row_at, Holds}
+use Rattle.rows.proofs.Fillings.{Fillable}
 use Rattle.search.specs.Steps.{Picked}
 use Rattle.search.proofs.Picks.{picked_cheap, picked_least}
 

@@ -14,7 +14,7 @@ use nets::Tables;
 use plan::MARK;
 use pruning::prune;
 use recover::recover;
-use rows::fill;
+use rows::Rows;
 use usable::high_of;
 
 /// A list of least cost: the cost, and its sizes, section s at place s - 1.
@@ -32,21 +32,26 @@ fn cheapest_list(ws: &mut [u8], tables: &Tables, head: usize) -> Option<Choice>
         (λ c. Found (net_in tables.now) head c.cost (take tables.now.sections c.sizes)) }
 {
     let highs = high_of(tables, head);
-    fill(ws, tables, &highs, head);
-    let cost = get(ws, highs[0]);
+    let rows = Rows {
+        tables,
+        highs,
+        head,
+    };
+    rows.fill(ws);
+    let cost = get(ws, rows.highs[0]);
     if cost == MARK {
         return None;
     }
-    let sizes = recover(ws, tables, &highs, head);
+    let sizes = recover(ws, &rows);
     Some(Choice { cost, sizes })
 }
 
 /// A list of least cost, or none exactly when no list suits, whatever the workspace held. The workspace has a row of head + 1 cells for the pump and for each section.
-pub fn choose(ws: &mut [u8], tables: &Tables, head: usize) -> Option<Choice>
-    requires { (head ≤ 7000) × (4 * ((tables.now.sections + 1) * (head + 1)) ≤ length ws.old) }
-    ensures { MatchOption result (NoneSuits (net_in tables.now) head)
-        (λ c. Found (net_in tables.now) head c.cost (take tables.now.sections c.sizes)) }
+pub fn choose(ws: &mut [u8], mut tables: Tables, head: usize) -> Option<Choice>
+    requires { (head ≤ 7000) × (4 * ((tables.sections + 1) * (head + 1)) ≤ length ws.old) }
+    ensures { MatchOption result (NoneSuits (net_in tables) head)
+        (λ c. Found (net_in tables) head c.cost (take tables.sections c.sizes)) }
 {
-    let pruned = prune(tables, head)?;
-    cheapest_list(ws, &pruned, head)
+    prune(&mut tables, head)?;
+    cheapest_list(ws, &tables, head)
 }

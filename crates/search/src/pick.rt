@@ -9,8 +9,8 @@ use nets::Tables;
 use plan::MARK;
 use rows::Row;
 
-// What size t and all below cost at the head h, or the mark, which is above all costs, where it leaves its end too little.
-fn cost_at(ws: &[u8], tables: &Tables, row: Row, t: usize, h: usize) -> usize
+// What size t and all below cost at the head h, or the mark, which is above all costs, where it leaves its end too little. A sum with the mark may pass 32 bits.
+fn cost_at(ws: &[u8], tables: &Tables, row: Row, t: usize, h: usize) -> u64
     requires { (row.at + t < 832) × (row.need ≤ 4294967295)
         × (4 * (row.first + t * row.stride + row.high + 1) ≤ length ws.now) }
     ensures { result ≡ options_of row tables.now.losses tables.now.costs ws.now h t }
@@ -18,10 +18,10 @@ fn cost_at(ws: &[u8], tables: &Tables, row: Row, t: usize, h: usize) -> usize
     let at = row.at + t;
     let loss = tables.losses[at] as usize;
     if h < loss + row.need {
-        return MARK as usize;
+        return u64::from(MARK);
     }
     let k = row.first + t * row.stride + row.high.min(h - loss);
-    tables.costs[at] as usize + get(ws, k) as usize
+    u64::from(tables.costs[at]) + u64::from(get(ws, k))
 }
 
 /// A cheapest of the sizes at the head h, where one will do.
@@ -31,7 +31,7 @@ pub fn cheapest(ws: &[u8], tables: &Tables, row: Row, h: usize) -> Option<usize>
     ensures { let cost = options_of row tables.now.losses tables.now.costs ws.now h in
         MatchOption result (least_to tables.now.sizes cost ≡ mark) (Picked tables.now.sizes cost) }
 {
-    let mut best = MARK as usize;
+    let mut best = u64::from(MARK);
     let mut size = None;
     for t in 1..=tables.sizes {
         let cost = cost_at(ws, tables, row, t, h);

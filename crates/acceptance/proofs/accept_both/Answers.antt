@@ -9,10 +9,10 @@ pub returns-in_err-accepted-clause-number : goal.returns-in_err-accepted-clause-
 returns-in_err-accepted-clause-number c =
     number_at_exit _ _ c.from_residual.ensures.1 ∙ input_refused _ _ _ c.in_err-accepted.ensures.number
 
-pub returns-in_err-catalogue_refusal-clause-number : goal.returns-in_err-catalogue_refusal-clause-number
-returns-in_err-catalogue_refusal-clause-number c =
-    number_at_exit _ _ c.from_residual-in_err-catalogue_refusal.ensures.1 ∙
-    input_passed _ _ c.in_ok-accepted.ensures.number c.in_err-catalogue_refusal.ensures
+pub returns-in_err-catalogue-clause-number : goal.returns-in_err-catalogue-clause-number
+returns-in_err-catalogue-clause-number c =
+    number_at_exit _ _ c.from_residual-in_err-catalogue.ensures.1 ∙
+    input_passed _ _ c.in_ok-accepted.ensures.number c.in_err-catalogue.ensures.number
 
 pub returns-clause-number : goal.returns-clause-number
-returns-clause-number c = input_passed _ _ c.in_ok-accepted.ensures.number c.in_ok-catalogue_refusal.ensures
+returns-clause-number c = input_passed _ _ c.in_ok-accepted.ensures.number c.in_ok-catalogue.ensures.number

@@ -6,7 +6,7 @@ use Rattle.pruning.proofs.prune.Goals as goal
 
 pub loop-s-init : goal.loop-s-init
 loop-s-init c =
-    let e = c.without_own-pruned.ensures in
+    let e = c.free_pump.ensures in
     pruned_none e.alike e.losses e.needs (search rules)
 
 pub returns-in_err-least : goal.returns-in_err-least

@@ -16,7 +16,7 @@ pub loss-requires : goal.loss-requires
 loss-requires c =
     let p = c.requires in
     let s = served_some _ _ (sym c.in_ok-reading.ensures) in
-    let t = read_top p.0 c.args.s p.1.0 p.1.1 (λ k. omega (arith, c.type_inv.cat k)) c.args.q in
+    let t = read_top c.args.catalogue.now.accepted c.args.s p.0.0 p.0.1 c.args.catalogue.now.fit c.args.q in
     (omega arith, omega arith, omega arith)
 
 pub returns-clause-is : goal.returns-clause-is

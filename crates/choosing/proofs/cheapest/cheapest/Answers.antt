@@ -4,4 +4,4 @@ use Rattle.choosing.proofs.Promised.{chosen_suitable}
 use Rattle.choosing.proofs.cheapest.cheapest.Goals as goal
 
 pub returns : goal.returns
-returns c = chosen_suitable c.tables_of-tables.ensures c.args.accepted.now.accepted.valid c.args.delivered c.choose.result (rw c.from-meter.ensures at c.choose.ensures)
+returns c = chosen_suitable c.tables_of.ensures c.args.accepted.now.accepted.valid c.args.delivered c.choose.result (rw c.from-meter.ensures at c.choose.ensures)

@@ -14,16 +14,16 @@ above : (c : After-needs_of) → (i : ℕ) → 0 < i → i ≤ count_of c.args.a
 above c i h k = parents_held c.args.accepted.now.job _ c.parents_of.ensures (valid_count c.args.accepted.now.accepted.valid).high i h k ∙ parent_at c.args.accepted.now.job i h
 
 pub sizes_of-requires : goal.sizes_of-requires
-sizes_of-requires c = omega (arith, (shape_in _ c.requires.shape).long)
+sizes_of-requires c = omega (arith, (shape_in _ c.args.catalogue.now.accepted.shape).long)
 
 pub invariant_of-result : goal.invariant_of-result
 invariant_of-result c =
     record {
-      sound = sound c.args.accepted.now.accepted c.requires (λ k. omega (arith, c.type_inv.cat k)) c.put_options.ensures.losses c.put_options.ensures.costs
+      sound = sound c.args.accepted.now.accepted c.args.catalogue.now.accepted c.args.catalogue.now.fit c.put_options.ensures.losses c.put_options.ensures.costs
           c.parents_of.result c.from.ensures (c.from-2.ensures ∙ c.sizes_of.ensures) (above c) c.needs_of.ensures;
     }
 
 pub returns : goal.returns
 returns c =
-    tree_of c.args.accepted.now.accepted c.requires (λ k. omega (arith, c.type_inv.cat k)) c.put_options.ensures.losses c.put_options.ensures.costs
+    tree_of c.args.accepted.now.accepted c.args.catalogue.now.accepted c.args.catalogue.now.fit c.put_options.ensures.losses c.put_options.ensures.costs
     c.parents_of.result c.from.ensures (c.from-2.ensures ∙ c.sizes_of.ensures) (above (goal.at.returns c).After-needs_of) c.needs_of.ensures

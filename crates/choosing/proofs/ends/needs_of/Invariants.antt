@@ -7,4 +7,4 @@ use Rattle.choosing.proofs.Entries.{NeedAt}
 use Rattle.choosing.proofs.ends.needs_of.Given as goal
 
 abbrev pub invariant-loop-i : goal.invariant-loop-i
-invariant-loop-i l = record { within : l.i ≤ count_of l.job + 1; placed : Placed (NeedAt l.job) l.i l.needs }
+invariant-loop-i l = record { within : l.i ≤ count_of l.accepted.job + 1; placed : Placed (NeedAt l.accepted.job) l.i l.needs }

@@ -15,12 +15,12 @@ pub put_row-requires : goal.put_row-requires
 put_row-requires c =
     let valid = c.args.accepted.now.accepted.valid in
     let section = sections_in c.args.accepted.now.job (valid_sections valid) c.loop-i.i (omega arith) (omega arith) in
-    (c.requires, omega (arith, (valid_count valid).high), (section.decimetres.high, (header_in c.args.accepted.now.job.header valid.header).tenths.high))
+    (omega (arith, (valid_count valid).high), (section.decimetres.high, (header_in c.args.accepted.now.job.header valid.header).tenths.high))
 
 pub loop-i-preserved : goal.loop-i-preserved
 unfolding loss_entry price_at
 loop-i-preserved c =
-    let thin = (cat_counts c.requires).0.high in
+    let thin = (cat_counts c.args.catalogue.now.accepted).0.high in
     let flow = flow_held c.args.accepted.now.job _ c.loop-i.i c.flows-flows.ensures (valid_count c.args.accepted.now.accepted.valid).high (omega arith) (omega arith) in
     record {
       within = omega arith;
@@ -31,12 +31,12 @@ loop-i-preserved c =
 pub returns-2-clause-losses : goal.returns-2-clause-losses
 unfolding loss_entry
 returns-2-clause-losses c =
-    let thin = (cat_counts c.requires).0.high in
+    let thin = (cat_counts c.args.catalogue.now.accepted).0.high in
     let flow = flow_held c.args.accepted.now.job _ c.loop-i.i c.flows-flows.ensures (valid_count c.args.accepted.now.accepted.valid).high (omega arith) (omega arith) in
     tabled_end _ _ _ _ _ (omega arith) (tabled_more _ _ _ _ _ (omega (arith, thin)) (omega arith) c.loop-i.invariant.losses (rw flow at c.put_row.ensures.losses))
 
 pub returns-2-clause-costs : goal.returns-2-clause-costs
 unfolding price_at
 returns-2-clause-costs c =
-    let thin = (cat_counts c.requires).0.high in
+    let thin = (cat_counts c.args.catalogue.now.accepted).0.high in
     tabled_end _ _ _ _ _ (omega arith) (tabled_more _ _ _ _ _ (omega (arith, thin)) (omega arith) c.loop-i.invariant.costs c.put_row.ensures.costs)

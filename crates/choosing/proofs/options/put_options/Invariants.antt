@@ -10,6 +10,6 @@ use Rattle.choosing.proofs.options.put_options.Given as goal
 abbrev pub invariant-loop-i : goal.invariant-loop-i
 invariant-loop-i l = record {
   within : l.i ≤ count_of l.accepted.job + 1;
-  losses : Tabled (loss_entry l.accepted.job l.cat) (l.i - 1) (sizes_of l.cat) l.losses;
-  costs : Tabled (λ j s. price_at l.accepted.job l.cat s j) (l.i - 1) (sizes_of l.cat) l.costs;
+  losses : Tabled (loss_entry l.accepted.job l.catalogue.bytes.now) (l.i - 1) (sizes_of l.catalogue.bytes.now) l.losses;
+  costs : Tabled (λ j s. price_at l.accepted.job l.catalogue.bytes.now s j) (l.i - 1) (sizes_of l.catalogue.bytes.now) l.costs;
 }

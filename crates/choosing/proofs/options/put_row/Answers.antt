@@ -8,36 +8,33 @@ use Rattle.choosing.proofs.Placed.{entered_more, entered_end}
 use Rattle.choosing.proofs.options.put_row.Goals as goal
 
 pub sizes_of-requires : goal.sizes_of-requires
-sizes_of-requires c = omega (arith, (shape_in _ c.requires.0.shape).long)
+sizes_of-requires c = omega (arith, (shape_in _ c.args.catalogue.now.accepted.shape).long)
 
 pub bounds-losses-i : goal.bounds-losses-i
-bounds-losses-i c = omega (arith, (cat_counts c.requires.0).0.high)
+bounds-losses-i c = omega (arith, (cat_counts c.args.catalogue.now.accepted).0.high)
 
 pub bounds-costs-i : goal.bounds-costs-i
-bounds-costs-i c = omega (arith, (cat_counts c.requires.0).0.high)
+bounds-costs-i c = omega (arith, (cat_counts c.args.catalogue.now.accepted).0.high)
 
 pub price-requires : goal.price-requires
-price-requires c = cat_sized c.requires.0 _ (omega arith) (omega arith)
+price-requires c = cat_sized c.args.catalogue.now.accepted _ (omega arith) (omega arith)
 
 pub loop-s-preserved : goal.loop-s-preserved
 loop-s-preserved c =
-    let a = c.requires in
-    let thin = (cat_counts a.0).0.high in
+    let thin = (cat_counts c.args.catalogue.now.accepted).0.high in
     record {
       within = omega arith;
-      losses = entered_more _ _ _ _ _ _ a.1 (omega arith) (omega (arith, thin)) c.loop-s.invariant.losses (c.entry.ensures ∙ ap entry_of c.try_size-tried.ensures.is);
-      costs = entered_more _ _ _ _ _ _ a.1 (omega arith) (omega (arith, thin)) c.loop-s.invariant.costs (cc);
+      losses = entered_more _ _ _ _ _ _ c.requires.0 (omega arith) (omega (arith, thin)) c.loop-s.invariant.losses (c.entry.ensures ∙ ap entry_of c.try_size-tried.ensures.is);
+      costs = entered_more _ _ _ _ _ _ c.requires.0 (omega arith) (omega (arith, thin)) c.loop-s.invariant.costs (cc);
     }
 
 pub returns-2-clause-losses : goal.returns-2-clause-losses
 returns-2-clause-losses c =
-    let a = c.requires in
-    let thin = (cat_counts a.0).0.high in
+    let thin = (cat_counts c.args.catalogue.now.accepted).0.high in
     entered_end _ _ _ _ _ _ (omega arith)
-    (entered_more _ _ _ _ _ _ a.1 (omega arith) (omega (arith, thin)) c.loop-s.invariant.losses (c.entry.ensures ∙ ap entry_of c.try_size-tried.ensures.is))
+    (entered_more _ _ _ _ _ _ c.requires.0 (omega arith) (omega (arith, thin)) c.loop-s.invariant.losses (c.entry.ensures ∙ ap entry_of c.try_size-tried.ensures.is))
 
 pub returns-2-clause-costs : goal.returns-2-clause-costs
 returns-2-clause-costs c =
-    let a = c.requires in
-    let thin = (cat_counts a.0).0.high in
-    entered_end _ _ _ _ _ _ (omega arith) (entered_more _ _ _ _ _ _ a.1 (omega arith) (omega (arith, thin)) c.loop-s.invariant.costs (cc))
+    let thin = (cat_counts c.args.catalogue.now.accepted).0.high in
+    entered_end _ _ _ _ _ _ (omega arith) (entered_more _ _ _ _ _ _ c.requires.0 (omega arith) (omega (arith, thin)) c.loop-s.invariant.costs (cc))

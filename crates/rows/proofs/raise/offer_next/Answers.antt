@@ -7,11 +7,11 @@ pub returns-then-end-loss-clause-lowest : goal.returns-then-end-loss-clause-lowe
 returns-then-end-loss-clause-lowest c =
     let a = c.args in
     let o = c.requires.offerable in
-    next_skip a.t a.tables.now.losses o.0 o.1 c.requires.lowest_2.0 c.if-end-loss.true
+    next_skip a.t a.tables.now.losses o.0 o.1 c.requires.before.0 c.if-end-loss.true
 
 pub returns-clause-lowest : goal.returns-clause-lowest
 returns-clause-lowest c =
     let a = c.args in
     let o = c.requires.offerable in
-    next_lowest a.t a.tables.now.losses o.0 o.1 c.if-end-loss.false c.get.ensures.0 c.requires.lowest_2.1 c.offer.ensures c.max-start.ensures c.stop.ensures
-    c.requires.lowest_2.0
+    next_lowest a.t a.tables.now.losses o.0 o.1 c.if-end-loss.false c.get.ensures.0 c.requires.before.1 c.offer.ensures c.max-start.ensures c.stop.ensures
+    c.requires.before.0

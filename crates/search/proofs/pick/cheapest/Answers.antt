@@ -6,7 +6,7 @@ use Rattle.search.proofs.pick.cheapest.Goals as goal
 use Rattle.search.proofs.pick.cheapest.Goals.{then-cost-best, else-cost-best}
 
 pub loop-t-init : goal.loop-t-init
-loop-t-init c = record { within = omega arith; picking = picking_none }
+loop-t-init c = record { within = omega arith; picking = rw c.from-best.ensures picking_none }
 
 pub loop-t-preserved : goal.loop-t-preserved
 loop-t-preserved c =

@@ -8,5 +8,5 @@ use Rattle.search.proofs.recover.recover.Given as goal
 abbrev pub invariant-loop-s : goal.invariant-loop-s
 invariant-loop-s l = record {
   within : l.s ≤ l.tables.sections + 1;
-  read : ReadBack (net_in l.tables) (λ j. get_or l.highs j 0) l.list l.heads (l.s - 1);
+  read : ReadBack (net_in l.tables) (λ j. get_or l.rows.highs j 0) l.list l.heads (l.s - 1);
 }

@@ -1,9 +1,9 @@
--- `catalogue::accept::rows_ok`: a row that breaks a rule refuses the rows, and where each is seen they keep the rules.
+-- `catalogue::accepted::rows_ok`: a row that breaks a rule refuses the rows, and where each is seen they keep the rules.
 -- Assumes nothing.
 use Rattle.std.proofs.Common.{◌≡◌, length, sym, arith}
 use Rattle.catalogue.proofs.RowBounds.{seen_first, seen_more, seen_rows, own_refused, rises_refused}
-use Rattle.catalogue.proofs.accept.rows_ok.Goals.{then-not-row_ok-2-via-then-not-row_ok-2, then-not-row_ok-2-via-else-not-row_ok-2+then-not-rises_at}
-use Rattle.catalogue.proofs.accept.rows_ok.Goals as goal
+use Rattle.catalogue.proofs.accepted.rows_ok.Goals.{then-not-row_ok-2-via-then-not-row_ok-2, then-not-row_ok-2-via-else-not-row_ok-2+then-not-rises_at}
+use Rattle.catalogue.proofs.accepted.rows_ok.Goals as goal
 
 pub returns-then-not-row_ok : goal.returns-then-not-row_ok
 returns-then-not-row_ok c = own_refused _ _ 0 (omega arith) cc

@@ -1,10 +1,10 @@
 // Refusals 10 and 11: any bytes are a catalogue or not.
-ghost use Rattle.std.specs.Prelude.{◌≡◌, ◌+◌, ◌*◌, ◌≤◌, ◌<◌, true, length};
+ghost use Rattle.std.specs.Prelude.{◌≡◌, ◌+◌, ◌*◌, ◌≤◌, ◌<◌, true, length, IfOk};
 ghost use Rattle.std.specs.List.{concat};
 ghost use Rattle.answer.specs.Answer.{number_of};
-ghost use Rattle.catalogue.specs.Layout.{rows_of, part_of};
+ghost use Rattle.catalogue.specs.Layout.{rows_of};
 ghost use Rattle.catalogue.specs.Rules.{shape_ok, row_ok, rises_at, rows_ok, size_ok, sizes_ok, cat_no};
-ghost use Rattle.catalogue.specs.Steps.{Sized};
+ghost use Rattle.catalogue.specs.Steps.{Sized, Bytes, AcceptedCat};
 
 use crate::layout::{bore, price, row_at, rows_at, rows_of, sizes_of};
 use answer::Refusal;
@@ -20,6 +20,7 @@ fn shape_ok(cat: &[u8]) -> bool
     }
     let sizes = usize::from(sizes_of(cat));
     let rows = usize::from(rows_of(cat));
+    // std has no `From` of u32 for usize; each u32 fits.
     cat[4] == 1
         && (1..=12).contains(&sizes)
         && (2..=64).contains(&rows)
@@ -90,16 +91,26 @@ fn sizes_ok(cat: &[u8]) -> bool
     true
 }
 
-/// Any bytes are accepted or get 10 or 11.
+/// A catalogue that 10 and 11 let pass.
+#[derive(Clone, Copy)]
+pub struct Catalogue<'a> {
+    pub bytes: &'a [u8],
+    pub ghost accepted: { AcceptedCat bytes.now },
+    // Their bound: of a slice in a struct the type does not tell it to a proof.
+    pub ghost fit: { Bytes bytes.now },
+}
+
+/// Any bytes are an accepted catalogue or get 10 or 11.
 #[tactic(auto, unfolding(crate::specs::Rules::cat_no, crate::specs::Rules::cat_checks, answer::specs::Checks::first_no))]
-pub fn catalogue_refusal(cat: &[u8]) -> Result<(), Refusal>
-    ensures { number_of result ≡ cat_no cat.now }
+pub fn accept(bytes: &[u8]) -> Result<Catalogue<'_>, Refusal>
+    ensures number { number_of result ≡ cat_no bytes.now }
+    ensures catalogue { IfOk result (λ catalogue. catalogue.bytes.now ≡ bytes.now) }
 {
-    if !shape_ok(cat) {
+    if !shape_ok(bytes) {
         return Err(Refusal::CatalogueShape);
     }
-    if !sizes_ok(cat) {
+    if !sizes_ok(bytes) {
         return Err(Refusal::CatalogueRules);
     }
-    Ok(())
+    Ok(Catalogue { bytes })
 }
