@@ -11,6 +11,7 @@ ghost use Rattle.lent_losses.specs.Calls.{heads_no, lent_bytes};
 
 use acceptance::accept;
 use answer::Refusal;
+use heads::JobWithLosses;
 use rated_bytes::put_heads;
 use wire::Field;
 
@@ -20,7 +21,7 @@ const MOST_LOSS: u32 = 4_259_775;
 // The bytes of a heads result.
 const HEADS_LENGTH: usize = 9;
 
-// The losses at the sections' places, where 19 finds nothing.
+// The losses at the sections' places, in an array since a call has no heap, where 19 finds nothing.
 fn read_losses(given: &[u8], count: usize) -> Option<[u32; 64]>
     requires { count ≤ 63 }
     ensures { MatchOption result (losses_ok count given.now ≡ false)
@@ -53,6 +54,10 @@ pub fn heads(b: &[u8], given: &[u8], out: &mut [u8]) -> Result<(), Refusal>
     if out.len() < HEADS_LENGTH {
         return Err(Refusal::ResultShort);
     }
-    put_heads(out, accepted.job, losses);
+    let job = JobWithLosses {
+        job: &accepted.job,
+        losses,
+    };
+    put_heads(out, &job);
     Ok(())
 }

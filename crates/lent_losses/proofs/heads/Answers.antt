@@ -42,11 +42,11 @@ returns-then-out-lt-HEADS_LENGTH-clause-number c =
     let l = listed (goal.at.returns-then-out-lt-HEADS_LENGTH-clause-number c).In_ok-losses in
     sym (heads_short _ _ _ (sym c.in_ok-accepted.ensures.number) l.0 (omega arith))
 
-pub put_heads-requires : goal.put_heads-requires
-put_heads-requires c =
-    let at = (goal.at.put_heads-requires c).In_ok-losses in
+pub invariant_of-job : goal.invariant_of-job
+invariant_of-job c =
+    let at = (goal.at.invariant_of-job c).In_ok-losses in
     let l = listed at in
-    (rw c.in_ok-accepted.ensures.job (given_of _ (accepted at) _ l.1 (losses_top _ _ l.0)), omega arith)
+    record { given = rw c.in_ok-accepted.ensures.job (given_of _ (accepted at) _ l.1 (losses_top _ _ l.0)) }
 
 pub returns-clause-number : goal.returns-clause-number
 returns-clause-number c =
