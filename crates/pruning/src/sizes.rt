@@ -39,6 +39,7 @@ pub fn trim(tables: &mut Tables, head: usize, s: usize)
     let mut last: Option<usize> = None;
     for t in 1..=tables.sizes {
         if is_needless(tables, head, s, last, t) {
+            // By its place: a method would have to say of each other field that it stays.
             tables.losses[s * 13 + t] = TOP;
         } else {
             last = Some(t);
