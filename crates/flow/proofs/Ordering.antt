@@ -3,11 +3,12 @@
 use mathlib.Core.Path.{◌≡◌, ◌∙◌}
 use mathlib.Core.List.{List, []}
 use Prim.Native.Nat.{ℕ, ◌≤◌, ◌<◌}
+use Rattle.answer.proofs.Some.{number_at_exit}
 use Rattle.answer.proofs.First.{first_none, short_found, short_next}
 use Rattle.fields.specs.Fields.{count_of}
 use Rattle.record.specs.Record.{decode}
 use Rattle.acceptance.specs.Acceptance.{job_no}
-use Rattle.acceptance.proofs.Accepting.{job_stops, job_passes}
+use Rattle.acceptance.proofs.Accepting.{job_stops, job_refused, job_passes}
 use Rattle.flow.specs.Calls.{flow_length, flow_no, duty_no}
 
 module _ (b : List ℕ) (room : ℕ) where
@@ -36,3 +37,8 @@ module _ (b : List ℕ) (room : ℕ) where
     pub duty_done : 4 ≤ room → duty_no b room ≡ 0
     unfolding duty_no
     duty_done h = job_passes b _ accepted ∙ short_next room 4 [] h ∙ first_none
+
+-- the outcomes in turn
+pub ruleset flow_outcomes = (number_at_exit, job_refused, flow_short, flow_done)
+
+pub ruleset duty_outcomes = (number_at_exit, job_refused, duty_short, duty_done)

@@ -46,7 +46,7 @@ fn put_result(out: &mut [u8], accepted: &AcceptedJob)
 }
 
 /// The flow call: hour, day, mean hour and S flows at the front of the buffer, or a number and the buffer as it was.
-#[tactic(auto, using(crate::proofs::Ordering::flow_short, crate::proofs::Ordering::flow_done, answer::proofs::Some::number_at_exit, acceptance::proofs::Accepting::job_refused), unfolding(crate::specs::Calls::flow_no))]
+#[tactic(auto, using(crate::proofs::Ordering::flow_outcomes), unfolding(crate::specs::Calls::flow_no))]
 pub fn flow(b: &[u8], out: &mut [u8]) -> Result<(), Refusal>
     ensures number { number_of result ≡ flow_no b.now (length out.old) }
     ensures buffer { out.new ≡ buffer_after (number_of result) (flow_bytes (decode b.now)) out.old }

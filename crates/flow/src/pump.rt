@@ -10,7 +10,7 @@ use answer::Refusal;
 use wire::Field;
 
 /// The house's design flow at the front of the buffer, or a number and the buffer as it was.
-#[tactic(auto, using(crate::proofs::Ordering::duty_short, crate::proofs::Ordering::duty_done, answer::proofs::Some::number_at_exit, acceptance::proofs::Accepting::job_refused), unfolding(crate::specs::Calls::duty_bytes, crate::specs::Calls::duty_no))]
+#[tactic(auto, using(crate::proofs::Ordering::duty_outcomes), unfolding(crate::specs::Calls::duty_bytes, crate::specs::Calls::duty_no))]
 pub fn duty(b: &[u8], out: &mut [u8]) -> Result<(), Refusal>
     ensures number { number_of result ≡ duty_no b.now (length out.old) }
     ensures buffer { out.new ≡ buffer_after (number_of result) (duty_bytes (decode b.now)) out.old }

@@ -8,11 +8,12 @@ use native.Mathlib.Omega.{arith}
 use lib.Dec.{leb}
 use borrow.Author.Tests.{leb-true, le-leb, eqb-true, eq-eqb, ne_eqb, not-false, ltb-false}
 use Rattle.basis.proofs.Bools.{left, right}
+use Rattle.answer.proofs.Some.{number_at_exit}
 use Rattle.answer.proofs.First.{first_none, first_found, first_next, short_found, short_next, first_clear, first_split}
 use Rattle.fields.specs.Fields.{service_of}
 use Rattle.record.specs.Record.{decode}
 use Rattle.acceptance.specs.Acceptance.{job_checks, job_no}
-use Rattle.acceptance.proofs.Accepting.{job_numbered, job_passes}
+use Rattle.acceptance.proofs.Accepting.{job_numbered, job_refused, job_passes}
 use Rattle.heating.specs.Heat.{hot_job, heat_ok}
 use Rattle.heating.specs.Calls.{heat_no}
 
@@ -76,3 +77,6 @@ module _ (b : List ℕ) (t loss room : ℕ) where
             first_next 21 _ (rw inside) ∙
             short_next room 8 [] h ∙
             first_none
+
+-- the outcomes in turn
+pub ruleset outcomes = (number_at_exit, job_refused, heat_other, heat_range, heat_short, heat_done)

@@ -67,7 +67,7 @@ fn put_result(out: &mut [u8], accepted: AcceptedJob, asked: Asked)
 }
 
 /// The heat flows of the mean hour and of the greatest hour at the front of the buffer, or a number and the buffer as it was.
-#[tactic(auto, using(crate::proofs::Ordering::heat_other, crate::proofs::Ordering::heat_range, crate::proofs::Ordering::heat_short, crate::proofs::Ordering::heat_done, answer::proofs::Some::number_at_exit, acceptance::proofs::Accepting::job_refused), unfolding(crate::specs::Calls::heat_no))]
+#[tactic(auto, using(crate::proofs::Ordering::outcomes), unfolding(crate::specs::Calls::heat_no))]
 pub fn heat(b: &[u8], t: u32, loss: u32, out: &mut [u8]) -> Result<(), Refusal>
     ensures number { number_of result ≡ heat_no b.now t loss (length out.old) }
     ensures buffer { out.new ≡ buffer_after (number_of result) (heat_bytes (decode b.now) t loss) out.old }

@@ -13,11 +13,13 @@ use Rattle.answer.specs.declared.Refusal.{Refusal}
 use Rattle.answer.specs.Answer.{refusal_number}
 use Rattle.answer.specs.Checks.{first_no, too_short}
 use Rattle.answer.proofs.First.{Numbered, first_none, first_found, first_next, short_found, short_next, first_clear, first_after, first_split, numbered_append}
-use Rattle.answer.proofs.Some.{first_refused, first_passed}
+use Rattle.answer.proofs.Some.{first_refused, first_passed, number_at_exit}
 use Rattle.fields.specs.declared.Job.{Job}
 use Rattle.fields.specs.Fields.{version_of, count_of}
 use Rattle.rules.specs.Rules.{version_ok, header_ok, field_checks}
 use Rattle.record.specs.Record.{length_of, decode}
+use Rattle.rules.proofs.HeaderBounds.{header_in}
+use Rattle.job.proofs.Shape.{shaped, few}
 use Rattle.job.specs.Calls.{shape_checks, read_checks, read_no, read_job, write_checks, write_no, copy_checks, copy_no}
 
 shape_numbered : (b : List ℕ) → Numbered (shape_checks b)
@@ -116,3 +118,8 @@ writable job room e =
       fields = rest.0;
       fits = ltb-false room (length_of (version_of job) (count_of job)) last.0;
     }
+
+-- the outcomes of reading and of writing, in turn
+pub ruleset outcomes_read = (number_at_exit, read_refused, read_passed, shaped, few)
+
+pub ruleset outcomes_written = (number_at_exit, header_in, write_version, write_range, write_fields, write_short, write_done)

@@ -85,3 +85,6 @@ shaped b e =
 pub few : {b : List ℕ} → Shaped b → byte_at b 6 ≤ 63
 unfolding header_at
 few {b} s = (header_in (header_at b) s.header).sections.high
+
+-- the tests of a record as it stands, in turn
+pub ruleset tested = (short, not_stated, other_version, out_of_range, other_count, well_formed)

@@ -12,7 +12,7 @@ use fields::Job;
 use wire::Field;
 
 // 1 to 4, of the record as it stands.
-#[tactic(auto, using(crate::proofs::Shape::short, crate::proofs::Shape::not_stated, crate::proofs::Shape::other_version, crate::proofs::Shape::out_of_range, crate::proofs::Shape::other_count, crate::proofs::Shape::well_formed), unfolding(record::specs::Record::header_at))]
+#[tactic(auto, using(crate::proofs::Shape::tested), unfolding(record::specs::Record::header_at))]
 fn shape_refusal(b: &[u8]) -> Result<(), Refusal>
     ensures { number_of result ≡ first_no (shape_checks b.now) }
 {
@@ -37,7 +37,7 @@ fn shape_refusal(b: &[u8]) -> Result<(), Refusal>
 }
 
 /// Any bytes give a job or a number from 1 to 7.
-#[tactic(auto, using(answer::proofs::Some::number_at_exit, crate::proofs::Decided::read_refused, crate::proofs::Decided::read_passed, crate::proofs::Shape::shaped, crate::proofs::Shape::few), unfolding(record::specs::Record::decode, record::specs::Record::header_at))]
+#[tactic(auto, using(crate::proofs::Decided::outcomes_read), unfolding(record::specs::Record::decode, record::specs::Record::header_at))]
 pub fn read(b: &[u8]) -> Result<Job, Refusal>
     ensures number { number_of result ≡ read_no b.now }
     ensures job { IfOk result (λ job. job ≡ decode b.now) }
@@ -49,7 +49,7 @@ pub fn read(b: &[u8]) -> Result<Job, Refusal>
 }
 
 // 2, 3, 5, 6, 7 and 14, of fields and a buffer.
-#[tactic(auto, using(answer::proofs::Some::number_at_exit, rules::proofs::HeaderBounds::header_in, crate::proofs::Decided::write_version, crate::proofs::Decided::write_range, crate::proofs::Decided::write_fields, crate::proofs::Decided::write_short, crate::proofs::Decided::write_done))]
+#[tactic(auto, using(crate::proofs::Decided::outcomes_written))]
 fn write_refusal(job: Job, room: usize) -> Result<(), Refusal>
     ensures { number_of result ≡ write_no job room }
 {

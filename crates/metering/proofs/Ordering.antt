@@ -7,6 +7,7 @@ use Prim.Native.Nat.{ℕ, ◌≤◌, ◌<◌}
 use native.Mathlib.Omega.{arith}
 use lib.ListN.{length}
 use borrow.Author.Tests.{not-false}
+use Rattle.answer.proofs.Some.{number_at_exit}
 use Rattle.answer.specs.declared.Refusal.{Refusal}
 use Rattle.answer.specs.Answer.{refusal_number}
 use Rattle.answer.specs.Checks.{first_no}
@@ -58,3 +59,6 @@ module _ (b meters : List ℕ) (room : ℕ) where
 
         pub meter_done : none_qualifies meters (house_flow (decode b)) (mean_of (decode b)) ≡ false → meter_no b meters room ≡ 0
         meter_done e = last ∙ first_next 18 [] e ∙ first_none
+
+-- the refusals before a meter is looked for, in turn
+pub ruleset refusals = (number_at_exit, meter_refused, meter_listed, meter_short)

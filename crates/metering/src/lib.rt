@@ -22,7 +22,7 @@ fn put_result(out: &mut [u8], place: usize, b: &[u8], loss: u32)
 }
 
 /// The place of the meter that wins and the job record with its loss at the front of the buffer, or a number and the buffer as it was.
-#[tactic(auto, using(demand::proofs::DesignFlows::house_flow_top, answer::proofs::Some::number_at_exit, crate::proofs::Ordering::meter_refused, crate::proofs::Ordering::meter_listed, crate::proofs::Ordering::meter_short))]
+#[tactic(auto, using(demand::proofs::DesignFlows::house_flow_top, crate::proofs::Ordering::refusals))]
 pub fn meter(b: &[u8], meters: &[u8], out: &mut [u8]) -> Result<(), Refusal>
     ensures number { number_of result ≡ meter_no b.now meters.now (length out.old) }
     ensures buffer { out.new ≡ buffer_after (number_of result) (meter_bytes b.now meters.now) out.old }
