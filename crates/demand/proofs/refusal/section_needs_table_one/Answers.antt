@@ -12,5 +12,5 @@ pub returns : goal.returns
 returns c =
     let n = count_of c.args.tree.now.job.now in
     let test = section_test c.args.tree.now.job.now in
-    let each = any_from_yields_List test _ _ _ c.any.ensures.ran (YieldsList-from_range 1 (n + 1) n (cc) (omega arith)) (λ x b q k. search (rules, tests)) in
+    let each = any_from_yields_List test _ _ _ c.any.ensures.ran (YieldsList-from_range 1 (n + 1) n (cc) (omega arith)) (λ x b q k. (search rules, search (rules, tests))) in
     each ∙ range_any test test 1 n (λ k h. ap test (omega arith))
