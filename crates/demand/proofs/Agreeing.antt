@@ -36,6 +36,11 @@ module _ (a b : Job) (n n' : ℕ → ℕ) (services : service_of a ≡ service_o
   pub flow_agree : ((kind : ℕ) → 0 < kind → kind ≤ 12 → n kind ≡ n' kind) → flow_of a n ≡ flow_of b n'
   flow_agree same = flow_is a n ∙ rw (average_agree, one_tap_agree a b n n' services same) (sym (flow_is b n'))
 
+module _ (n n' : ℕ → ℕ) (same : (kind : ℕ) → 0 < kind → kind ≤ 12 → n kind ≡ n' kind) where
+  pub fixtures_same : fixtures_of n ≡ fixtures_of n'
+  unfolding fixtures_of
+  fixtures_same = sum_ext 12 n n' same
+
 module _ (job : Job) (n n' : ℕ → ℕ) (same : (kind : ℕ) → 0 < kind → kind ≤ 12 → n kind ≡ n' kind) where
   share_same : (kind : ℕ) → 0 < kind → kind ≤ 12 → share_of job n kind ≡ share_of job n' kind
   share_same kind p q = share_is job kind n ∙ rw (same kind p q) (sym (share_is job kind n'))
@@ -45,10 +50,6 @@ module _ (job : Job) (n n' : ℕ → ℕ) (same : (kind : ℕ) → 0 < kind → 
 
   pub flow_same : flow_of job n ≡ flow_of job n'
   flow_same = flow_agree job job n n' refl share_same same
-
-  pub fixtures_same : fixtures_of n ≡ fixtures_of n'
-  unfolding fixtures_of
-  fixtures_same = sum_ext 12 n n' same
 
 -- residents and house's fixtures count only for the kinds that the vector has
 module _ (a b : Job) (n : ℕ → ℕ) (services : service_of a ≡ service_of b)

@@ -24,15 +24,11 @@ module _ {job : Job} (r : Rooted job) where
   house_flow_lem = flow_same job (served_of job 0) (house_of job) (λ kind a b. served_house r kind)
 
   pub house_fixtures : fixtures_of (served_of job 0) ≡ fixtures_of (house_of job)
-  house_fixtures = fixtures_same job (served_of job 0) (house_of job) (λ kind a b. served_house r kind)
+  house_fixtures = fixtures_same (served_of job 0) (house_of job) (λ kind a b. served_house r kind)
 
 -- the test of section i, by what its sums and its set give
 abbrev pub section_test : Job → ℕ → Bool
 section_test job i = needs_table_one (m_of job (served_of job i)) (fixtures_below job i)
-
-pub tested : (job : Job) (i : ℕ) {m fixtures : ℕ} {r : Bool} →
-    r ≡ needs_table_one m fixtures → m ≡ m_of job (served_of job i) → fixtures ≡ fixtures_below job i → r ≡ section_test job i
-tested job i e m f = e ∙ rw (m, f)
 
 abbrev any_section : Job → Bool
 any_section job = any_to (count_of job) (section_test job)

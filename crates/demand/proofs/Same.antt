@@ -11,7 +11,7 @@ use Rattle.tree.proofs.Served.{house_same, served_same}
 use Rattle.norms.specs.Norms.{norm_of}
 use Rattle.demand.specs.Demand.{norm_at, share_of, m_of, section_flow, house_flow, hour_share_of, hour_sum_of, hourly_sum_of, hour_of, day_of, mean_of, fixtures_of, over_sum, over_probability, needs_table_one, demand_checks}
 use Rattle.demand.proofs.Equations.{share_is, hour_share_is, hour_sum_is, hourly_is, hour_is}
-use Rattle.demand.proofs.Agreeing.{m_agree, flow_agree}
+use Rattle.demand.proofs.Agreeing.{m_agree, flow_agree, fixtures_same}
 
 module _ (a b : Job) (services : service_of a ≡ service_of b) (counts : count_of a ≡ count_of b) (residents : a.residents ≡ b.residents)
     (sections : a.sections ≡ b.sections) where
@@ -55,13 +55,9 @@ module _ (a b : Job) (services : service_of a ≡ service_of b) (counts : count_
   pub hour_of_same : hour_of a ≡ hour_of b
   hour_of_same = hour_is a ∙ rw (hourly_same, hour_same) (sym (hour_is b))
 
-  fixtures_agree : (n n' : ℕ → ℕ) → ((kind : ℕ) → n kind ≡ n' kind) → fixtures_of n ≡ fixtures_of n'
-  unfolding fixtures_of
-  fixtures_agree n n' e = sum_ext 12 n n' (λ kind p q. e kind)
-
   section_same : (i : ℕ) →
       needs_table_one (m_of a (served_of a i)) (fixtures_of (served_of a i)) ≡ needs_table_one (m_of b (served_of b i)) (fixtures_of (served_of b i))
-  section_same i = rw (section_m_same i, fixtures_agree (served_of a i) (served_of b i) (served_same a b counts sections i))
+  section_same i = rw (section_m_same i, fixtures_same (served_of a i) (served_of b i) (λ kind p q. served_same a b counts sections i kind))
 
   pub demand_checks_same : demand_checks a ≡ demand_checks b
   unfolding demand_checks over_sum over_probability
@@ -69,7 +65,7 @@ module _ (a b : Job) (services : service_of a ≡ service_of b) (counts : count_
       rw (
         house_m_same,
         hour_same,
-        fixtures_agree (house_of a) (house_of b) houses,
+        fixtures_same (house_of a) (house_of b) (λ kind p q. houses kind),
         any_ext (count_of a) _ (λ i. needs_table_one (m_of b (served_of b i)) (fixtures_of (served_of b i))) (λ i p q. section_same i),
         counts,
       )

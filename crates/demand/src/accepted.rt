@@ -31,7 +31,7 @@ fn flow(t: &[(u32, u32); 486], s: Sums) -> u32
 
 impl AcceptedJob {
     ghost use Rattle.fields.specs.Fields.{count_of};
-    ghost use Rattle.demand.specs.Demand.{section_flow, house_flow, hour_of, mean_of};
+    ghost use Rattle.demand.specs.Demand.{section_flow, house_flow, hour_of, day_of, mean_of};
 
     /// The flow of each section, at the section's place. (64 places whatever S is: there is no heap.)
     #[tactic(auto, using(crate::proofs::Validity::valid_rooted, crate::proofs::Validity::valid_count, crate::proofs::Totals::m_pos, crate::proofs::Totals::section_m_top, crate::proofs::DesignFlows::flow_asks))]
@@ -69,12 +69,19 @@ impl AcceptedJob {
         round::divide_up(sums.weighted * alpha, 200000 * sums.shares) as u32
     }
 
+    /// The greatest day in litres.
+    pub fn day(&self) -> u32
+        ensures { result ≡ day_of self.now.job }
+    {
+        day_of(self.job)
+    }
+
     /// The mean hour in l/h.
     #[tactic(auto, using(crate::proofs::Validity::valid_head, crate::proofs::Tops::mean_top), unfolding(crate::specs::Demand::mean_of))]
     pub fn mean(&self) -> u32
         ensures { result ≡ mean_of self.now.job }
     {
-        let day = u64::from(day_of(self.job));
+        let day = u64::from(self.day());
         let hours = u64::from(self.job.header.hours);
         // A cast: std has no `From` from 64 to 32 bits.
         round::divide_up(day, hours) as u32

@@ -13,6 +13,9 @@ use answer::Refusal;
 use fields::Job;
 use tree::Tree;
 
+// The last m of table 2.
+const LAST_M: u64 = 400000000;
+
 // m over 100,000 × fixtures with at most 200 fixtures: then Table 1 of appendix 4 would apply, which is left out.
 #[tactic(auto, unfolding(crate::specs::Demand::needs_table_one))]
 fn needs_table_one(m: u64, fixtures: u64) -> bool
@@ -21,21 +24,18 @@ fn needs_table_one(m: u64, fixtures: u64) -> bool
     fixtures <= 200 && 100000 * fixtures < m
 }
 
-// Whether any section does. No `any`: the closure's contract would have to ask again for all that its two calls ask.
+// Whether any section does.
 fn section_needs_table_one(tree: &Tree, served: &[u32; 768], sets: &[u64; 64]) -> bool
     requires counts { Counted tree.now.job.now served.now }
     requires sets { (i : ℕ) → i < 64 → get_or sets.now i 0 ≡ set_of tree.now.job.now i }
     ensures { result ≡ any_to (count_of tree.now.job.now)
         (λ i. needs_table_one (m_of tree.now.job.now (served_of tree.now.job.now i)) (fixtures_below tree.now.job.now i)) }
 {
-    for i in 1..=usize::from(tree.job.header.sections) {
+    (1..usize::from(tree.job.header.sections) + 1).any(|i| {
         let sums = sums_of(tree, served, i);
         let fixtures = tree.fixtures_below(sets[i], i);
-        if needs_table_one(sums.m, fixtures) {
-            return true;
-        }
-    }
-    false
+        needs_table_one(sums.m, fixtures)
+    })
 }
 
 /// 8 and 9, of a job that 3 and 5 to 7 let pass.
@@ -50,19 +50,13 @@ pub fn demand_refusal(job: Job) -> Result<(), Refusal>
     let house = sums_of(&tree, &served, 0);
     let fixtures = tree.fixtures_below(sets[0], 0);
     let hour = hour_sums(&job);
-    if 400000000 < house.m {
+    if LAST_M < house.m || LAST_M < hour.shares {
         return Err(Refusal::DemandOverTable);
     }
-    if 400000000 < hour.shares {
-        return Err(Refusal::DemandOverTable);
-    }
-    if needs_table_one(house.m, fixtures) {
-        return Err(Refusal::DemandOverFixtures);
-    }
-    if section_needs_table_one(&tree, &served, &sets) {
-        return Err(Refusal::DemandOverFixtures);
-    }
-    if needs_table_one(hour.shares, fixtures) {
+    if needs_table_one(house.m, fixtures)
+        || section_needs_table_one(&tree, &served, &sets)
+        || needs_table_one(hour.shares, fixtures)
+    {
         return Err(Refusal::DemandOverFixtures);
     }
     Ok(())

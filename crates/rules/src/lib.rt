@@ -98,11 +98,12 @@ fn childless_zero(tree: &Tree) -> bool
     ensures { result ≡ childless_zero tree.now.job.now }
 {
     let below = tree.sets();
-    (1..usize::from(tree.job.header.sections) + 1).any(|i| bare_end(
-        tree.job.sections[i],
-        below[i],
-        i,
-    ))
+    let Job {
+        header,
+        sections,
+        ..
+    } = tree.job;
+    (1..usize::from(header.sections) + 1).any(|i| bare_end(sections[i], below[i], i))
 }
 
 // 7: a kind has residents without fixtures, or the reverse.

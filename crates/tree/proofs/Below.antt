@@ -1,12 +1,13 @@
 -- Steps to the parent: which sections lie at or below a section.
 -- Assumes nothing.
 use mathlib.Core.Path.{◌≡◌, refl, sym, ◌∙◌}
-use mathlib.Core.Logic.{◌⊎◌, inl, inr, ⊎_elim}
-use mathlib.Core.Bool.{Bool, true, false, ◌||◌}
+use mathlib.Core.Logic.{⊎_elim}
+use mathlib.Core.Bool.{true, false, ◌||◌}
 use Prim.Native.Nat.{ℕ, zero, suc, ◌≤◌, ◌<◌}
 use native.Mathlib.Omega.{arith}
 use lib.Dec.{eqb}
 use borrow.Author.Tests.{eq-eqb, ne_eqb}
+use Rattle.std.proofs.Math.Bool.{or-true, or_self}
 use Rattle.basis.proofs.Split.{lt_or_ge, eq_or_ne}
 use Rattle.basis.proofs.Bools.{apart}
 use Rattle.fields.specs.declared.Job.{Job}
@@ -47,20 +48,9 @@ reach_self (suc n) job i = rw (reach_one n job i i, eq-eqb i i refl)
 reach_go : (n : ℕ) (job : Job) (i j : ℕ) → (j ≡ i → ⊥) → reaches (suc n) job i j ≡ reaches n job i (parent_of job j)
 reach_go n job i j ne = rw (reach_one n job i j, ne_eqb j i ne)
 
-or_true : (b : Bool) → b || true ≡ true
-or_true true = refl
-or_true false = refl
-
-or_same : (b : Bool) → b || b ≡ b
-or_same true = refl
-or_same false = refl
-
 pub below_self : (job : Job) (i : ℕ) → below job i i ≡ true
 unfolding below
 below_self job i = reach_self 63 job i
-
-pos_or_zero : (j : ℕ) → (0 < j) ⊎ (j ≡ 0)
-pos_or_zero j = ⊎_elim (λ p. inl p) (λ z. inr (omega arith)) (lt_or_ge 0 j)
 
 module _ {job : Job} (r : Rooted job) where
   -- a parent is a section or the pump, and no further from it
@@ -68,8 +58,8 @@ module _ {job : Job} (r : Rooted job) where
   parent_le n j h k =
       ⊎_elim
       (λ p. rw (parent_at job j p) (omega (arith, r.lower j p k)))
-      (λ e. rw e (rw (parent_pump job) (omega arith)))
-      (pos_or_zero j)
+      (λ (z : j ≤ 0). let e : j ≡ 0 = omega arith in rw e (rw (parent_pump job) (omega arith)))
+      (lt_or_ge 0 j)
 
   parent_in : (j : ℕ) → j ≤ count_of job → parent_of job j ≤ count_of job
   parent_in j k = parent_le (count_of job) j (omega arith) k
@@ -78,7 +68,7 @@ module _ {job : Job} (r : Rooted job) where
   reach_more : (n i j : ℕ) → j ≤ n → j ≤ count_of job → reaches (suc n) job i j ≡ reaches n job i j
   reach_more zero i j h k =
       let e : j ≡ 0 = omega arith in
-      rw e (rw (reach_one 0 job i 0, reach_none job i (parent_of job 0), reach_none job i 0, parent_pump job) (or_same (eqb 0 i)))
+      rw e (rw (reach_one 0 job i 0, reach_none job i (parent_of job 0), reach_none job i 0, parent_pump job) (or_self (eqb 0 i)))
   reach_more (suc n) i j h k =
       rw (reach_one (suc n) job i j, reach_one n job i j, reach_more n i (parent_of job j) (parent_le n j h k) (parent_in j k))
 
@@ -103,7 +93,7 @@ module _ {job : Job} (r : Rooted job) where
   reach_pump : (n j : ℕ) → j ≤ n → j ≤ count_of job → reaches n job 0 j ≡ true
   reach_pump zero j h k = reach_none job 0 j ∙ eq-eqb j 0 (omega arith)
   reach_pump (suc n) j h k =
-      rw (reach_one n job 0 j, reach_pump n (parent_of job j) (parent_le n j h k) (parent_in j k)) (or_true (eqb j 0))
+      rw (reach_one n job 0 j, reach_pump n (parent_of job j) (parent_le n j h k) (parent_in j k)) (or-true (eqb j 0))
 
   -- every section is below the pump
   pub below_pump : (j : ℕ) → j ≤ count_of job → below job 0 j ≡ true
