@@ -101,6 +101,7 @@ pub fn row_flow(row: &[u8; 8]) -> u32
 }
 
 /// Row k of a part, from 0.
+#[tactic(auto, using(crate::proofs::Chunks::flow_row, crate::proofs::Chunks::velocity_row, crate::proofs::Chunks::slope_row))]
 pub fn row_at(rows: &[[u8; 8]], k: usize) -> Row
     requires { k < length rows.now }
     ensures { result ≡ row_at (concat rows.now) k }

@@ -9,6 +9,3 @@ rows_at-requires c = cat_sized c.args.self.now.accepted c.args.s c.requires.0 c.
 pub read_rows-requires : goal.read_rows-requires
 read_rows-requires c =
     rw (c.rows_at.ensures.part, c.rows_at.ensures.count) (cat_rows c.args.self.now.accepted c.args.s c.requires.0 c.requires.1)
-
-pub returns : goal.returns
-returns c = rw (c.read_rows.ensures, c.rows_at.ensures.part, c.rows_at.ensures.count)
