@@ -1,9 +1,10 @@
--- Tests joined by "and" and "or", and a test that cannot hold.
+-- A test that cannot hold, and tests joined by "and": each part by itself, where std's `and_parts` has both.
 -- Assumes nothing.
 use mathlib.Core.Path.{◌≡◌, refl}
 use mathlib.Core.Bool.{Bool, true, false, ◌&&◌, ◌||◌}
 use Prim.Native.Nat.{ℕ}
 use native.Mathlib.Omega.{arith}
+use Rattle.std.proofs.lemmas.Bool.{false_from_ne_true}
 
 pub apart : {t : Bool} → t ≡ true → t ≡ false → ⊥
 apart e n = let z : ◌≡◌ {A = ℕ} 0 1 = cc in omega arith
@@ -20,16 +21,7 @@ pub not_both : (a b : Bool) → (a && b) ≡ false → a ≡ true → b ≡ true
 not_both true b e p q = apart q e
 not_both false b e p q = apart p refl
 
-pub neither : (a b : Bool) → (a || b) ≡ false → (a ≡ false) × (b ≡ false)
-neither true b e = absurd (apart refl e)
-neither false b e = (refl, e)
-
--- what cannot be true is false
-pub never : (t : Bool) → (t ≡ true → ⊥) → t ≡ false
-never true n = absurd (n refl)
-never false n = refl
-
 -- two tests each of which follows from the other are one
 pub same : (a b : Bool) → (a ≡ true → b ≡ true) → (b ≡ true → a ≡ true) → a ≡ b
 same true b f g = let e : b ≡ true = f refl in rw e
-same false b f g = let e : b ≡ false = never b (λ e. apart (g e) refl) in rw e
+same false b f g = let e : b ≡ false = false_from_ne_true b (λ e. apart (g e) refl) in rw e

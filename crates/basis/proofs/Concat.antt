@@ -7,10 +7,10 @@ use Prim.Native.Nat.{ℕ, zero, suc, ◌+◌, ◌-◌, ◌*◌, ◌≤◌, ◌<�
 use native.Mathlib.Omega.{arith}
 use native.Mathlib.Nat.{mul-zero, mul-suc}
 use lib.ListN.{length, length-append}
+use Rattle.std.proofs.lemmas.Bool.{cases_lt}
 use Rattle.basis.specs.Range.{concat_to}
 use Rattle.basis.specs.Part.{part}
 use Rattle.basis.specs.Stored.{stored}
-use Rattle.basis.proofs.Split.{lt_or_ge}
 use Rattle.basis.proofs.Stored.{stored_next}
 use Rattle.basis.proofs.Part.{part_right, part_front, part_next}
 
@@ -44,7 +44,7 @@ module _ (w : ℕ) (f : ℕ → List ℕ) (wide : (i : ℕ) → length (f i) ≡
       let last : suc n ≡ i = omega arith in
       let at : w * n ≡ length (concat_to n f) + 0 = rw (concat_length n) (omega arith) in
       rw (e, at, part_right (concat_to n f) (f (suc n) ++ rest) 0 w, last) (part_front (f i) rest w (wide i)))
-      (lt_or_ge i (suc n)))
+      (cases_lt i (suc n)))
 
   -- and where the row stands in the middle
   pub concat_within : (n i : ℕ) (before rest : List ℕ) (base : ℕ) → length before ≡ base → 0 < i → i ≤ n →

@@ -7,9 +7,9 @@ use Prim.Native.Nat.{ℕ, zero, suc, ◌+◌, ◌≤◌, ◌<◌}
 use native.Mathlib.Nat.{eq-or-lt_of_le}
 use native.Mathlib.Omega.{arith}
 use borrow.Author.Tests.{not-false}
+use Rattle.std.proofs.lemmas.Bool.{false_from_ne_true, cases_Bool}
 use Rattle.basis.specs.Range.{all_to, any_to}
-use Rattle.basis.proofs.Bools.{left, right, never, apart, same}
-use Rattle.basis.proofs.Split.{either}
+use Rattle.basis.proofs.Bools.{left, right, apart, same}
 
 pub all_none : (f : ℕ → Bool) → all_to 0 f ≡ true
 unfolding all_to
@@ -38,7 +38,7 @@ all_each (suc n) f e = all_more n (suc n) f (omega arith) (all_each n f (λ t h 
 
 -- one that fails
 pub all_false : (n t : ℕ) (f : ℕ → Bool) → 0 < t → t ≤ n → f t ≡ false → all_to n f ≡ false
-all_false n t f h k e = never (all_to n f) (λ a. apart (all_at n f a t h k) e)
+all_false n t f h k e = false_from_ne_true (all_to n f) (λ a. apart (all_at n f a t h k) e)
 
 pub all_ext : (n : ℕ) (f g : ℕ → Bool) → ((t : ℕ) → 0 < t → t ≤ n → f t ≡ g t) → all_to n f ≡ all_to n g
 all_ext n f g e =
@@ -70,7 +70,7 @@ pub any_true : (n t : ℕ) (f : ℕ → Bool) → 0 < t → t ≤ n → f t ≡ 
 any_true n t f h k e = rw (any_not n f, all_false n t (λ u. not (f u)) h k (ap not e))
 
 pub any_at : (n : ℕ) (f : ℕ → Bool) → any_to n f ≡ false → (t : ℕ) → 0 < t → t ≤ n → f t ≡ false
-any_at n f a t h k = never (f t) (λ e. apart (any_true n t f h k e) a)
+any_at n f a t h k = false_from_ne_true (f t) (λ e. apart (any_true n t f h k e) a)
 
 pub any_each : (n : ℕ) (f : ℕ → Bool) → ((t : ℕ) → 0 < t → t ≤ n → f t ≡ false) → any_to n f ≡ false
 any_each n f e = rw (any_not n f, all_each n (λ t. not (f t)) (λ t h k. ap not (e t h k)))
@@ -96,7 +96,7 @@ any_found (suc n) f e =
     (λ t. record { place = suc n; low = omega arith; high = omega arith; holds = t })
     (λ t. let r : Found n f = any_found n f (first t) in
     record { place = r.place; low = r.low; high = omega (arith, r.high); holds = r.holds })
-    (either (f (suc n)))
+    (cases_Bool (f (suc n)))
   where
     or_false : (a : Bool) → (a || false) ≡ a
     or_false true = refl

@@ -1,4 +1,3 @@
-pub mod Split
 pub mod Bools
 pub mod Within
 pub mod Each

@@ -6,9 +6,9 @@ use Prim.Native.Nat.{ℕ, zero, suc, ◌≤◌, ◌<◌}
 use native.Mathlib.Nat.{eq-or-lt_of_le}
 use native.Mathlib.Omega.{arith}
 use mathlib.Core.Bool.{Bool, true, false, cond}
+use Rattle.std.proofs.lemmas.Bool.{cases_Bool, cases_lt}
 use Rattle.basis.specs.Range.{any_to, lowest_to}
 use Rattle.basis.proofs.Bools.{apart}
-use Rattle.basis.proofs.Split.{either, lt_or_ge}
 use Rattle.basis.proofs.Each.{Found, any_found, any_true, any_at, any_each, any_ext}
 
 pub record Lowest (n : ℕ) (test : ℕ → Bool) (i : ℕ) : Type 0 where
@@ -34,8 +34,8 @@ lowest_within (suc n) test =
     (⊎_elim
     (λ (b : test (suc n) ≡ true). rw b (omega arith))
     (λ (b : test (suc n) ≡ false). rw b (omega arith))
-    (either (test (suc n)))))
-    (either (any_to n test))
+    (cases_Bool (test (suc n)))))
+    (cases_Bool (any_to n test))
 
 -- one that passes: the lowest does
 pub lowest_is : (n : ℕ) (test : ℕ → Bool) (t : ℕ) → 0 < t → t ≤ n → test t ≡ true → Lowest n test (lowest_to n test)
@@ -51,7 +51,7 @@ lowest_is (suc n) test t h k e =
     let last : t ≡ suc n = ⊎_elim (λ q. q) (λ l. absurd (apart (any_true n t test h (omega arith) e) a)) (eq-or-lt_of_le k) in
     let e' : test (suc n) ≡ true = rw last at e in
     rw (a, e') (record { low = omega arith; high = omega arith; holds = e'; first = λ j p q. any_at n test a j p (omega arith) }))
-    (either (any_to n test)))
+    (cases_Bool (any_to n test)))
 
 -- none that passes: 0
 pub lowest_none : (n : ℕ) (test : ℕ → Bool) → ((i : ℕ) → 0 < i → i ≤ n → test i ≡ false) → lowest_to n test ≡ 0
@@ -68,8 +68,8 @@ lowest_only n test i l =
     ⊎_elim
     (λ lt. absurd (apart m.holds (l.first (lowest_to n test) m.low lt)))
     (λ le. omega arith)
-    (lt_or_ge (lowest_to n test) i))
-    (lt_or_ge i (lowest_to n test))
+    (cases_lt (lowest_to n test) i))
+    (cases_lt i (lowest_to n test))
 
 pub lowest_ext : (n : ℕ) (test test' : ℕ → Bool) → ((i : ℕ) → 0 < i → i ≤ n → test i ≡ test' i) → lowest_to n test ≡ lowest_to n test'
 unfolding lowest_to

@@ -5,8 +5,8 @@ use mathlib.Core.Logic.{⊎_elim}
 use Prim.Native.Nat.{ℕ, zero, suc, ◌≤◌, ◌<◌, max}
 use native.Mathlib.Nat.{eq-or-lt_of_le}
 use native.Mathlib.Omega.{arith}
+use Rattle.std.proofs.lemmas.Bool.{cases_lt}
 use Rattle.basis.specs.Range.{most_to}
-use Rattle.basis.proofs.Split.{lt_or_ge}
 
 -- the definition's clauses
 pub most_none : (f : ℕ → ℕ) → most_to 0 f ≡ 0
@@ -50,4 +50,4 @@ most_reached (suc n) f h =
     (λ (g : f (suc n) ≤ most_to n f).
     let r : Reached n f = most_reached n f (omega (arith, most_more n f)) in
     record { place = r.place; low = r.low; high = omega (arith, r.high); by = omega (arith, most_more n f, r.by) })
-    (lt_or_ge (most_to n f) (f (suc n)))
+    (cases_lt (most_to n f) (f (suc n)))

@@ -8,8 +8,8 @@ use native.Mathlib.Numerals.{add-one}
 use lib.ListN.{length, drop, get_or, length-take, length-drop, get_or-eq_default}
 use lib.Seq.{take_all, take-add, drop-drop, drop-cons, take-length, take_at, drop-append-add, get_or-take, get_or-drop}
 use mathlib.Core.Logic.{⊎_elim}
+use Rattle.std.proofs.lemmas.Bool.{cases_lt}
 use Rattle.basis.specs.Part.{part}
-use Rattle.basis.proofs.Split.{lt_or_ge}
 
 pub part_at : (l : List ℕ) (i n k : ℕ) → k < n → get_or (part l i n) k 0 ≡ get_or l (i + k) 0
 part_at l i n k h = get_or-take n (drop i l) k 0 h ∙ get_or-drop i l k 0
@@ -46,4 +46,4 @@ part_below l i n b h all k =
     ⊎_elim
     (λ lt. rw (part_at l i n k lt) (all (i + k)))
     (λ (ge : n ≤ k). rw (get_or-eq_default (part l i n) 0 {n = k} (rw (length-take n (drop i l)) (omega arith))) h)
-    (lt_or_ge k n)
+    (cases_lt k n)

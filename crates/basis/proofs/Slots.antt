@@ -8,8 +8,8 @@ use native.Mathlib.Omega.{arith}
 use lib.ListN.{length, get_or, set, replicate, length-append, length-set, length-replicate, get_or-replicate, get_or-append}
 use lib.Seq.{get_or-set_same, get_or-set_other, get_or_at, ext_get_or}
 use borrow.Author.Tests.{le-leb, lt-leb, lt-ltb, le-ltb}
+use Rattle.std.proofs.lemmas.Bool.{cases_lt, cases_eq}
 use Rattle.basis.specs.Slots.{tabulate, slots}
-use Rattle.basis.proofs.Split.{lt_or_ge, eq_or_ne}
 
 module _ {A : Type 0} where
   tabulate_none : (f : ℕ → A) → tabulate 0 f ≡ []
@@ -31,7 +31,7 @@ module _ {A : Type 0} where
       (⊎_elim
       (λ lt. get_or-append (tabulate n f) (f n ∷ []) d i (rw (tabulate_length n f) lt) ∙ tabulate_at n f i d lt)
       (λ ge. let e : i ≡ n = omega arith in rw e (get_or_at (tabulate n f) (f n) [] d n (tabulate_length n f)))
-      (lt_or_ge i n))
+      (cases_lt i n))
 
   -- a list of n places that holds f at each is the table of f
   pub tabulated : (n : ℕ) (f : ℕ → A) (l : List A) (d : A) → length l ≡ n → ((i : ℕ) → i < n → get_or l i d ≡ f i) → l ≡ tabulate n f
@@ -63,8 +63,8 @@ module _ {A : Type 0} where
     slots_out i d h n =
         ⊎_elim
         (λ low. slots_low i d low h)
-        (λ a. slots_high i d a (⊎_elim (λ lt. absurd (n a lt)) (λ ge. ge) (lt_or_ge i hi)) h)
-        (lt_or_ge i lo)
+        (λ a. slots_high i d a (⊎_elim (λ lt. absurd (n a lt)) (λ ge. ge) (cases_lt i hi)) h)
+        (cases_lt i lo)
 
     -- a list with these three rules is it
     pub slotted : (l : List A) (d : A) → length l ≡ size → ((i : ℕ) → lo ≤ i → i < hi → i < size → get_or l i d ≡ f i) →
@@ -77,8 +77,8 @@ module _ {A : Type 0} where
         (λ a. ⊎_elim
         (λ b. inside i a b h ∙ sym (slots_in i d a b h))
         (λ high. outside i h (λ c b. omega arith) ∙ sym (slots_high i d a high h))
-        (lt_or_ge i hi))
-        (lt_or_ge i lo))
+        (cases_lt i hi))
+        (cases_lt i lo))
 
   pub slots_none : (size lo : ℕ) (blank : A) (f : ℕ → A) → replicate size blank ≡ slots size lo lo blank f
   slots_none size lo blank f =
@@ -94,7 +94,7 @@ module _ {A : Type 0} where
       (λ i b c k. ⊎_elim
       (λ e. rw e (get_or-set_same old hi (f hi) blank w))
       (λ n. get_or-set_other old hi i (f hi) blank n ∙ slots_in size lo hi blank f i blank b (omega arith) k)
-      (eq_or_ne i hi))
+      (cases_eq i hi))
       (λ i k n. get_or-set_other old hi i (f hi) blank (λ e. n (omega arith) (omega arith)) ∙
       slots_out size lo hi blank f i blank k (λ b c. n b (omega arith)))
 
@@ -119,5 +119,5 @@ module _ {A : Type 0} where
       (λ j c d k. ⊎_elim
       (λ e. rw e (get_or-set_same old i (g i) blank w))
       (λ n. get_or-set_other old i j (g i) blank n ∙ slots_in size lo hi blank f j blank c d k ∙ sym (same j c d n))
-      (eq_or_ne j i))
+      (cases_eq j i))
       (λ j k n. get_or-set_other old i j (g i) blank (λ e. n (omega arith) (omega arith)) ∙ slots_out size lo hi blank f j blank k n))

@@ -9,8 +9,8 @@ use native.Mathlib.Nat.{suc-mul, mul-add}
 use lib.Dec.{eqb}
 use lib.Pow.{pow_pos, pow-add}
 use borrow.Author.Tests.{eq-eqb, ne_eqb}
+use Rattle.std.proofs.lemmas.Bool.{cases_eq}
 use Rattle.basis.specs.Range.{sum_to}
-use Rattle.basis.proofs.Split.{eq_or_ne}
 
 -- the definition's clauses
 pub sum_none : (f : ℕ → ℕ) → sum_to 0 f ≡ 0
@@ -69,7 +69,7 @@ sum_one (suc n) s f p h =
     ⊎_elim
     (λ e. rw (eq-eqb (suc n) s e, sum_out n s f (λ q. omega arith), e) (omega arith))
     (λ ne. rw (ne_eqb (suc n) s ne, sum_one n s f p (omega arith)) (omega arith))
-    (eq_or_ne (suc n) s)
+    (cases_eq (suc n) s)
 
 cond_le : (b : Bool) (v : ℕ) → cond b v 0 ≤ v
 cond_le true v = omega arith
@@ -99,7 +99,7 @@ sum_two n i j f a b c d ne =
     (sum_mono n _ f (λ k p q. ⊎_elim
     (λ e. rw (eq-eqb k i e, ne_eqb k j (λ z. ne (sym e ∙ z))) (omega arith))
     (λ x. rw (ne_eqb k i x) (omega (arith, cond_le (eqb k j) (f k))))
-    (eq_or_ne k i)))
+    (cases_eq k i)))
 
 -- terms that are all 0
 pub sum_nothing : (n : ℕ) (f : ℕ → ℕ) → ((j : ℕ) → 0 < j → j ≤ n → f j ≡ 0) → sum_to n f ≡ 0
@@ -113,7 +113,7 @@ sum_swap n q f g a b h =
     (sum_ext n _ _ (λ j p r. ⊎_elim
     (λ e. rw (eq-eqb j q e) (omega arith))
     (λ ne. rw (ne_eqb j q ne, h j p r ne))
-    (eq_or_ne j q)))
+    (cases_eq j q)))
 
 -- the powers of 2
 pub sum_pow : (n : ℕ) → sum_to n (λ j. 2 ^ j) < 2 ^ suc n

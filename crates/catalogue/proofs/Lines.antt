@@ -7,9 +7,9 @@ use native.Mathlib.Nat.{eq-or-lt_of_le, mul_comm, mul-le-mul_left, mul-pos}
 use native.Mathlib.Numerals.{add-one}
 use native.Mathlib.Omega.{arith}
 use borrow.Author.Tests.{le-leb, lt-leb}
+use Rattle.std.proofs.lemmas.Bool.{cases_lt}
 use Rattle.basis.specs.Round.{up, line}
 use Rattle.basis.proofs.Round.{up_le, up_pos, line_low, line_high}
-use Rattle.basis.proofs.Split.{lt_or_ge}
 use Rattle.catalogue.specs.Reading.{between}
 
 -- flows that rise to row n
@@ -63,7 +63,7 @@ module _ (flow value : ℕ → ℕ) where
         ⊎_elim
         (λ b. rw (at_last n q b) (line_high (flow n) (value n) (flow (suc n)) (value (suc n)) q (r n (suc n) (omega arith) (omega arith)) h one))
         (λ b. rw (before_last n q b) (omega (arith, between_high n q (less r) (λ k l. keep k (omega arith)) b)))
-        (lt_or_ge (flow n) q)
+        (cases_lt (flow n) q)
 
     pub between_pos : (n q : ℕ) → 0 < q → ((k : ℕ) → k ≤ n → 0 < value k) → 0 < between flow value n q
     unfolding between
@@ -72,4 +72,4 @@ module _ (flow value : ℕ → ℕ) where
         ⊎_elim
         (λ b. rw (at_last n q b) (omega (arith, own n (omega arith), line_low (flow n) (value n) (flow (suc n)) (value (suc n)) q)))
         (λ b. rw (before_last n q b) (between_pos n q h (λ k l. own k (omega arith))))
-        (lt_or_ge (flow n) q)
+        (cases_lt (flow n) q)

@@ -8,9 +8,9 @@ use mathlib.Core.Logic.{⊎_elim}
 use Prim.Native.Nat.{ℕ, ◌+◌, ◌-◌, ◌*◌, ◌≤◌, ◌<◌}
 use native.Mathlib.Omega.{arith}
 use borrow.Author.Tests.{leb-true, le-leb, lt-leb, ne_eqb}
+use Rattle.std.proofs.lemmas.Bool.{cases_Bool, cases_eq}
 use Rattle.basis.specs.Round.{up, line}
 use Rattle.basis.proofs.Round.{line_zero}
-use Rattle.basis.proofs.Split.{either, eq_or_ne}
 use Rattle.wire.specs.Wire.{byte_at}
 use Rattle.wire.proofs.Fields.{be_lt}
 use Rattle.catalogue.specs.Layout.{flow_at, velocity_at, slope_at}
@@ -47,14 +47,14 @@ module _ (r : SizeAtFlow) where
 
   pub served_none : served_of r ≡ None → r.serves ≡ false
   served_none e =
-      ⊎_elim (λ (o : r.serves ≡ true). absurd (let f = sym (given o) ∙ e in cc)) (λ o. o) (either r.serves)
+      ⊎_elim (λ (o : r.serves ≡ true). absurd (let f = sym (given o) ∙ e in cc)) (λ o. o) (cases_Bool r.serves)
 
   pub served_some : (x : Reading) → served_of r ≡ Some x → (r.serves ≡ true) × (x.velocity ≡ r.velocity) × (x.slope ≡ r.slope)
   served_some x e =
       ⊎_elim
       (λ (o : r.serves ≡ true). let f = sym (given o) ∙ e in (o, cc, cc))
       (λ (o : r.serves ≡ false). absurd (let f = sym (kept o) ∙ e in cc))
-      (either r.serves)
+      (cases_Bool r.serves)
 
 -- a point of flow x and row k, with the straight lines between them at q
 abbrev pub on_line : List ℕ → ℕ → ℕ → ℕ → ℕ → ℕ → SizeAtFlow
@@ -144,7 +144,7 @@ module _ {rows : List ℕ} {n : ℕ} (r : Rows rows n) where
         })
 
     pub drawn : Drawn rows n q k (row_before rows k)
-    drawn = ⊎_elim drawn_first drawn_next (eq_or_ne k 0)
+    drawn = ⊎_elim drawn_first drawn_next (cases_eq k 0)
 
   -- a value that does not fall from row to row is read at no more than the last row's
   top : (value : ℕ → ℕ) (q m : ℕ) → ((k : ℕ) → k < n - 1 → value k ≤ value (k + 1)) → value (n - 1) ≤ m →
@@ -153,7 +153,7 @@ module _ {rows : List ℕ} {n : ℕ} (r : Rows rows n) where
       ⊎_elim
       (λ e. rw e (omega (arith, between_high (flow_at rows) value first_flow (n - 1) q rising keep (serves_last rows n q e))))
       (λ e. rw e (omega arith))
-      (either (serves_at rows n q))
+      (cases_Bool (serves_at rows n q))
 
   pub reading_top : ((k : ℕ) → byte_at rows k < 256) → (q : ℕ) →
       ((read_rows rows n q).velocity ≤ 65535) × ((read_rows rows n q).slope ≤ 65535)

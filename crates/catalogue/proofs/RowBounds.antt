@@ -9,10 +9,10 @@ use native.Mathlib.Nat.{add-sub_cancel}
 use native.Mathlib.Omega.{arith}
 use lib.Dec.{leb, ltb}
 use borrow.Author.Tests.{leb-true, ltb-true}
+use Rattle.std.proofs.lemmas.Bool.{false_from_ne_true, cases_eq}
 use Rattle.basis.specs.Range.{within, all_to}
-use Rattle.basis.proofs.Bools.{left, right, never, apart, same}
+use Rattle.basis.proofs.Bools.{left, right, apart, same}
 use Rattle.basis.proofs.Each.{all_at, all_each}
-use Rattle.basis.proofs.Split.{eq_or_ne}
 use Rattle.basis.proofs.Within.{Within, within_in}
 use Rattle.catalogue.specs.Layout.{flow_at, velocity_at, slope_at}
 use Rattle.catalogue.specs.Rules.{row_ok, rises_at, rows_ok}
@@ -60,7 +60,7 @@ module _ (rows : List ℕ) where
   rows_rise n k e h l = all_at (n - 1) (λ j. rises_at rows j) (right (all_to n (λ j. row_ok rows (j - 1))) _ e) k h (omega arith)
 
   pub first_refused : (n : ℕ) → 0 < n → row_ok rows 0 ≡ false → false ≡ rows_ok rows n
-  first_refused n h e = sym (never (rows_ok rows n) (λ t. apart (rows_own n 0 t h) e))
+  first_refused n h e = sym (false_from_ne_true (rows_ok rows n) (λ t. apart (rows_own n 0 t h) e))
 
   -- the first row on its own, and each after it on its own and against the one before it
   pub rows_each : (n : ℕ) → row_ok rows 0 ≡ true → 0 < n → all_to (n - 1) (λ k. row_ok rows k && rises_at rows k) ≡ rows_ok rows n
@@ -75,4 +75,4 @@ module _ (rows : List ℕ) where
           ⊎_elim
           (λ (z : j - 1 ≡ 0). rw z first)
           (λ z. left (row_ok rows (j - 1)) _ (all_at (n - 1) _ a (j - 1) (omega arith) (omega arith)))
-          (eq_or_ne (j - 1) 0)
+          (cases_eq (j - 1) 0)

@@ -7,7 +7,7 @@ use Prim.Native.Nat.{ℕ, ◌+◌, ◌-◌, ◌*◌, ◌<◌}
 use native.Mathlib.Omega.{arith}
 use lib.ListN.{length, get_or, set, length-set}
 use lib.Seq.{get_or-set_same, get_or-set_other}
-use Rattle.basis.proofs.Split.{eq_or_ne}
+use Rattle.std.proofs.lemmas.Bool.{cases_eq}
 use Rattle.choosing.specs.Steps.{Entered, Tabled}
 
 -- P holds of what stands at each of the places 1 to i - 1
@@ -22,7 +22,7 @@ placed_more P i l v h p t =
       at = λ j a b. ⊎_elim
           (λ e. rw (e, get_or-set_same l i v 0 (omega (arith, p.long))) t)
           (λ n. rw (get_or-set_other l i j v 0 n) (p.at j a (omega arith)))
-          (eq_or_ne j i);
+          (cases_eq j i);
     }
 
 -- columns 1 to s - 1 of row i
@@ -38,7 +38,7 @@ module _ (f : ℕ → ℕ) (i : ℕ) where
         here = λ r a b. ⊎_elim
             (λ q. rw (q, get_or-set_same l (i * 13 + s) v 0 (omega (arith, e.long))) t)
             (λ n. get_or-set_other l (i * 13 + s) (i * 13 + r) v 0 (λ q. n (omega arith)) ∙ e.here r a (omega arith))
-            (eq_or_ne r s);
+            (cases_eq r s);
         other = λ j r n k. get_or-set_other l (i * 13 + s) (j * 13 + r) v 0 (λ q. n (omega arith)) ∙ e.other j r n k;
       }
 
@@ -61,7 +61,7 @@ module _ (f : ℕ → ℕ → ℕ) (m : ℕ) where
         at = λ j s h k a b. ⊎_elim
             (λ (q : j ≡ i). rw q (e.here s a b))
             (λ n. e.other j s n (omega arith) ∙ t.at j s h (omega arith) a b)
-            (eq_or_ne j i);
+            (cases_eq j i);
       }
 
   -- the last of n rows

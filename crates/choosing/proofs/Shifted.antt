@@ -10,7 +10,7 @@ use lib.Dec.{T, leb}
 use lib.IntN.{ℤ, pos, negsuc, nat_abs, sub_ℕ, ◌+ℤ◌}
 use lib.Signed.{le_z, non_neg}
 use borrow.Author.Tests.{lt-ltb, le-ltb, le-leb, leb-true}
-use Rattle.basis.proofs.Split.{lt_or_ge}
+use Rattle.std.proofs.lemmas.Bool.{cases_lt}
 use Rattle.basis.proofs.Bools.{apart, left}
 use Rattle.rules.specs.Rules.{elevation_ok}
 
@@ -23,11 +23,11 @@ sub_under a b h = rw (lt-ltb a b h)
 
 sub_le : (a b h : ℕ) → a ≤ h + b → le_z (sub_ℕ a b) (pos h) ≡ true
 sub_le a b h k =
-    ⊎_elim (λ l. rw (sub_under a b l)) (λ g. rw (sub_over a b g) (le-leb (a - b) h (omega arith))) (lt_or_ge a b)
+    ⊎_elim (λ l. rw (sub_under a b l)) (λ g. rw (sub_over a b g) (le-leb (a - b) h (omega arith))) (cases_lt a b)
 
 le_sub : (a b h : ℕ) → le_z (sub_ℕ a b) (pos h) ≡ true → a ≤ h + b
 le_sub a b h e =
-    ⊎_elim (λ l. omega arith) (λ g. omega (arith, leb-true (a - b) h (rw (sub_over a b g) at e))) (lt_or_ge a b)
+    ⊎_elim (λ l. omega arith) (λ g. omega (arith, leb-true (a - b) h (rw (sub_over a b g) at e))) (cases_lt a b)
 
 -- the meter loss is taken from a difference too
 add_sub : (m a b : ℕ) → pos m +ℤ sub_ℕ a b ≡ sub_ℕ (m + a) b
@@ -37,16 +37,16 @@ add_sub m a b =
     (⊎_elim
     (λ k. rw (sub_under m (suc (b - suc a)) k, sub_under (m + a) b (omega arith)) (ap negsuc (omega arith)))
     (λ k. rw (sub_over m (suc (b - suc a)) k, sub_over (m + a) b (omega arith)) (ap pos (omega arith)))
-    (lt_or_ge m (suc (b - suc a)))))
+    (cases_lt m (suc (b - suc a)))))
     (λ g. rw (sub_over a b g, sub_over (m + a) b (omega arith)) (ap pos (omega arith)))
-    (lt_or_ge a b)
+    (cases_lt a b)
 
 left_over : (a b n : ℕ) → pos n ≡ sub_ℕ a b → n + b ≡ a
 left_over a b n e =
     ⊎_elim
     (λ l. let z : pos n ≡ negsuc (b - suc a) = e ∙ sub_under a b l in absurd (differ n _ z))
     (λ g. omega (arith, ap nat_abs (e ∙ sub_over a b g)))
-    (lt_or_ge a b)
+    (cases_lt a b)
   where
     differ : (n k : ℕ) → pos n ≡ negsuc k → ⊥
     differ n k z = apart {t = non_neg (pos n)} refl (ap non_neg z)
@@ -72,9 +72,9 @@ sub_mono m n a b g h =
     (⊎_elim
     (λ k. rw (sub_under n (suc b) k) (le-leb (suc b - suc n) (suc a - suc m) (omega arith)))
     (λ k. rw (sub_over n (suc b) k))
-    (lt_or_ge n (suc b))))
+    (cases_lt n (suc b))))
     (λ k. rw (sub_over m (suc a) k, sub_over n (suc b) (omega arith)) (le-leb (m - suc a) (n - suc b) (omega arith)))
-    (lt_or_ge m (suc a))
+    (cases_lt m (suc a))
 
 -- a greater reach needs no less
 pub add_mono : (m : ℕ) (x y : ℤ) → le_z x y ≡ true → le_z (pos m +ℤ x) (pos m +ℤ y) ≡ true

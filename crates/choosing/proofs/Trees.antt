@@ -9,7 +9,7 @@ use native.Mathlib.Omega.{arith}
 use borrow.Author.Tests.{lt-ltb}
 use lib.Dec.{ltb}
 use lib.ListN.{get_or}
-use Rattle.basis.proofs.Split.{either}
+use Rattle.std.proofs.lemmas.Bool.{cases_Bool}
 use Rattle.fields.specs.declared.Job.{Job}
 use Rattle.fields.specs.Fields.{count_of, section_of}
 use Rattle.wire.specs.Wire.{byte_at}
@@ -45,7 +45,7 @@ module _ {job : Job} {cat losses costs : List ℕ} (a : Accepted job) (l : Accep
         ⊎_elim
         (λ (o : over_at job cat s i ≡ true). rw (o, t.at i s first last low high, ← entry_over job cat i s o))
         (λ (o : over_at job cat s i ≡ false). rw (o, loss_held o) (lt-ltb (loss_at job cat s i) top loss_small))
-        (either (over_at job cat s i))
+        (cases_Bool (over_at job cat s i))
 
     price_held : get_or costs (i * 13 + s) 0 ≤ 50000000
     price_held = rw (u.at i s first last low high) (price_top pair)

@@ -26,7 +26,7 @@ pub fn choose(b: &[u8], cat: &[u8], work: &mut [u8], out: &mut [u8]) -> Result<(
         (number_of result) }
 {
     let (accepted, catalogue) = acceptance::accept_both(b, cat)?;
-    let count = usize::from(accepted.job.header.sections);
+    let count = accepted.job.count();
     if out.len() < 4 + count {
         return Err(Refusal::ResultShort);
     }

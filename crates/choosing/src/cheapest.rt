@@ -23,7 +23,7 @@ fn tables_of(accepted: &AcceptedJob, catalogue: &Catalogue) -> Tables
     let mut costs = [0u32; 832];
     put_options(accepted, catalogue, &mut losses, &mut costs);
     Tables {
-        sections: usize::from(job.header.sections),
+        sections: job.count(),
         sizes: usize::from(catalogue::sizes_of(catalogue.bytes)),
         parents: tree::parents_of(*job),
         needs: needs_of(accepted),

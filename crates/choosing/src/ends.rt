@@ -21,7 +21,7 @@ pub fn needs_of(accepted: &AcceptedJob) -> [u32; 64]
 {
     let job = &accepted.job;
     let mut needs = [0u32; 64];
-    for i in 1..=usize::from(job.header.sections) {
+    for i in 1..=job.count() {
         needs[i] = need(job.sections[i]);
     }
     needs

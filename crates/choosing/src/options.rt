@@ -59,7 +59,7 @@ pub fn put_options(
 {
     let flows = accepted.flows();
     let job = &accepted.job;
-    for i in 1..=usize::from(job.header.sections) {
+    for i in 1..=job.count() {
         let pipe = Pipe {
             limit: job.header.limit,
             decimetres: job.sections[i].decimetres,

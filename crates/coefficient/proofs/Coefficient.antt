@@ -6,8 +6,8 @@ use Prim.Native.Nat.{ℕ, zero, suc, ◌+◌, ◌≤◌, ◌<◌}
 use native.Mathlib.Numerals.{add-one}
 use native.Mathlib.Omega.{arith}
 use borrow.Author.Tests.{lt-ltb, le-ltb}
+use Rattle.std.proofs.lemmas.Bool.{cases_lt}
 use Rattle.basis.specs.Round.{line}
-use Rattle.basis.proofs.Split.{lt_or_ge}
 use Rattle.basis.proofs.Round.{line_low, line_high}
 use Rattle.coefficient.specs.Table.{table, key_at, value_at}
 use Rattle.coefficient.specs.Alpha.{along, alpha_of}
@@ -53,7 +53,7 @@ bounds_under m (suc n) from h high =
     let l = rising_le 0 n (omega arith) (omega arith) in
     let u = rising_le (n + 1) 485 (omega arith) (omega arith) in
     (omega (arith, first, last), omega (arith, first, last)))
-    (lt_or_ge m (key_at n))
+    (cases_lt m (key_at n))
 
 bounds : (m : ℕ) → (200000 ≤ alpha_of m) × (alpha_of m ≤ 91900000)
 bounds m =
@@ -62,8 +62,8 @@ bounds m =
     (λ from. ⊎_elim
     (λ under. bounds_under m 485 from (omega arith) (rw last.0 under))
     (λ over. rw (alpha_last m over) (omega arith, omega arith))
-    (lt_or_ge m 400000000))
-    (lt_or_ge m 15000)
+    (cases_lt m 400000000))
+    (cases_lt m 15000)
 
 pub alpha_floor : (m : ℕ) → 200000 ≤ alpha_of m
 alpha_floor m = (bounds m).0

@@ -3,7 +3,7 @@
 use Rattle.std.proofs.Common.{◌≡◌, ℕ, zero, suc, ◌+◌, ◌-◌, ◌*◌, ◌<◌, ◌≤◌, true, false, leb, List, [], ◌∷◌, length, get_or, refl, arith, leb-true, leb-false, ⊎_elim}
 use Rattle.std.proofs.lemmas.List.Sorted.{IsPartitionedBy-leb}
 use Rattle.std.specs.List.Sorted.{IsPartitionPoint, IsPartitionedBy}
-use Rattle.basis.proofs.Split.{lt_or_ge}
+use Rattle.std.proofs.lemmas.Bool.{cases_lt}
 use Rattle.coefficient.specs.Table.{table, pairs_of, pairs, key_at, value_at}
 use Rattle.coefficient.specs.Reached.{Reached}
 use Rattle.coefficient.proofs.Rising.{table_length, rising_le}
@@ -43,7 +43,7 @@ module _ (m n : ℕ) (from : 15000 ≤ m) (inside : n ≤ 486)
 
   pub some : 1 ≤ n
   unfolding table
-  some = ⊎_elim (λ z. absurd (omega (arith, high 0 (omega arith) (omega arith)))) (λ s. s) (lt_or_ge n 1)
+  some = ⊎_elim (λ z. absurd (omega (arith, high 0 (omega arith) (omega arith)))) (λ s. s) (cases_lt n 1)
 
   pub reached : Reached m (n - 1)
   reached =

@@ -5,9 +5,9 @@ use mathlib.Core.Logic.{⊎_elim}
 use lib.ListN.{set}
 use denote.Param.Members.{Mut, Called}
 use Rattle.std.specs.Array.{IsFromFnResult, IsFromFnResultFrom}
+use Rattle.std.proofs.lemmas.Bool.{cases_eq}
 use Rattle.basis.specs.Slots.{tabulate, slots}
 use Rattle.basis.proofs.Slots.{tabulated, slots_more}
-use Rattle.basis.proofs.Split.{eq_or_ne}
 
 -- a closure that each call leaves as it was, and that gives h of each place
 module _ {F A : Type 0} (g : Mut F (ℕ × Unit {0}) A) (h : ℕ → A) (f : F)
@@ -19,7 +19,7 @@ module _ {F A : Type 0} (g : Mut F (ℕ × Unit {0}) A) (h : ℕ → A) (f : F)
       ⊎_elim
       (λ (e : k ≡ i). rw e (m.2.1 d ∙ s.0))
       (λ (u : k ≡ i → ⊥). each ys d n (i + 1) (rw s.1 at m.4) k (omega arith) (omega arith))
-      (eq_or_ne k i)
+      (cases_eq k i)
 
   pub made : (n : ℕ) (ys : List A) (d : A) → IsFromFnResult g f ys n → ys ≡ tabulate n h
   made n ys d m = tabulated n h ys d m.long (λ i l. each ys d n 0 m.each i (omega arith) (omega arith))

@@ -4,8 +4,8 @@ use mathlib.Core.Path.{◌≡◌, refl, sym, ap, ◌∙◌}
 use mathlib.Core.Logic.{⊎_elim}
 use Prim.Native.Nat.{ℕ, ◌*◌, ◌≤◌, ◌<◌}
 use native.Mathlib.Omega.{arith}
+use Rattle.std.proofs.lemmas.Bool.{cases_lt}
 use Rattle.basis.proofs.Sum.{sum_ext}
-use Rattle.basis.proofs.Split.{lt_or_ge}
 use Rattle.fields.specs.declared.Job.{Job}
 use Rattle.fields.specs.Fields.{service_of, residents_of}
 use Rattle.tree.specs.Tree.{house_of}
@@ -60,7 +60,7 @@ module _ (a b : Job) (n : ℕ → ℕ) (services : service_of a ≡ service_of b
       ⊎_elim
       (λ h. cc (share_is a kind n, share_is b kind n, ap (λ s. norm_of s kind) services, residents kind p q h, houses kind p q h))
       (λ z. let e : n kind ≡ 0 = omega arith in share_zero a kind n e ∙ sym (share_zero b kind n e))
-      (lt_or_ge 0 (n kind))
+      (cases_lt 0 (n kind))
 
   pub flow_depends : flow_of a n ≡ flow_of b n
   flow_depends = flow_agree a b n n services share_depends (λ kind p q. refl)

@@ -8,10 +8,10 @@ use native.Mathlib.Nat.{pos_of_ne-zero}
 use native.Mathlib.Omega.{arith}
 use lib.Dec.{eqb}
 use borrow.Author.Tests.{eqb-true, eq-eqb, not-false}
+use Rattle.std.proofs.lemmas.Bool.{cases_Bool}
 use Rattle.basis.specs.Range.{any_to}
 use Rattle.basis.proofs.Bools.{not_both}
 use Rattle.basis.proofs.Each.{Found, any_at, any_found}
-use Rattle.basis.proofs.Split.{either}
 use Rattle.fields.specs.declared.Job.{Job}
 use Rattle.fields.specs.Fields.{count_of, section_of}
 use Rattle.tree.specs.Tree.{own_of, served_of, house_of, Rooted}
@@ -73,7 +73,7 @@ module _ {job : Job} (r : Valid job) where
       let e : (section_of job f.place).parent ≡ i = eqb-true (section_of job f.place).parent i f.holds in
       let l : (section_of job f.place).parent < f.place = rooted.lower f.place f.low f.high in
       serves_more (λ kind. served_child rooted i f.place kind f.low f.high e) (serves_from n f.place (omega arith) f.low f.high))
-      (either (childless job i))
+      (cases_Bool (childless job i))
 
   pub serves : (i : ℕ) → 0 < i → i ≤ count_of job → Serves (served_of job i)
   serves i a b = serves_from (suc (count_of job)) i (omega arith) a b

@@ -5,9 +5,9 @@ use mathlib.Core.Logic.{⊎_elim}
 use Prim.Native.Nat.{ℕ, ◌*◌, ◌≤◌, ◌<◌}
 use native.Mathlib.Omega.{arith}
 use borrow.Author.Tests.{lt-ltb}
+use Rattle.std.proofs.lemmas.Bool.{cases_lt}
 use Rattle.basis.specs.Range.{most_to}
 use Rattle.basis.proofs.Most.{Reached, most_bound, most_le, most_ext, most_reached}
-use Rattle.basis.proofs.Split.{lt_or_ge}
 use Rattle.fields.specs.declared.Job.{Job}
 use Rattle.fields.specs.Fields.{service_of}
 use Rattle.norms.specs.Norms.{norm_of}
@@ -26,7 +26,7 @@ module _ (job : Job) (n : ℕ → ℕ) (kind : ℕ) where
       ⊎_elim
       (λ (h : 0 < n kind). rw (tap_served h) (norm_at_lem job kind p q).fixture.high)
       (λ (h : n kind ≤ 0). omega (arith, tap_none (omega arith)))
-      (lt_or_ge 0 (n kind))
+      (cases_lt 0 (n kind))
 
 -- a kind served whose Z is the largest
 pub record Largest (job : Job) (n : ℕ → ℕ) : Type 0 where
@@ -53,7 +53,7 @@ module _ (job : Job) (n : ℕ → ℕ) where
       ⊎_elim
       (λ (p : 0 < n r.place). p)
       (λ (z : n r.place ≤ 0). absurd (omega (arith, one_tap_is job n, r.by, tap_none job n r.place (omega arith))))
-      (lt_or_ge 0 (n r.place)) in
+      (cases_lt 0 (n r.place)) in
       record {
         kind = r.place;
         low = r.low;

@@ -8,8 +8,8 @@ use native.Mathlib.Omega.{arith}
 use native.Mathlib.Nat.{mul_comm, mul-le-mul_left}
 use lib.Dec.{ltb}
 use borrow.Author.Tests.{ltb-false}
+use Rattle.std.proofs.lemmas.Bool.{or_parts}
 use Rattle.basis.specs.Range.{sum_to}
-use Rattle.basis.proofs.Bools.{neither}
 use Rattle.basis.proofs.Sum.{sum_mono, sum_scale, sum_at}
 use Rattle.answer.proofs.First.{first_clear}
 use Rattle.fields.specs.declared.Job.{Job}
@@ -87,7 +87,7 @@ module _ {job : Job} (a : Accepted job) where
 
   tops : (ltb 400000000 (m_of job (house_of job)) ≡ false) × (ltb 400000000 (hour_sum_of job) ≡ false)
   unfolding over_sum
-  tops = neither _ _ sums_fit
+  tops = or_parts _ _ sums_fit
 
   pub house_m_top : m_of job (house_of job) ≤ 400000000
   house_m_top = ltb-false 400000000 (m_of job (house_of job)) tops.0

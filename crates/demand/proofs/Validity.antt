@@ -6,7 +6,8 @@ use Prim.Native.Nat.{ℕ, ◌≤◌, ◌<◌}
 use native.Mathlib.Nat.{pos_of_ne-zero}
 use lib.Dec.{eqb, ltb}
 use borrow.Author.Tests.{eq-eqb, lt-ltb}
-use Rattle.basis.proofs.Bools.{neither, not_both}
+use Rattle.std.proofs.lemmas.Bool.{or_parts}
+use Rattle.basis.proofs.Bools.{not_both}
 use Rattle.basis.proofs.Each.{any_at}
 use Rattle.basis.proofs.Within.{Within}
 use Rattle.fields.specs.declared.Job.{Job}
@@ -57,7 +58,7 @@ module _ {job : Job} (r : Valid job) where
     -- neither is zero without the other
     even : (ltb 0 (residents_of job kind) && eqb (house_of job kind) 0 ≡ false) × (eqb (residents_of job kind) 0 && ltb 0 (house_of job kind) ≡ false)
     unfolding unmatched
-    even = neither _ _ (any_at 12 (odd_at job) valid_residents kind low high)
+    even = or_parts _ _ (any_at 12 (odd_at job) valid_residents kind low high)
 
     pub residents_match : 0 < house_of job kind → 0 < residents_of job kind
     residents_match h = pos_of_ne-zero (λ z. not_both _ _ even.1 (eq-eqb (residents_of job kind) 0 z) (lt-ltb 0 (house_of job kind) h))

@@ -42,7 +42,7 @@ impl AcceptedJob {
         let served = tree.counts();
         let table = coefficient::table2();
         let mut flows = [0; 64];
-        for i in 1..=usize::from(self.job.header.sections) {
+        for i in 1..=self.job.count() {
             flows[i] = flow(table, sums_of(&tree, &served, i));
         }
         flows

@@ -31,7 +31,7 @@ fn section_needs_table_one(tree: &Tree, served: &[u32; 768], sets: &[u64; 64]) -
     ensures { result ≡ any_to (count_of tree.now.job.now)
         (λ i. needs_table_one (m_of tree.now.job.now (served_of tree.now.job.now i)) (fixtures_below tree.now.job.now i)) }
 {
-    (1..usize::from(tree.job.header.sections) + 1).any(|i| {
+    (1..tree.job.count() + 1).any(|i| {
         let sums = sums_of(tree, served, i);
         let fixtures = tree.fixtures_below(sets[i], i);
         needs_table_one(sums.m, fixtures)

@@ -7,7 +7,7 @@ use mathlib.Core.List.{List, [], ◌∷◌, ◌++◌}
 use Prim.Native.Nat.{ℕ}
 use lib.ListN.{length}
 use borrow.Author.Tests.{ne_eqb}
-use Rattle.basis.proofs.Split.{eq_or_ne}
+use Rattle.std.proofs.lemmas.Bool.{cases_eq}
 use Rattle.answer.specs.Checks.{first_no}
 use Rattle.rules.specs.Rules.{field_checks}
 use Rattle.job.specs.Calls.{shape_checks, read_checks, read_no, write_checks, write_no, copy_checks, copy_no}
@@ -50,7 +50,7 @@ checked call checks e {n = n} number kept =
       answer = ⊎_elim
           inl
           (λ other. inr (rw (number, ← e) (⊎_elim (λ z. absurd (other (number ∙ z))) (λ a. a) (first_among checks)), kept other))
-          (eq_or_ne n 0);
+          (cases_eq n 0);
       workspace = λ other not_16. refl;
     }
 
@@ -77,7 +77,7 @@ chosen_answered {b} {cat} {out₀} {work₀} {out} {work} {n} c =
           (rw r.number (among_more (first_no checks) (numbers checks) (16 ∷ []) (⊎_elim (λ z. absurd (other z)) (λ a. a) (first_among checks))), r.kept);
       workspace = λ no not_16. r.untouched;
     })
-    (eq_or_ne (choose_no b cat (length out₀) (length work₀)) 0)
+    (cases_eq (choose_no b cat (length out₀) (length work₀)) 0)
 
 answered : {call : Call} {out₀ out work₀ work : List ℕ} {n : ℕ} → Called call out₀ out work₀ work n → Answered call out₀ out work₀ work n
 unfolding

@@ -6,9 +6,9 @@ use mathlib.Core.List.{List, ◌++◌, append_assoc}
 use Prim.Native.Nat.{ℕ, ◌≤◌, ◌<◌}
 use native.Mathlib.Omega.{arith}
 use lib.ListN.{length}
+use Rattle.std.proofs.lemmas.Bool.{cases_eq}
 use Rattle.basis.specs.Sections.{size_of}
 use Rattle.basis.proofs.Part.{part_front, part_right}
-use Rattle.basis.proofs.Split.{eq_or_ne}
 use Rattle.basis.proofs.Stored.{stored_front}
 use Rattle.basis.proofs.Sum.{sum_le}
 use Rattle.wire.specs.Wire.{be_at, bytes_of}
@@ -91,10 +91,10 @@ module _ (b cat : List ℕ) (accepted : input_no b cat ≡ 0) where
 -- a list is returned only where nothing was found before the search, and so to accepted inputs
 module _ {b cat out₀ work₀ out work : List ℕ} (c : Chosen b cat out₀ work₀ out work 0) where
   ready : choose_no b cat (length out₀) (length work₀) ≡ 0
-  ready = ⊎_elim (λ e. e) (λ n. sym (c.refused n).number) (eq_or_ne (choose_no b cat (length out₀) (length work₀)) 0)
+  ready = ⊎_elim (λ e. e) (λ n. sym (c.refused n).number) (cases_eq (choose_no b cat (length out₀) (length work₀)) 0)
 
   accepted_of : input_no b cat ≡ 0
-  accepted_of = ⊎_elim (λ e. e) (λ n. absurd (n (sym (choose_inputs b cat (length out₀) (length work₀) n) ∙ ready))) (eq_or_ne (input_no b cat) 0)
+  accepted_of = ⊎_elim (λ e. e) (λ n. absurd (n (sym (choose_inputs b cat (length out₀) (length work₀) n) ∙ ready))) (cases_eq (input_no b cat) 0)
 
   result_of : Returned (decode b) cat out
   result_of = ⊎_elim (λ u. absurd (omega (arith, u.number))) (λ f. returned_of b cat accepted_of f) (c.chosen ready)

@@ -8,7 +8,7 @@ use Prim.Native.Nat.{ℕ, ◌+◌, ◌≤◌}
 use native.Mathlib.Omega.{arith}
 use lib.ListN.{length, drop}
 use borrow.Author.Tests.{eq-eqb}
-use Rattle.basis.proofs.Split.{either, eq_or_ne}
+use Rattle.std.proofs.lemmas.Bool.{cases_Bool, cases_eq}
 use Rattle.basis.proofs.Stored.{stored_front}
 use Rattle.answer.specs.Checks.{first_no}
 use Rattle.wire.specs.Wire.{byte_at, be_at, bytes_of}
@@ -85,14 +85,14 @@ module _ {one two : List ℕ} (same : Counterparts one two) where
       (λ (e : job_no one ≡ 0).
       flow_done two room' (number_same ∙ e) (rw (count_same same) (fits e).1) ∙ sym (flow_done one room e (fits e).0))
       (λ (n : job_no one ≡ 0 → ⊥). flow_refused two room' (refused_too n) ∙ number_same ∙ sym (flow_refused one room n))
-      (eq_or_ne (job_no one) 0)
+      (cases_eq (job_no one) 0)
 
   duty_number : (room room' : ℕ) → Fits 4 room room' → duty_no two room' ≡ duty_no one room
   duty_number room room' fits =
       ⊎_elim
       (λ (e : job_no one ≡ 0). duty_done two room' (number_same ∙ e) (fits e).1 ∙ sym (duty_done one room e (fits e).0))
       (λ (n : job_no one ≡ 0 → ⊥). duty_refused two room' (refused_too n) ∙ number_same ∙ sym (duty_refused one room n))
-      (eq_or_ne (job_no one) 0)
+      (cases_eq (job_no one) 0)
 
   heads_number : (losses : List ℕ) (room room' : ℕ) → Fits heads_length room room' → heads_no two losses room' ≡ heads_no one losses room
   heads_number losses room room' fits =
@@ -102,9 +102,9 @@ module _ {one two : List ℕ} (same : Counterparts one two) where
       heads_done two losses room' (number_same ∙ e) (rw (count_same same) ok) (fits e).1 ∙ sym (heads_done one losses room e ok (fits e).0))
       (λ (not-ok : losses_ok (count_of (decode one)) losses ≡ false).
       heads_listed two losses room' (number_same ∙ e) (rw (count_same same) not-ok) ∙ sym (heads_listed one losses room e not-ok))
-      (either (losses_ok (count_of (decode one)) losses)))
+      (cases_Bool (losses_ok (count_of (decode one)) losses)))
       (λ (n : job_no one ≡ 0 → ⊥). heads_refused two losses room' (refused_too n) ∙ number_same ∙ sym (heads_refused one losses room n))
-      (eq_or_ne (job_no one) 0)
+      (cases_eq (job_no one) 0)
 
   sized_number : (cat list : List ℕ) (long room room' : ℕ) → Fits long room room' → sized_no two cat list room' long ≡ sized_no one cat list room long
   sized_number cat list long room room' fits =
@@ -154,7 +154,7 @@ module _ {one two : List ℕ} (same : Counterparts one two) where
         let found = s.otherwise other in
         let found' = s'.otherwise (λ e. s'.none e _ (suits_two cat _ found.1.suits)) in
         (found'.0 ∙ sym found.0, λ z. reported_same found.1 found'.1))
-        (eq_or_ne n 16)
+        (cases_eq n 16)
 
   chosen_same : (cat : List ℕ) {out₀ out out₀' out' work₀ work work₀' work' : List ℕ} {n n' : ℕ} → Ample one out₀ work₀ → Ample two out₀' work₀' →
       Chosen one cat out₀ work₀ out work n → Chosen two cat out₀' work₀' out' work' n' → (n' ≡ n) × (n ≡ 0 → reported out' ≡ reported out)
@@ -172,7 +172,7 @@ module _ {one two : List ℕ} (same : Counterparts one two) where
       let number : n ≡ input_no one cat = (c.refused (λ e. some (sym first ∙ e))).number ∙ first in
       let number' : n' ≡ input_no two cat = (c'.refused (λ e. some (sym (input_same cat) ∙ sym second ∙ e))).number ∙ second in
       (number' ∙ input_same cat ∙ sym number, λ z. absurd (some (sym number ∙ z))))
-      (eq_or_ne (input_no one cat) 0)
+      (cases_eq (input_no one cat) 0)
 
   alike : VersionsAlike one two
   alike =

@@ -9,8 +9,8 @@ use lib.Dec.{ltb}
 use lib.IntN.{pos, ◌+ℤ◌}
 use lib.Signed.{le_z}
 use borrow.Author.Tests.{le-ltb, ltb-false, not-false}
+use Rattle.std.proofs.lemmas.Bool.{or_parts}
 use Rattle.basis.specs.Sections.{size_of, path_of}
-use Rattle.basis.proofs.Bools.{neither}
 use Rattle.basis.proofs.Each.{any_at, any_each}
 use Rattle.basis.proofs.Paths.{path_mono}
 use Rattle.fields.specs.declared.Job.{Job}
@@ -35,7 +35,7 @@ use Rattle.demands.specs.SmallFlows.{Lower}
 over_lower : {r other : SizeAtFlow} (limit : ℕ) → Lower r other → over_by limit other ≡ false → over_by limit r ≡ false
 unfolding over_by
 over_lower {r} {other} limit l e =
-    let parts = neither (not other.serves) (ltb limit other.velocity) e in
+    let parts = or_parts (not other.serves) (ltb limit other.velocity) e in
     let fast : other.velocity ≤ limit = ltb-false limit other.velocity parts.1 in
     rw (l.serves, not-false other.serves parts.0, le-ltb limit r.velocity (omega (arith, l.velocity)))
 

@@ -9,8 +9,8 @@ use native.Mathlib.Omega.{arith}
 use lib.IntN.{ℤ, pos, negsuc, sub_ℕ, ◌+ℤ◌}
 use lib.Signed.{le_z}
 use borrow.Author.Tests.{lt-ltb, le-ltb, le-leb, leb-true}
+use Rattle.std.proofs.lemmas.Bool.{cases_lt}
 use Rattle.basis.proofs.Bools.{left}
-use Rattle.basis.proofs.Split.{lt_or_ge}
 use Rattle.fields.specs.Fields.{count_of, section_of}
 use Rattle.record.specs.Record.{decode}
 use Rattle.rules.specs.Rules.{elevation_ok}
@@ -26,7 +26,7 @@ use Rattle.heads.proofs.Signed.{le_trans}
 
 difference : (n a b : ℕ) → b ≤ suc n → le_z (negsuc n) (sub_ℕ a b) ≡ true
 difference n a b h =
-    ⊎_elim (λ lt. rw (lt-ltb a b lt) (le-leb _ n (omega arith))) (λ ge. rw (le-ltb a b ge)) (lt_or_ge a b)
+    ⊎_elim (λ lt. rw (lt-ltb a b lt) (le-leb _ n (omega arith))) (λ ge. rw (le-ltb a b ge)) (cases_lt a b)
 
 -- what is added leaves a number above its least
 add_behind : (n : ℕ) (z : ℤ) (a : ℕ) → le_z (negsuc n) z ≡ true → le_z (negsuc n) (z +ℤ pos a) ≡ true

@@ -7,9 +7,9 @@ use mathlib.Core.List.{List, [], ◌∷◌, ◌++◌}
 use Prim.Native.Nat.{ℕ, ◌≤◌, ◌<◌}
 use native.Mathlib.Omega.{arith}
 use lib.ListN.{length, drop}
+use Rattle.std.proofs.lemmas.Bool.{cases_Bool, cases_lt}
 use Rattle.basis.proofs.Bools.{apart}
 use Rattle.basis.proofs.Part.{part_front, part_right}
-use Rattle.basis.proofs.Split.{either, lt_or_ge}
 use Rattle.basis.proofs.Stored.{stored_front}
 use Rattle.wire.specs.Wire.{be_at}
 use Rattle.fields.specs.declared.Job.{Job}
@@ -48,8 +48,8 @@ wins_of job meters some =
           ⊎_elim
           (λ (less : meter_loss_at job meters t < meter_loss_at job meters u). inl less)
           (λ (ge : meter_loss_at job meters u ≤ meter_loss_at job meters t). let le = winner_bound meters q mean some u f.low f.high f.by in inr (omega arith, over))
-          (lt_or_ge (meter_loss_at job meters t) (meter_loss_at job meters u)))
-          (lt_or_ge u t);
+          (cases_lt (meter_loss_at job meters t) (meter_loss_at job meters u)))
+          (cases_lt u t);
     }
 
 -- a result
@@ -125,7 +125,7 @@ module _ (job meters out₀ out : List ℕ) (n : ℕ) (accepted : job_no job ≡
         only = λ z. absurd (z _ (wins_of (decode job) meters e).qualified);
         otherwise = λ other. (no, metered_of job meters out₀ out (rw no at g));
       })
-      (either (none_qualifies meters (house_flow (decode job)) (mean_of (decode job))))
+      (cases_Bool (none_qualifies meters (house_flow (decode job)) (mean_of (decode job))))
 
 -- the meter loss that a job has plays no part
 module _ (job other meters : List ℕ) (same : SameBut meter_place 2 job other) (accepted : job_no job ≡ 0) where

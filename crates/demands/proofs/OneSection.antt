@@ -7,8 +7,8 @@ use mathlib.Core.List.{List, [], ◌∷◌}
 use Prim.Native.Nat.{ℕ, ◌≤◌}
 use native.Mathlib.Omega.{arith}
 use lib.ListN.{length}
+use Rattle.std.proofs.lemmas.Bool.{cases_eq}
 use Rattle.basis.specs.Stored.{stored}
-use Rattle.basis.proofs.Split.{eq_or_ne}
 use Rattle.fields.specs.declared.Job.{Job}
 use Rattle.fields.specs.Fields.{count_of}
 use Rattle.record.specs.Record.{decode}
@@ -26,7 +26,7 @@ pub one_size : (job : Job) → count_of job ≡ 1 → (y : List ℕ) → list_ok
 one_size job one [] e = absurd (omega (arith, one, list_long job own_cat [] e))
 one_size job one (x ∷ []) e =
     let w = list_names job own_cat (x ∷ []) e 1 (omega arith) (omega (arith, one)) in
-    ⊎_elim (λ two. inr (ap (λ n. n ∷ []) two)) (λ other. inl (ap (λ n. n ∷ []) (omega arith))) (eq_or_ne x 2)
+    ⊎_elim (λ two. inr (ap (λ n. n ∷ []) two)) (λ other. inl (ap (λ n. n ∷ []) (omega arith))) (cases_eq x 2)
 one_size job one (x ∷ z ∷ l) e = absurd (omega (arith, one, list_long job own_cat (x ∷ z ∷ l) e))
 
 -- the call on an accepted job, with enough of both buffers

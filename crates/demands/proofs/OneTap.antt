@@ -5,7 +5,7 @@ use mathlib.Core.Logic.{inl, inr, ⊎_elim}
 use mathlib.Core.List.{List}
 use Prim.Native.Nat.{ℕ, ◌≤◌, ◌<◌}
 use native.Mathlib.Omega.{arith}
-use Rattle.basis.proofs.Split.{lt_or_ge}
+use Rattle.std.proofs.lemmas.Bool.{cases_lt}
 use Rattle.fields.specs.declared.Job.{Job}
 use Rattle.record.specs.Record.{decode}
 use Rattle.tree.specs.Tree.{served_of, house_of}
@@ -36,12 +36,12 @@ module _ (job : Job) (n : ℕ → ℕ) where
       record {
         average = omega (arith, flow_is job n);
         taps = λ kind s. omega (arith, flow_is job n, one_tap_bound job n kind s.low s.high s.some);
-        reached = ⊎_elim (λ h. inr (tap_sets h)) (λ h. inl (average_sets h)) (lt_or_ge (average_flow_of job n) (one_tap_of job n));
+        reached = ⊎_elim (λ h. inr (tap_sets h)) (λ h. inl (average_sets h)) (cases_lt (average_flow_of job n) (one_tap_of job n));
         kept = λ taps.
             ⊎_elim
             (λ h. let d = tap_sets h in absurd (omega (arith, flow_is job n, d.by, taps d.kind d.served)))
             (λ h. average_sets h)
-            (lt_or_ge (average_flow_of job n) (one_tap_of job n));
+            (cases_lt (average_flow_of job n) (one_tap_of job n));
       }
 
 judged : (job : Job) (out cat : List ℕ) (s i : ℕ) → flow_in out i ≡ section_flow job i → Judged job out cat s i

@@ -8,9 +8,9 @@ use Prim.Native.Nat.{ℕ, ◌+◌, ◌-◌, ◌*◌, ◌≤◌, ◌<◌}
 use native.Mathlib.Nat.{mul_comm}
 use native.Mathlib.Omega.{arith}
 use borrow.Author.Tests.{lt-ltb, le-ltb}
+use Rattle.std.proofs.lemmas.Bool.{cases_lt}
 use Rattle.basis.specs.Round.{up}
 use Rattle.basis.proofs.Round.{up_whole}
-use Rattle.basis.proofs.Split.{lt_or_ge}
 use Rattle.basis.specs.Sections.{size_of}
 use Rattle.wire.specs.Wire.{be_at}
 use Rattle.fields.specs.declared.Job.{Job}
@@ -70,7 +70,7 @@ module _ {rows : List ℕ} {n : ℕ} (r : Rows rows n) (q : ℕ) where
       ⊎_elim
       (λ (h : q < flow_at rows 0). rw (before_under h, reading_low r q (omega arith)) (line_lower (omega arith)))
       (λ (h : flow_at rows 0 ≤ q). rw (before_beyond h) (record { serves = refl; velocity = omega arith; slope = omega arith }))
-      (lt_or_ge q (flow_at rows 0))
+      (cases_lt q (flow_at rows 0))
 
   -- at the first row's flow
   whole : (value : ℕ) → q ≡ flow_at rows 0 → up (q * value) (flow_at rows 0) ≡ value

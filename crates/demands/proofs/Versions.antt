@@ -11,10 +11,10 @@ use lib.Dec.{eqb}
 use lib.IntN.{pos, ◌+ℤ◌}
 use lib.Signed.{le_z}
 use borrow.Author.Tests.{eq-eqb, ne_eqb, le-ltb}
+use Rattle.std.proofs.lemmas.Bool.{cases_eq}
 use Rattle.basis.specs.Sections.{size_of}
 use Rattle.basis.proofs.Concat.{concat_ext}
 use Rattle.basis.proofs.Each.{any_ext}
-use Rattle.basis.proofs.Split.{eq_or_ne}
 use Rattle.basis.proofs.Slots.{tabulate_ext, slots_ext}
 use Rattle.wire.specs.Wire.{byte_at, be_at, bytes_of}
 use Rattle.wire.proofs.Fields.{be_same}
@@ -193,7 +193,7 @@ eqb_more a b =
     ⊎_elim
     (λ (e : a ≡ b). eq-eqb (a + 1) (b + 1) (omega arith) ∙ sym (eq-eqb a b e))
     (λ (n : a ≡ b → ⊥). ne_eqb (a + 1) (b + 1) (λ e. n (omega arith)) ∙ sym (ne_eqb a b n))
-    (eq_or_ne a b)
+    (cases_eq a b)
 
 module _ {one two : List ℕ} (same : Counterparts one two) where
   -- a field of the head, and one of a section

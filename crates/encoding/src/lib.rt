@@ -81,7 +81,7 @@ pub fn put_job(out: &mut [u8], job: Job)
     ensures { out.new ≡ stored out.old 0 (encode job) }
 {
     let header = job.header;
-    let count = usize::from(header.sections);
+    let count = job.count();
     put_header(out, header);
     wire::put_all(out, 16, &job.residents);
     put_service(out, header);

@@ -36,3 +36,16 @@ pub struct Job {
     // No heap: 64 places, of which the head's count says how many are sections.
     pub sections: [Section; 64],
 }
+
+impl Job {
+    ghost use Rattle.std.specs.Prelude.{◌≡◌, ◌≤◌};
+    ghost use Rattle.fields.specs.Fields.{count_of};
+
+    /// S, the number of sections.
+    pub fn count(&self) -> usize
+        ensures is { result ≡ count_of self.now }
+        ensures small { result ≤ 255 }
+    {
+        usize::from(self.header.sections)
+    }
+}

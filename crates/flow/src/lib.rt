@@ -34,7 +34,7 @@ fn put_result(out: &mut [u8], accepted: &AcceptedJob)
     requires { flow_length (count_of accepted.now.job) ≤ length out.old }
     ensures { out.new ≡ stored out.old 0 (flow_bytes accepted.now.job) }
 {
-    let count = usize::from(accepted.job.header.sections);
+    let count = accepted.job.count();
     let flows = accepted.flows();
     put_house(
         out,
@@ -52,7 +52,7 @@ pub fn flow(b: &[u8], out: &mut [u8]) -> Result<(), Refusal>
     ensures buffer { out.new ≡ buffer_after (number_of result) (flow_bytes (decode b.now)) out.old }
 {
     let accepted = accept(b)?;
-    let count = usize::from(accepted.job.header.sections);
+    let count = accepted.job.count();
     if out.len() < 12 + 4 * count {
         return Err(Refusal::ResultShort);
     }

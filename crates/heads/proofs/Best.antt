@@ -6,7 +6,8 @@ use Prim.Native.Nat.{ℕ, suc, ◌-◌, ◌<◌}
 use native.Mathlib.Omega.{arith}
 use lib.IntN.{ℤ}
 use lib.Signed.{lt_z, le_z}
-use Rattle.basis.proofs.Bools.{never, apart}
+use Rattle.std.proofs.lemmas.Bool.{false_from_ne_true}
+use Rattle.basis.proofs.Bools.{apart}
 use Rattle.fields.specs.declared.Job.{Job}
 use Rattle.fields.specs.Fields.{count_of}
 use Rattle.heads.specs.Signed.{greater}
@@ -48,7 +49,7 @@ module _ {f : ℕ → ℤ} {most z : ℤ} {section i k : ℕ} (b : Best f (i - 1
               holds = le_self (f i);
               first = λ j h m.
                   let under : le_z (f j) most ≡ true = rw b.greatest (greatest_bound f (i - 1) j h (omega arith)) in
-                  never (le_z (f i) (f j)) (λ t. apart (le_trans (f i) (f j) most t under) above);
+                  false_from_ne_true (le_z (f i) (f j)) (λ t. apart (le_trans (f i) (f j) most t under) above);
             };
       })
 

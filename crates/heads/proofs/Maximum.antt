@@ -8,7 +8,7 @@ use native.Mathlib.Omega.{arith}
 use mathlib.Core.Bool.{true}
 use lib.IntN.{ℤ}
 use lib.Signed.{le_z}
-use Rattle.basis.proofs.Split.{either}
+use Rattle.std.proofs.lemmas.Bool.{cases_Bool}
 use Rattle.heads.specs.Signed.{greater}
 use Rattle.heads.specs.Heads.{greatest_to}
 use Rattle.heads.proofs.Signed.{le_self, le_trans, le_total, greater_first, greater_second}
@@ -40,7 +40,7 @@ module _ (f : ℕ → ℤ) where
       (⊎_elim (λ q. rw q (le_self b)) (λ l. le_trans (f i) a b (greatest_bound n i h (omega arith)) t) (eq-or-lt_of_le k)))
       (λ t. let u = le_total a b t in
       rw (greater_first a b u) (⊎_elim (λ q. rw q u) (λ l. greatest_bound n i h (omega arith)) (eq-or-lt_of_le k)))
-      (either (le_z a b)))
+      (cases_Bool (le_z a b)))
 
   pub greatest_reached : (n : ℕ) → 0 < n → Reached n f
   greatest_reached zero h = absurd (omega arith)
@@ -62,7 +62,7 @@ module _ (f : ℕ → ℤ) where
         high = omega (arith, r.high);
         reached = greatest_more (suc n) ∙ greater_first a b (le_total a b t) ∙ r.reached;
       })
-      (either (le_z a b))
+      (cases_Bool (le_z a b))
 
 pub greatest_ext : (f g : ℕ → ℤ) (n : ℕ) → 0 < n → ((i : ℕ) → 0 < i → i ≤ n → f i ≡ g i) → greatest_to n f ≡ greatest_to n g
 greatest_ext f g zero h e = absurd (omega arith)

@@ -50,7 +50,7 @@ pub fn heads(b: &[u8], given: &[u8], out: &mut [u8]) -> Result<(), Refusal>
         (lent_bytes (decode b.now) given.now) out.old }
 {
     let accepted = accept(b)?;
-    let count = usize::from(accepted.job.header.sections);
+    let count = accepted.job.count();
     let losses = read_losses(given, count).ok_or(Refusal::LossList)?;
     if out.len() < HEADS_LENGTH {
         return Err(Refusal::ResultShort);

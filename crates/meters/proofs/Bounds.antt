@@ -7,8 +7,9 @@ use Prim.Native.Nat.{ℕ, ◌*◌, ◌≤◌}
 use lib.ListN.{length}
 use lib.Dec.{leb, eqb}
 use borrow.Author.Tests.{leb-true, eq-eqb, eqb-true}
+use Rattle.std.proofs.lemmas.Bool.{false_from_ne_true}
 use Rattle.basis.specs.Range.{within, all_to}
-use Rattle.basis.proofs.Bools.{left, right, never}
+use Rattle.basis.proofs.Bools.{left, right}
 use Rattle.basis.proofs.Within.{Within, within_in, in_within}
 use Rattle.meters.specs.declared.Meter.{Meter}
 use Rattle.meters.specs.Meters.{meters_in, meter_at, meter_ok, meters_ok}
@@ -30,7 +31,7 @@ module _ (m : Meter) where
       }
 
   pub meter_refused : (MeterIn m → ⊥) → false ≡ meter_ok m
-  meter_refused n = sym (never (meter_ok m) (λ e. n (meter_in e)))
+  meter_refused n = sym (false_from_ne_true (meter_ok m) (λ e. n (meter_in e)))
 
 pub record ListIn (list : List ℕ) : Type 0 where
   pub few : Within 1 8 (meters_in list)
@@ -53,4 +54,4 @@ module _ (list : List ℕ) where
   in_list b = rw (in_within 1 8 (meters_in list) b.few, eq-eqb (length list) (5 * meters_in list) b.whole, b.each)
 
   pub list_refused : (ListIn list → ⊥) → false ≡ meters_ok list
-  list_refused n = sym (never (meters_ok list) (λ e. n (list_in e)))
+  list_refused n = sym (false_from_ne_true (meters_ok list) (λ e. n (list_in e)))

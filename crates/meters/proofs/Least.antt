@@ -10,8 +10,8 @@ use native.Mathlib.Nat.{eq-or-lt_of_le}
 use native.Mathlib.Omega.{arith}
 use lib.Dec.{leb}
 use borrow.Author.Tests.{le-leb, leb-true, lt-ltb, ltb-true, not-true, not-false}
-use Rattle.basis.proofs.Bools.{apart, left, right, never, not_both}
-use Rattle.basis.proofs.Split.{either, lt_or_ge}
+use Rattle.std.proofs.lemmas.Bool.{false_from_ne_true, cases_Bool, cases_lt}
+use Rattle.basis.proofs.Bools.{apart, left, right, not_both}
 use Rattle.basis.proofs.Each.{Found, all_at, all_each, any_at, any_found}
 use Rattle.basis.proofs.Lowest.{lowest_only, lowest_none}
 use Rattle.meters.specs.Meters.{meters_in, meter_at, meter_loss, qualifies, none_qualifies, least_at, winner_of}
@@ -56,7 +56,7 @@ module _ (list : List ℕ) (q mean : ℕ) where
     leads_same other =
         record {
           bound = λ u p k f. ⊎_elim
-              (λ (z : u ≡ t). ⊎_elim (λ lt. absurd (other lt (rw (← z) f))) (λ ge. rw z ge) (lt_or_ge (loss t) least))
+              (λ (z : u ≡ t). ⊎_elim (λ lt. absurd (other lt (rw (← z) f))) (λ ge. rw z ge) (cases_lt (loss t) least))
               (λ lt. l.bound u p (omega arith) f)
               (eq-or-lt_of_le k);
           held = ⊎_elim
@@ -85,7 +85,7 @@ module _ (list : List ℕ) (q mean : ℕ) where
         ⊎_elim
         (λ (e : (fits t && beats (loss t) best) ≡ true). rw e (take best l (left (fits t) (beats (loss t) best) e) (right (fits t) (beats (loss t) best) e)))
         (λ (e : (fits t && beats (loss t) best) ≡ false). rw e (pass best l e))
-        (either (fits t && beats (loss t) best))
+        (cases_Bool (fits t && beats (loss t) best))
 
     pub best_last : (m : ℕ) → m ≡ t → (best : Option (ℕ × ℕ)) → Best n best → Best m (better best t (meter_at list t) q mean)
     best_last m e best l = rw e (best_more best l)
@@ -113,12 +113,12 @@ module _ (list : List ℕ) (q mean : ℕ) where
             ⊎_elim
             (λ (f : fits u ≡ true). rw (f, le-leb (loss t) (loss u) (bound u p k f)))
             (λ (f : fits u ≡ false). rw f)
-            (either (fits u))),
+            (cases_Bool (fits u))),
       )
 
   -- over the whole list
   leads_none : {place : ℕ} → Leads (meters_in list) place 501 → (u : ℕ) → 0 < u → u ≤ meters_in list → fits u ≡ false
-  leads_none l u p k = never (fits u) (λ f. omega (arith, l.bound u p k f, loss_top (meter_at list u) q mean f))
+  leads_none l u p k = false_from_ne_true (fits u) (λ f. omega (arith, l.bound u p k f, loss_top (meter_at list u) q mean f))
 
   leads_first : {place : ℕ} → Leads (meters_in list) place (loss place) → First (meters_in list) place → place ≡ winner_of list q mean
   unfolding winner_of
@@ -128,7 +128,7 @@ module _ (list : List ℕ) (q mean : ℕ) where
         low = f.low;
         high = f.high;
         holds = least_of place f.fit l.bound;
-        first = λ u p lt. never (least_at list q mean u) (λ e.
+        first = λ u p lt. false_from_ne_true (least_at list q mean u) (λ e.
             omega (arith, least_bound u place e f.low f.high f.fit, f.lower u p lt (least_fits u e)));
       })
 
@@ -139,7 +139,7 @@ module _ (list : List ℕ) (q mean : ℕ) where
       (λ none.
       let at : Leads (meters_in list) place 501 = rw none.1 at l in
       none.0 ∙
-      sym (lowest_none (meters_in list) (least_at list q mean) (λ u p k. never (least_at list q mean u) (λ e. apart (least_fits u e) (leads_none at u p k)))))
+      sym (lowest_none (meters_in list) (least_at list q mean) (λ u p k. false_from_ne_true (least_at list q mean u) (λ e. apart (least_fits u e) (leads_none at u p k)))))
       (λ some. leads_first (rw some.0 at l) some.1)
       l.held
 
@@ -162,10 +162,10 @@ module _ (list : List ℕ) (q mean : ℕ) where
       ⊎_elim
       (λ (e : fits (suc n) ≡ true). record { place = suc n; least = loss (suc n); leads = leads_less l.leads (suc n) refl h e })
       (λ (e : fits (suc n) ≡ false). record { place = l.place; least = l.least; leads = leads_same l.leads (suc n) refl (λ k f. apart f e) })
-      (either (fits (suc n))))
+      (cases_Bool (fits (suc n))))
       (λ (h : l.least ≤ loss (suc n)).
       record { place = l.place; least = l.least; leads = leads_same l.leads (suc n) refl (λ k f. omega arith) })
-      (lt_or_ge (loss (suc n)) l.least)
+      (cases_lt (loss (suc n)) l.least)
 
   -- no meter qualifies: no place wins
   pub none_fits : none_qualifies list q mean ≡ true → (u : ℕ) → 0 < u → u ≤ meters_in list → fits u ≡ false
@@ -176,7 +176,7 @@ module _ (list : List ℕ) (q mean : ℕ) where
   unfolding winner_of
   winner_none e =
       lowest_none (meters_in list) (least_at list q mean)
-      (λ u p k. never (least_at list q mean u) (λ f. apart (least_fits u f) (none_fits e u p k)))
+      (λ u p k. false_from_ne_true (least_at list q mean u) (λ f. apart (least_fits u f) (none_fits e u p k)))
 
   -- one does: the winner is the first of least loss
   pub winner_first : none_qualifies list q mean ≡ false → First (meters_in list) (winner_of list q mean)
@@ -191,10 +191,10 @@ module _ (list : List ℕ) (q mean : ℕ) where
 
   pub winner_zero : winner_of list q mean ≡ 0 → none_qualifies list q mean ≡ true
   winner_zero z =
-      ⊎_elim (λ e. e) (λ (e : none_qualifies list q mean ≡ false). absurd (omega (arith, (winner_first e).low))) (either (none_qualifies list q mean))
+      ⊎_elim (λ e. e) (λ (e : none_qualifies list q mean ≡ false). absurd (omega (arith, (winner_first e).low))) (cases_Bool (none_qualifies list q mean))
 
   pub winner_some : (winner_of list q mean ≡ 0 → ⊥) → none_qualifies list q mean ≡ false
-  winner_some other = never (none_qualifies list q mean) (λ e. other (winner_none e))
+  winner_some other = false_from_ne_true (none_qualifies list q mean) (λ e. other (winner_none e))
 
   -- and none that qualifies loses less
   pub winner_bound : none_qualifies list q mean ≡ false → (u : ℕ) → 0 < u → u ≤ meters_in list → fits u ≡ true → loss (winner_of list q mean) ≤ loss u

@@ -8,8 +8,8 @@ use native.Mathlib.Omega.{arith}
 use native.Mathlib.Nat.{mul-le-mul}
 use lib.Dec.{leb, eqb}
 use borrow.Author.Tests.{leb-true}
+use Rattle.std.proofs.lemmas.Bool.{cases_Bool}
 use Rattle.basis.proofs.Bools.{left, right}
-use Rattle.basis.proofs.Split.{either}
 use Rattle.meters.specs.declared.Meter.{Meter}
 use Rattle.meters.specs.Meters.{meter_loss, most_loss, qualifies}
 
@@ -27,7 +27,7 @@ module _ (m : Meter) where
       ⊎_elim
       (λ (e : eqb m.form 1 ≡ true). rw e (omega arith))
       (λ (e : eqb m.form 1 ≡ false). rw e (omega arith))
-      (either (eqb m.form 1))
+      (cases_Bool (eqb m.form 1))
 
   module _ (q mean : ℕ) where
     -- as the definition reads

@@ -7,8 +7,8 @@ use Prim.Native.Nat.{ℕ, zero, suc, ◌+◌, ◌-◌, ◌≤◌, min}
 use native.Mathlib.Omega.{arith}
 use lib.Dec.{eqb, leb}
 use borrow.Author.Tests.{le-leb, leb-true}
+use Rattle.std.proofs.lemmas.Bool.{cases_Bool}
 use Rattle.basis.proofs.Bools.{left, right}
-use Rattle.basis.proofs.Split.{either}
 use Rattle.nets.specs.Net.{Net}
 use Rattle.plan.specs.Plan.{mark, option, rows, cell, plan_of}
 use Rattle.plan.proofs.Least.{least_falls}
@@ -24,7 +24,7 @@ module _ (N : Net) (high : ℕ → ℕ) where
       rw (ok, fits, le-leb (N.loss s t + N.need s) y (omega (arith, leb-true (N.loss s t + N.need s) x fits)))
       (omega (arith, falls (min (x - N.loss s t) (high s)) (min (y - N.loss s t) (high s)) (omega arith))))
       (λ e. rw e (omega arith))
-      (either (N.allowed s t && leb (N.loss s t + N.need s) x))
+      (cases_Bool (N.allowed s t && leb (N.loss s t + N.need s) x))
 
   rows_falls : (k p x y : ℕ) → x ≤ y → rows (plan_of N high) k p y ≤ rows (plan_of N high) k p x
   rows_falls zero p x y b = omega arith
@@ -40,7 +40,7 @@ module _ (N : Net) (high : ℕ → ℕ) where
             (λ t l m. option_falls s (rows (plan_of N high) k s) (λ u w c. rows_falls k s u w c) x y b t),
       )))
       (λ e. rw e (rows_falls k p x y b))
-      (either (eqb p (N.parent s)))
+      (cases_Bool (eqb p (N.parent s)))
 
   pub cell_falls : (s p x y : ℕ) → x ≤ y → cell (plan_of N high) s p y ≤ cell (plan_of N high) s p x
   unfolding cell

@@ -9,10 +9,10 @@ use native.Mathlib.Omega.{arith}
 use lib.Dec.{leb}
 use lib.ListN.{length}
 use borrow.Author.Tests.{le-leb, leb-true}
+use Rattle.std.proofs.lemmas.Bool.{cases_lt}
 use Rattle.basis.specs.Sections.{size_of}
 use Rattle.basis.proofs.Paths.{path_pump, path_step, by_parent}
 use Rattle.basis.proofs.Sum.{sum_le}
-use Rattle.basis.proofs.Split.{lt_or_ge}
 use Rattle.basis.proofs.Bools.{left, right}
 use Rattle.nets.specs.Net.{Net, loss_in, path_in, Suits, cost_in, Best, None}
 use Rattle.plan.specs.Plan.{mark, cell, plan_of, Usable}
@@ -36,8 +36,8 @@ cut_same a x l u v b m =
     let c : min (u - l) v ≡ v = omega arith in
     let d : min (x - l) v ≡ v = omega arith in
     rw (e, c, d))
-    (lt_or_ge a (v + l)))
-    (lt_or_ge x u)
+    (cases_lt a (v + l)))
+    (cases_lt x u)
 
 -- b is the head at the pump, one of those for which `high` is enough
 module _ {N : Net} {a : ℕ} {high : ℕ → ℕ} (lower : (s : ℕ) → 0 < s → s ≤ N.sections → N.parent s < s) (usable : Usable N a high) (b : ℕ) (most : b ≤ a) where

@@ -10,10 +10,10 @@ use lib.Dec.{ltb}
 use lib.ListN.{length, set, length-set}
 use lib.Seq.{get_or-set_same, get_or-set_other}
 use borrow.Author.Tests.{lt-ltb, ltb-true}
+use Rattle.std.proofs.lemmas.Bool.{cases_eq}
 use Rattle.basis.specs.Sections.{size_of}
 use Rattle.basis.proofs.Paths.{path_step, path_mono}
 use Rattle.basis.proofs.Sum.{sum_mono}
-use Rattle.basis.proofs.Split.{eq_or_ne}
 use Rattle.nets.specs.Net.{Net, loss_in, path_in, Suits, cost_in, head_in, Found, None}
 use Rattle.pruning.specs.Keeps.{Keeps}
 use Rattle.nets.specs.Tables.{top, Sound}
@@ -185,7 +185,7 @@ module _ {N : Net} (sound : Sound N) (a : ℕ) where
             ⊎_elim
             (λ (i : j ≡ s). rw i (rw (get_or-set_same z (s - 1) k 0 (omega (arith, u.long))) h))
             (λ n. rw (get_or-set_other z (s - 1) (j - 1) k 0 (λ i. n (omega arith))) (r j p l n))
-            (eq_or_ne j s)
+            (cases_eq j s)
 
         drop_other : Stands N M z y
         drop_other =
@@ -205,7 +205,7 @@ module _ {N : Net} (sound : Sound N) (a : ℕ) where
       pub keeps_worse : Keeps a N M
       keeps_worse =
           keeps_by a sound.lower sound.lower drop_back
-          (λ z u. ⊎_elim (λ e. (set z (s - 1) k, drop_other z u e)) (λ n. (z, drop_same z u n)) (eq_or_ne (size_of z s) t))
+          (λ z u. ⊎_elim (λ e. (set z (s - 1) k, drop_other z u e)) (λ n. (z, drop_same z u n)) (cases_eq (size_of z s) t))
 
   -- the needs are raised to no more than what each list asks of the pump
   keeps_need : {need : ℕ → ℕ} → ((j : ℕ) → 0 < j → j ≤ N.sections → N.need j ≤ need j) →
@@ -233,7 +233,7 @@ module _ {N : Net} (sound : Sound N) (a : ℕ) where
         need p ≡ max (N.need p) (N.need s + least) → Keeps a N (like N need N.loss)
     keeps_raised s least low high ep all is =
         keeps_need
-        (λ j b l. ⊎_elim (λ (e : j ≡ p). rw e (omega (arith, is))) (λ n. omega (arith, others j n)) (eq_or_ne j p))
+        (λ j b l. ⊎_elim (λ (e : j ≡ p). rw e (omega (arith, is))) (λ n. omega (arith, others j n)) (cases_eq j p))
         (λ z r j b l.
         ⊎_elim
         (λ (e : j ≡ p).
@@ -241,4 +241,4 @@ module _ {N : Net} (sound : Sound N) (a : ℕ) where
         let own : path_in N (size_of z) p + N.need p ≤ head_in N z = rw e at (head_bound N z j b l) in
         rw e (omega (arith, st, is, own, all (size_of z s) (r s low high).0 (r s low high).1, head_bound N z s low high)))
         (λ n. rw (others j n) (head_bound N z j b l))
-        (eq_or_ne j p))
+        (cases_eq j p))

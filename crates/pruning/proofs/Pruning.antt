@@ -2,9 +2,9 @@
 -- Assumes nothing.
 use Rattle.std.proofs.Common.{◌≡◌, refl, sym, ap, subst, ◌∙◌, ⊎_elim, List, ℕ, ◌+◌, ◌*◌, ◌≤◌, ◌<◌, arith, length, get_or, set, get_or-set_same, get_or-set_other}
 use borrow.Author.Tests.{ltb-true}
+use Rattle.std.proofs.lemmas.Bool.{cases_eq}
 use Rattle.basis.specs.Sections.{size_of}
 use Rattle.basis.proofs.Paths.{path_pump, path_step}
-use Rattle.basis.proofs.Split.{eq_or_ne}
 use Rattle.nets.specs.Net.{loss_in, path_in, None}
 use Rattle.nets.specs.Tables.{top, net_of}
 use Rattle.nets.specs.NetIn.{net_in}
@@ -95,11 +95,11 @@ module _ {before : Tables} {a : ℕ} where
                 head_bound (net_in t) y s low last,
               ))
               (λ x. omega (arith, there 0 x, st.asked y m.0, m.2))
-              (eq_or_ne 0 p);
+              (cases_eq 0 p);
           pump =
               ⊎_elim
               (λ (e : 0 ≡ p).
               omega (arith, ap (λ (i : ℕ). get_or d.needs i 0) e, ap (λ (i : ℕ). get_or t.needs i 0) e, here, st.pump))
               (λ n. omega (arith, there 0 n, st.pump))
-              (eq_or_ne 0 p);
+              (cases_eq 0 p);
         }

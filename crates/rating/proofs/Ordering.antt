@@ -5,7 +5,7 @@ use mathlib.Core.Logic.{⊎_elim}
 use mathlib.Core.Bool.{true, false, not}
 use mathlib.Core.List.{List, [], ◌∷◌}
 use Prim.Native.Nat.{ℕ, ◌≤◌, ◌<◌}
-use Rattle.basis.proofs.Split.{either, eq_or_ne}
+use Rattle.std.proofs.lemmas.Bool.{cases_Bool, cases_eq}
 use Rattle.answer.specs.declared.Refusal.{Refusal}
 use Rattle.answer.specs.Answer.{refusal_number}
 use Rattle.answer.specs.Checks.{first_no, too_short}
@@ -57,8 +57,8 @@ sized_same b cat list room long room' long' fits fits' =
     (λ named. ⊎_elim
     (λ over. sized_over b cat list room long none named (fits none) over ∙ sym (sized_over b cat list room' long' none named (fits' none) over))
     (λ under. sized_done b cat list room long none named (fits none) under ∙ sym (sized_done b cat list room' long' none named (fits' none) under))
-    (either (over_any (decode b) cat list)))
+    (cases_Bool (over_any (decode b) cat list)))
     (λ other. sized_list b cat list room long none other ∙ sym (sized_list b cat list room' long' none other))
-    (either (list_ok (decode b) cat list)))
+    (cases_Bool (list_ok (decode b) cat list)))
     (λ some. sized_inputs b cat list room long some ∙ sym (sized_inputs b cat list room' long' some))
-    (eq_or_ne (input_no b cat) 0)
+    (cases_eq (input_no b cat) 0)

@@ -4,10 +4,10 @@ use Rattle.std.proofs.Common.{◌≡◌, ℕ, ◌+◌, ◌-◌, ◌≤◌, ◌<�
 use mathlib.Core.Logic.{⊎_elim}
 use native.Mathlib.Nat.{add-sub_cancel}
 use lib.ListN.{get_or, set, replicate}
+use Rattle.std.proofs.lemmas.Bool.{cases_eq}
 use Rattle.basis.specs.Range.{any_to}
 use Rattle.basis.specs.Slots.{slots}
 use Rattle.basis.specs.Sections.{size_of}
-use Rattle.basis.proofs.Split.{eq_or_ne}
 use Rattle.basis.proofs.Each.{any_none, any_more, any_true}
 use Rattle.basis.proofs.Slots.{slots_in, slots_none, slots_more}
 use Rattle.fields.specs.declared.Job.{Job}
@@ -73,7 +73,7 @@ module _ (job : Job) (cat list : List ℕ) where
         record {
           none = rw (add-sub_cancel i 1) (any_more (i - 1) i _ (omega arith) u.none f.under);
           placed = rw (u.placed, f.is) (slots_more 64 1 i blank_figure (rated_figure job cat list) (omega arith) fits);
-          small = λ j a h. ⊎_elim (λ e. rw e f.fitting) (λ n. u.small j a (omega arith)) (eq_or_ne j i);
+          small = λ j a h. ⊎_elim (λ e. rw e f.fitting) (λ n. u.small j a (omega arith)) (cases_eq j i);
         }
 
     pub upto_over : i ≤ count_of job → over_at job cat (size_of list i) i ≡ true → over_any job cat list ≡ true

@@ -29,7 +29,7 @@ impl Rating {
     pub fn sections(&self) -> &[Figure]
         ensures { Alone (count_of self.now.accepted.job) self.now.figures result.now }
     {
-        let count = usize::from(self.accepted.job.header.sections);
+        let count = self.accepted.job.count();
         &self.figures[1..=count]
     }
 
@@ -62,7 +62,7 @@ pub fn outcome(
     if !list_ok(&accepted.job, catalogue.bytes, list) {
         return Err(Refusal::SizeList);
     }
-    let count = usize::from(accepted.job.header.sections);
+    let count = accepted.job.count();
     if room < layout.front + layout.each * count {
         return Err(Refusal::ResultShort);
     }

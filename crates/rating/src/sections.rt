@@ -15,7 +15,7 @@ pub fn list_ok(job: &Job, cat: &[u8], list: &[u8]) -> bool
     ensures { result ≡ list_ok job.now cat.now list.now }
 {
     let sizes = catalogue::sizes_of(cat);
-    list.len() == usize::from(job.header.sections)
+    list.len() == job.count()
         && list.iter().all(|size| (1..=sizes).contains(size))
 }
 
@@ -34,7 +34,7 @@ pub fn rate_sections(
     let flows = accepted.flows();
     let job = &accepted.job;
     let mut figures = [Figure::default(); 64];
-    for i in 1..=usize::from(job.header.sections) {
+    for i in 1..=job.count() {
         let pipe = Pipe {
             limit: job.header.limit,
             decimetres: job.sections[i].decimetres,

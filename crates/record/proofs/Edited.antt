@@ -7,8 +7,8 @@ use Prim.Native.Nat.{ℕ, ◌+◌, ◌-◌, ◌*◌, ◌%◌, ◌^◌, ◌≤◌
 use native.Mathlib.Omega.{arith}
 use lib.ListN.{length, set}
 use lib.Seq.{get_or-set_same, set-set, ext_get_or}
+use Rattle.std.proofs.lemmas.Bool.{cases_lt, cases_eq}
 use Rattle.basis.specs.Slots.{tabulate, slots}
-use Rattle.basis.proofs.Split.{lt_or_ge, eq_or_ne}
 use Rattle.basis.proofs.Stored.{stored_length, stored_in, stored_before, stored_after}
 use Rattle.basis.proofs.Slots.{tabulate_ext, slots_length, slots_in, slots_full, slots_ext, slots_set}
 use Rattle.wire.specs.Wire.{byte_at, be_at, bytes_of}
@@ -32,8 +32,8 @@ module _ (width : ℕ) (b : List ℕ) (at n : ℕ) (fits : at + width ≤ length
             (λ from. ⊎_elim
             (λ inside. absurd (apart from inside))
             (λ past. stored_after b at (bytes_of width n) j (omega arith) (rw size past))
-            (lt_or_ge j (at + width)))
-            (lt_or_ge j at);
+            (cases_lt j (at + width)))
+            (cases_lt j at);
       }
 
   pub edited_field : n < 256 ^ width → be_at width (edited width b at n) at ≡ n
@@ -65,8 +65,8 @@ module _ {at width : ℕ} {b e : List ℕ} (same : SameBut at width b e) where
       let long : at ≤ length e = rw same.long (omega arith) in
       rw (← k) (stored_in e at (bytes_of width n) (j - at) long fit ∙ sym (stored_in b at (bytes_of width n) (j - at) (omega arith) fit)))
       (λ (past : at + width ≤ j). outside j (λ c d. omega arith))
-      (lt_or_ge j (at + width)))
-      (lt_or_ge j at))
+      (cases_lt j (at + width)))
+      (cases_lt j at))
 
   version_kept : 5 ≤ at → version_at e ≡ version_at b
   version_kept h = same.bytes 4 (λ c d. omega arith)
@@ -83,7 +83,7 @@ module _ {at width : ℕ} {b e : List ℕ} (same : SameBut at width b e) where
       apart ∙
       sym (service_two b two))
       (λ (other : version_at b ≡ 2 → ⊥). service_other e (λ two. other (sym (version_kept h) ∙ two)) ∙ sym (service_other b other))
-      (eq_or_ne (version_at b) 2)
+      (cases_eq (version_at b) 2)
 
   head_kept : 16 ≤ at → (at + width ≤ 40) ⊎ (sections_from (version_at b) ≤ at) → header_at e ≡ header_at b
   unfolding header_at

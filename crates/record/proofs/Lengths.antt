@@ -7,8 +7,8 @@ use Prim.Native.Nat.{ℕ, ◌+◌, ◌*◌, ◌≤◌}
 use native.Mathlib.Omega.{arith}
 use lib.ListN.{length, length-append}
 use borrow.Author.Tests.{eq-eqb, ne_eqb}
+use Rattle.std.proofs.lemmas.Bool.{cases_eq}
 use Rattle.basis.specs.Stored.{stored}
-use Rattle.basis.proofs.Split.{eq_or_ne}
 use Rattle.basis.proofs.Within.{Within}
 use Rattle.basis.proofs.Concat.{concat_length}
 use Rattle.basis.proofs.Stored.{stored_next}
@@ -35,7 +35,7 @@ from_in version =
     ⊎_elim
     (λ e. record { low = omega (arith, from_two e); high = omega (arith, from_two e) })
     (λ n. record { low = omega (arith, from_other n); high = omega (arith, from_other n) })
-    (eq_or_ne version 2)
+    (cases_eq version 2)
 
 pub head_length : (h : Header) → length (header_bytes h) ≡ 16
 unfolding header_bytes bytes_of
@@ -60,7 +60,7 @@ service_length h =
     ⊎_elim
     (λ (e : h.version ≡ 2). rw (eq-eqb h.version 2 e, from_two e))
     (λ (n : h.version ≡ 2 → ⊥). rw (ne_eqb h.version 2 n, from_other n))
-    (eq_or_ne h.version 2)
+    (cases_eq h.version 2)
 
 -- what stands before the sections: the head, the residents and the service
 module _ (job : Job) where

@@ -9,10 +9,10 @@ use native.Mathlib.Nat.{add-zero}
 use lib.ListN.{length, get_or}
 use lib.Seq.{get_or-append-add}
 use borrow.Author.Tests.{eq-eqb, ne_eqb}
+use Rattle.std.proofs.lemmas.Bool.{cases_eq}
 use Rattle.basis.specs.Range.{concat_to}
 use Rattle.basis.specs.Slots.{tabulate}
 use Rattle.basis.specs.Part.{part}
-use Rattle.basis.proofs.Split.{eq_or_ne}
 use Rattle.basis.proofs.Part.{part_cons, part_next, part_then, part_all, part_at}
 use Rattle.basis.proofs.Concat.{concat_ext, concat_within, parts_concat}
 use Rattle.basis.proofs.Slots.{tabulate_at, tabulated, slots_in, slots_ext}
@@ -92,7 +92,7 @@ module _ (b : List ℕ) (byte : (k : ℕ) → byte_at b k < 256) where
       let from = from_other n in
       let none : sections_from (version_at b) - 40 ≡ 0 = omega arith in
       rw (ne_eqb (version_at b) 2 n, none))
-      (eq_or_ne (version_at b) 2)
+      (cases_eq (version_at b) 2)
 
   sections_again : byte_at b 6 ≤ 63 → length b ≡ length_of (version_at b) (byte_at b 6) →
       sections_bytes (decode b) ≡ part b (sections_from (version_at b)) (10 * byte_at b 6)
@@ -206,7 +206,7 @@ service_read job t =
     ⊎_elim
     (λ (e : version_of job ≡ 2). service_two (encode job) (version_read job ∙ e) ∙ service_byte job e)
     (λ (n : version_of job ≡ 2 → ⊥). service_other (encode job) (λ e. n (sym (version_read job) ∙ e)) ∙ sym (t.header.total n))
-    (eq_or_ne (version_of job) 2)
+    (cases_eq (version_of job) 2)
 
 head_whole : (job : Job) → JobFits job → header_at (encode job) ≡ job.header
 unfolding encode

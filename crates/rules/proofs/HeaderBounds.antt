@@ -7,9 +7,9 @@ use Prim.Native.Nat.{ℕ, ◌≤◌}
 use native.Mathlib.Omega.{arith}
 use lib.Dec.{leb}
 use borrow.Author.Tests.{leb-true, le-leb, eq-eqb, ne_eqb, eqb-true}
+use Rattle.std.proofs.lemmas.Bool.{cases_eq}
 use Rattle.basis.specs.Range.{within}
 use Rattle.basis.proofs.Bools.{left, right}
-use Rattle.basis.proofs.Split.{eq_or_ne}
 use Rattle.basis.proofs.Within.{Within, within_in, in_within}
 use Rattle.fields.specs.declared.Header.{Header}
 use Rattle.rules.specs.Rules.{version_ok, service_ok, header_ok}
@@ -32,7 +32,7 @@ service_in h e =
     let zero : h.service ≡ 0 = eqb-true h.service 0 (rw (eq-eqb h.version 1 one) at e) in record { most = omega arith; total = λ v. zero })
     (λ (other : h.version ≡ 1 → ⊥).
     record { most = leb-true h.service 2 (rw (ne_eqb h.version 1 other) at e); total = λ v. absurd (other v) })
-    (eq_or_ne h.version 1)
+    (cases_eq h.version 1)
 
 pub in_service : (h : Header) → ServiceIn h.version h.service → service_ok h ≡ true
 unfolding service_ok
@@ -40,7 +40,7 @@ in_service h b =
     ⊎_elim
     (λ (one : h.version ≡ 1). rw (eq-eqb h.version 1 one, eq-eqb h.service 0 (b.total one)))
     (λ (other : h.version ≡ 1 → ⊥). rw (ne_eqb h.version 1 other, le-leb h.service 2 b.most))
-    (eq_or_ne h.version 1)
+    (cases_eq h.version 1)
 
 pub record HeaderIn (h : Header) : Type 0 where
   pub service : ServiceIn h.version h.service

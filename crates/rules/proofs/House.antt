@@ -9,7 +9,7 @@ use native.Mathlib.Omega.{arith}
 use lib.Dec.{eqb, ltb}
 use lib.ListN.{get_or}
 use borrow.Author.Tests.{eqb-true, eqb-false, le-ltb, lt-ltb}
-use Rattle.basis.proofs.Split.{either}
+use Rattle.std.proofs.lemmas.Bool.{cases_Bool}
 use Rattle.fields.specs.declared.Job.{Job}
 use Rattle.fields.specs.Fields.{residents_of}
 use Rattle.tree.specs.Tree.{Rooted, served_of, house_of}
@@ -22,7 +22,7 @@ odd u n = (ltb 0 u && eqb n 0) || (eqb u 0 && ltb 0 n)
 some : (n : ℕ) → ltb 0 n ≡ not (eqb n 0)
 some n =
     ⊎_elim (λ e. let z = eqb-true n 0 e in rw (e, le-ltb 0 n (omega arith)))
-    (λ e. let z = eqb-false n 0 e in rw (e, lt-ltb 0 n (omega arith))) (either (eqb n 0))
+    (λ e. let z = eqb-false n 0 e in rw (e, lt-ltb 0 n (omega arith))) (cases_Bool (eqb n 0))
 
 differ : (a b : Bool) → ((not a && b) || (a && not b)) ≡ not (beq a b)
 differ true true = refl

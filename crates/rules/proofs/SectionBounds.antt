@@ -7,9 +7,9 @@ use Prim.Native.Nat.{ℕ, ◌≤◌, ◌<◌}
 use native.Mathlib.Omega.{arith}
 use lib.Dec.{leb, ltb, eqb}
 use borrow.Author.Tests.{leb-true, ltb-true, eqb-true, eq-eqb, ne_eqb}
+use Rattle.std.proofs.lemmas.Bool.{cases_eq}
 use Rattle.basis.specs.Range.{within}
 use Rattle.basis.proofs.Bools.{left, right}
-use Rattle.basis.proofs.Split.{eq_or_ne}
 use Rattle.basis.proofs.Within.{Within, within_in}
 use Rattle.fields.specs.declared.Section.{Section}
 use Rattle.rules.specs.Rules.{kind_ok, elevation_ok, section_ok}
@@ -47,7 +47,7 @@ module _ (s : Section) where
       let b = sym (kind_fitted n) ∙ e in
       let t = leb-true s.kind 12 (left _ _ b) in
       record { twelve = t; bare = λ z. absurd (n z); fitted = λ _. leb-true 1 s.fixtures (right (leb s.kind 12) _ b) })
-      (eq_or_ne s.kind 0)
+      (cases_eq s.kind 0)
 
 module _ (i : ℕ) (s : Section) where
   pub section_in : section_ok i s ≡ true → SectionIn i s

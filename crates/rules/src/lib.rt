@@ -81,7 +81,7 @@ fn sections_ok(job: &Job) -> bool
     requires { count_of job.now ≤ 63 }
     ensures { result ≡ sections_ok job.now }
 {
-    (1..usize::from(job.header.sections) + 1).all(|i| section_ok(i, job.sections[i]))
+    (1..job.count() + 1).all(|i| section_ok(i, job.sections[i]))
 }
 
 // Kind 0 on section i, s, of which the set is its own bit alone.

@@ -10,7 +10,7 @@ use lib.Dec.{ltb}
 use lib.ListN.{length, get_or, set, replicate, length-set, length-replicate, get_or-replicate}
 use lib.Seq.{get_or-set_same, get_or-set_other}
 use borrow.Author.Tests.{ltb-true}
-use Rattle.basis.proofs.Split.{eq_or_ne}
+use Rattle.std.proofs.lemmas.Bool.{cases_eq}
 use Rattle.nets.specs.Net.{Net}
 use Rattle.nets.specs.Tables.{top}
 
@@ -37,10 +37,10 @@ module _ {N : Net} {a : ℕ} (few : N.sections ≤ 63) (lower : (s : ℕ) → 0 
       let here : get_or (set highs q v) q 0 ≡ v = get_or-set_same highs q v 0 (omega (arith, st.long)) in
       let there : (j : ℕ) → (j ≡ q → ⊥) → get_or (set highs q v) j 0 ≡ get_or highs j 0 = λ j n. get_or-set_other highs q j v 0 n in
       let grows : (j : ℕ) → get_or highs j 0 ≤ get_or (set highs q v) j 0 =
-      λ j. ⊎_elim (λ (e : j ≡ q). rw e (rw here up)) (λ n. omega (arith, there j n)) (eq_or_ne j q) in
+      λ j. ⊎_elim (λ (e : j ≡ q). rw e (rw here up)) (λ n. omega (arith, there j n)) (cases_eq j q) in
       record {
         long = length-set highs q v ∙ st.long;
-        most = λ j k. ⊎_elim (λ (e : j ≡ q). rw e (rw here most)) (λ n. omega (arith, there j n, st.most j k)) (eq_or_ne j q);
+        most = λ j k. ⊎_elim (λ (e : j ≡ q). rw e (rw here most)) (λ n. omega (arith, there j n, st.most j k)) (cases_eq j q);
         own = λ j m k. omega (arith, there j (λ e. omega arith), st.own j m k);
         below = λ j t m k x y z. omega (arith, there j (λ e. omega arith), grows (N.parent j), st.below j t m k x y z);
       }
@@ -59,7 +59,7 @@ module _ {N : Net} {a : ℕ} (few : N.sections ≤ 63) (lower : (s : ℕ) → 0 
       record {
         long = two.long;
         most = two.most;
-        own = λ j m k. ⊎_elim (λ (e : j ≡ s). rw e (omega (arith, same))) (λ n. two.own j (omega arith) k) (eq_or_ne j s);
+        own = λ j m k. ⊎_elim (λ (e : j ≡ s). rw e (omega (arith, same))) (λ n. two.own j (omega arith) k) (cases_eq j s);
         below = λ j t m k x y z.
             ⊎_elim
             (λ (e : j ≡ s).
@@ -67,5 +67,5 @@ module _ {N : Net} {a : ℕ} (few : N.sections ≤ 63) (lower : (s : ℕ) → 0 
             let f : N.loss s t ≤ far = rw one at (all (t - 1) (omega arith) (rw one (ltb-true (N.loss s t) top (sym (marked s t) ∙ rw e at z)))) in
             rw e (rw (← ep, same, raised) (omega arith)))
             (λ n. two.below j t (omega arith) k x y z)
-            (eq_or_ne j s);
+            (cases_eq j s);
       }

@@ -8,9 +8,10 @@ use native.Mathlib.Omega.{arith}
 use lib.ListN.{length, get_or}
 use lib.Dec.{eqb}
 use borrow.Author.Tests.{eq-eqb, ne_eqb, eqb-true}
+use Rattle.std.proofs.lemmas.Bool.{false_from_ne_true}
 use Rattle.basis.specs.Range.{within, all_to}
 use Rattle.basis.specs.Sections.{size_of}
-use Rattle.basis.proofs.Bools.{left, never}
+use Rattle.basis.proofs.Bools.{left}
 use Rattle.basis.proofs.Within.{Within, within_in, in_within}
 use Rattle.basis.proofs.Each.{all_more, all_at, all_false}
 use Rattle.fields.specs.declared.Job.{Job}
@@ -34,7 +35,7 @@ module _ (job : Job) (cat list : List ℕ) where
         let e : k + 1 - 1 ≡ k = omega arith in
         list_all ∙
         all_false (count_of job) (k + 1) (λ i. within 1 (sizes_of cat) (size_of list i)) (omega arith) (omega arith)
-        (rw e (never (within 1 (sizes_of cat) (get_or list k 0)) (λ t. n (within_in 1 (sizes_of cat) (get_or list k 0) t))))
+        (rw e (false_from_ne_true (within 1 (sizes_of cat) (get_or list k 0)) (λ t. n (within_in 1 (sizes_of cat) (get_or list k 0) t))))
 
   pub one_more : (k : ℕ) → all_to k (λ i. within 1 (sizes_of cat) (size_of list i)) ≡ true → Within 1 (sizes_of cat) (get_or list k 0) →
       all_to (k + 1) (λ i. within 1 (sizes_of cat) (size_of list i)) ≡ true

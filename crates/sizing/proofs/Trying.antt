@@ -8,8 +8,8 @@ use mathlib.Core.Logic.{⊎_elim}
 use Prim.Native.Nat.{ℕ, ◌+◌, ◌*◌, ◌≤◌, ◌<◌}
 use native.Mathlib.Omega.{arith}
 use borrow.Author.Tests.{lt-ltb, le-ltb}
+use Rattle.std.proofs.lemmas.Bool.{cases_Bool}
 use Rattle.basis.proofs.Part.{part_below}
-use Rattle.basis.proofs.Split.{either}
 use Rattle.wire.specs.Wire.{byte_at}
 use Rattle.fields.specs.declared.Job.{Job}
 use Rattle.catalogue.specs.Layout.{sizes_of, rows_of, size_from, part_of}
@@ -58,7 +58,7 @@ module _ (job : Job) (cat : List ℕ) (s i : ℕ) where
   pub none_over : tried_at job cat s i ≡ None → over_at job cat s i ≡ true
   none_over e =
       ⊎_elim (λ o. o) (λ (o : over_at job cat s i ≡ false). absurd (let f = sym (tried_not o) ∙ e in cc))
-      (either (over_at job cat s i))
+      (cases_Bool (over_at job cat s i))
 
   pub some_under : (t : Tried) → tried_at job cat s i ≡ Some t →
       (over_at job cat s i ≡ false) × (t.velocity ≡ (reading_of job cat s i).velocity) × (t.loss ≡ loss_at job cat s i)
@@ -66,4 +66,4 @@ module _ (job : Job) (cat : List ℕ) (s i : ℕ) where
       ⊎_elim
       (λ (o : over_at job cat s i ≡ true). absurd (let f = sym (tried_over o) ∙ e in cc))
       (λ (o : over_at job cat s i ≡ false). let f = sym (tried_not o) ∙ e in (o, cc, cc))
-      (either (over_at job cat s i))
+      (cases_Bool (over_at job cat s i))

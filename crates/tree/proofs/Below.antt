@@ -8,7 +8,7 @@ use native.Mathlib.Omega.{arith}
 use lib.Dec.{eqb}
 use borrow.Author.Tests.{eq-eqb, ne_eqb}
 use Rattle.std.proofs.Math.Bool.{or-true, or_self}
-use Rattle.basis.proofs.Split.{lt_or_ge, eq_or_ne}
+use Rattle.std.proofs.lemmas.Bool.{cases_lt, cases_eq}
 use Rattle.basis.proofs.Bools.{apart}
 use Rattle.fields.specs.declared.Job.{Job}
 use Rattle.fields.specs.Fields.{count_of, section_of}
@@ -59,7 +59,7 @@ module _ {job : Job} (r : Rooted job) where
       ⊎_elim
       (λ p. rw (parent_at job j p) (omega (arith, r.lower j p k)))
       (λ (z : j ≤ 0). let e : j ≡ 0 = omega arith in rw e (rw (parent_pump job) (omega arith)))
-      (lt_or_ge 0 j)
+      (cases_lt 0 j)
 
   parent_in : (j : ℕ) → j ≤ count_of job → parent_of job j ≤ count_of job
   parent_in j k = parent_le (count_of job) j (omega arith) k
@@ -101,7 +101,7 @@ module _ {job : Job} (r : Rooted job) where
   below_pump j k = reach_pump 63 j (omega (arith, r.few)) k
 
   below_le : (i j : ℕ) → j ≤ count_of job → below job i j ≡ true → i ≤ j
-  below_le i j k t = ⊎_elim (λ lt. absurd (apart t (below_under i j lt k))) (λ le. le) (lt_or_ge j i)
+  below_le i j k t = ⊎_elim (λ lt. absurd (apart t (below_under i j lt k))) (λ le. le) (cases_lt j i)
 
   -- a section lies below its parent, and so does what lies below the section
   module _ (i j : ℕ) (p : 0 < j) (q : j ≤ count_of job) (e : (section_of job j).parent ≡ i) where
@@ -119,7 +119,7 @@ module _ {job : Job} (r : Rooted job) where
         (λ ne.
         below_up i k (λ z. omega arith) (omega arith) b ∙
         below_more m (section_of job k).parent (omega arith) (omega arith) (sym (below_up j k ne (omega arith) b) ∙ t))
-        (eq_or_ne k j)
+        (cases_eq k j)
 
     pub below_child : (k : ℕ) → k ≤ count_of job → below job j k ≡ true → below job i k ≡ true
     below_child k b t = below_more k k (omega arith) b t

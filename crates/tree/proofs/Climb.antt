@@ -7,7 +7,7 @@ use Prim.Native.Nat.{ℕ, zero, suc, ◌-◌, ◌≤◌, ◌<◌}
 use native.Mathlib.Omega.{arith}
 use lib.Dec.{leb, eqb}
 use borrow.Author.Tests.{le-leb, lt-leb, eq-eqb, ne_eqb}
-use Rattle.basis.proofs.Split.{lt_or_ge, eq_or_ne}
+use Rattle.std.proofs.lemmas.Bool.{cases_lt, cases_eq}
 
 -- going up from j, the first number that is at most t; n steps suffice where j is at most n
 unfoldable pub climb : (ℕ → ℕ) → ℕ → ℕ → ℕ → ℕ
@@ -39,7 +39,7 @@ module _ (n : ℕ) (up : ℕ → ℕ) (lower : (j : ℕ) → 0 < j → j ≤ n �
       (λ lt. let p : up j < j = lower j (omega arith) k in
       climb_go up (suc m) t j lt ∙ climb_more m t (up j) (omega arith) (omega arith) ∙ sym (climb_go up m t j lt))
       (λ ge. climb_stop up (suc (suc m)) t j ge ∙ sym (climb_stop up (suc m) t j ge))
-      (lt_or_ge t j)
+      (cases_lt t j)
 
   pub climb_step : (t j : ℕ) → t < j → j ≤ n → climb up n t j ≡ climb up n t (up j)
   climb_step t j h k = sym (climb_more n t j k k) ∙ climb_go up n t j h
@@ -52,7 +52,7 @@ module _ (n : ℕ) (up : ℕ → ℕ) (lower : (j : ℕ) → 0 < j → j ≤ n �
         rw e (rw (climb_stop up n i i (omega arith), eq-eqb i i refl)
         (climb_step (i - 1) i (omega arith) q ∙ climb_stop up n (i - 1) (up i) (omega arith))))
         (λ ne. rw (climb_stop up n i j h, ne_eqb j i ne) (climb_stop up n (i - 1) j (omega arith)))
-        (eq_or_ne j i)
+        (cases_eq j i)
 
     -- one number less to stop at: what had come to i goes on to its parent
     pub fall : (m j : ℕ) → j ≤ m → j ≤ n → climb up n (i - 1) j ≡ cond (eqb (climb up n i j) i) (up i) (climb up n i j)
@@ -62,4 +62,4 @@ module _ (n : ℕ) (up : ℕ → ℕ) (lower : (j : ℕ) → 0 < j → j ≤ n �
         (λ lt. let l : up j < j = lower j (omega arith) r in
         rw (climb_step (i - 1) j (omega arith) r, climb_step i j lt r) (fall m (up j) (omega arith) (omega arith)))
         (λ ge. fall_at j ge)
-        (lt_or_ge i j)
+        (cases_lt i j)

@@ -8,7 +8,7 @@ use native.Mathlib.Omega.{arith}
 use lib.ListN.{get_or, set, replicate, length-set, get_or-replicate}
 use lib.Seq.{get_or-set_same, get_or-set_other}
 use Rattle.std.proofs.lemmas.Bool.Decides.{nat_tests}
-use Rattle.basis.proofs.Split.{eq_or_ne}
+use Rattle.std.proofs.lemmas.Bool.{cases_eq}
 use Rattle.fields.specs.declared.Job.{Job}
 use Rattle.fields.specs.Fields.{section_of}
 use Rattle.tree.specs.Tree.{own_of}
@@ -45,7 +45,7 @@ zeros = record { long = refl; zero = λ x h. get_or-replicate 768 x 0 0 h }
 
 module _ {job : Job} {j : ℕ} {n : List ℕ} (o : Owned job (j - 1) n) (p : 0 < j) (h : j < 64) (s : (section_of job j).fixtures < 65536) where
   small_more : (i : ℕ) → 0 < i → i ≤ j + 1 - 1 → (section_of job i).fixtures < 65536
-  small_more i a b = ⊎_elim (λ e. rw e s) (λ ne. o.small i a (before ne)) (eq_or_ne i j)
+  small_more i a b = ⊎_elim (λ e. rw e s) (λ ne. o.small i a (before ne)) (cases_eq i j)
     where
       before : (i ≡ j → ⊥) → i ≤ j - 1
       before ne = omega arith
@@ -79,7 +79,7 @@ module _ {job : Job} {j : ℕ} {n : List ℕ} (o : Owned job (j - 1) n) (p : 0 <
         (λ e. let x : j * 12 + c ≡ place = omega arith in
         rw (own_at job (c + 1) j e, x) same)
         (λ ne. other j c (λ x. ne (omega arith)) ∙ rest (o.own c k) p h ∙ sym (own_not job (c + 1) j ne))
-        (eq_or_ne (section_of job j).kind (c + 1))
+        (cases_eq (section_of job j).kind (c + 1))
 
     pub owned_set : Owned job (j + 1 - 1) stored
     owned_set =

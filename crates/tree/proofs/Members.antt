@@ -12,8 +12,8 @@ use Rattle.std.proofs.lemmas.Nat.{and_mask, and_le_r, leading_length}
 use lib.Count.{count_leading_zeros}
 use Rattle.std.specs.Int.Bits.{bit_and}
 use lib.Pow.{pow_pos, pow-add, pow_mono}
+use Rattle.std.proofs.lemmas.Bool.{cases_eq, cases_lt, cases_Bool}
 use Rattle.basis.specs.Range.{sum_to}
-use Rattle.basis.proofs.Split.{eq_or_ne, lt_or_ge, either}
 use Rattle.basis.proofs.Sum.{sum_none, sum_more, sum_some, sum_pow, sum_at, sum_nothing}
 
 -- a power of 2 added or not: what it does to its own bit, and to a lower one
@@ -47,7 +47,7 @@ module _ (b : ℕ → Bool) where
       (⊎_elim
       (λ e. rw (e, lt-ltb 0 (suc n) (omega arith)) (own_bit (members b n) (suc n) (members_top n) (b (suc n))))
       (λ ne. low_bit (members b n) n j (omega arith) (b (suc n)) ∙ bit_at n j (omega arith))
-      (eq_or_ne j (suc n)))
+      (cases_eq j (suc n)))
 
 sum_next : (f : ℕ → ℕ) (j : ℕ) → sum_to (j + 1 - 1) f ≡ sum_to (j - 1) f + cond (ltb 0 j) (f j) 0
 sum_next f zero = omega arith
@@ -68,7 +68,7 @@ sum_short (suc n) m f h none =
     ⊎_elim
     (λ e. rw e)
     (λ ne. sum_more n f ∙ rw (none (suc n) (omega arith) (omega arith), sum_short n m f (omega arith) (λ k p q. none k p (omega arith))) (omega arith))
-    (eq_or_ne m (suc n))
+    (cases_eq m (suc n))
 
 -- how many places the bits of a set take up: the set has none from there on, and up to there are sections
 pub places : (set : ℕ) → set < 2 ^ 64 → (set < 2 ^ (64 - count_leading_zeros 64 set)) × (2 ^ (64 - count_leading_zeros 64 set) ≤ 2 * set + 1)
@@ -81,7 +81,7 @@ place_in n b {j = j} {e = e} is h lt =
     ⊎_elim
     (λ over. absurd (omega (arith, members_top b n, pow_mono {i = suc (suc n)} {j = e} (omega arith))))
     (λ le. le)
-    (lt_or_ge n j)
+    (cases_lt n j)
 
 -- the sum over the sections of a set that come before j
 pub record Passed (n : ℕ) (b : ℕ → Bool) (f : ℕ → ℕ) (j sum : ℕ) : Type 0 where
@@ -114,7 +114,7 @@ module _ {n : ℕ} {b : ℕ → Bool} {f : ℕ → ℕ} where
         let has : 2 ^ k ≤ members b n = rw t at at in
         absurd (omega (arith, pow_mono {i = j} {j = k} p)))
         (λ e. rw e)
-        (either (b k))
+        (cases_Bool (b k))
 
     pub passed_end : {e : ℕ} → set < 2 ^ e → e ≤ j → sum ≡ sum_to n (λ k. cond (b k) (f k) 0)
     passed_end {e} h le =

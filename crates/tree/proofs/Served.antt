@@ -10,8 +10,8 @@ use lib.Dec.{eqb}
 use lib.Pow.{pow_pos}
 use borrow.Author.Tests.{eq-eqb, ne_eqb}
 use Rattle.std.proofs.lemmas.Bool.Decides.{nat_tests}
+use Rattle.std.proofs.lemmas.Bool.{cases_lt, cases_eq}
 use Rattle.basis.specs.Range.{sum_to}
-use Rattle.basis.proofs.Split.{lt_or_ge, eq_or_ne}
 use Rattle.basis.proofs.Sum.{
   sum_none,
   sum_more,
@@ -45,7 +45,7 @@ module _ {job : Job} (r : Rooted job) where
       (⊎_elim
       (λ e. rw (eq-eqb j i e, e) (sym (below_self job i)))
       (λ ne. rw (ne_eqb j i ne) (sym (below_under r i j (under ne) k)))
-      (eq_or_ne j i))
+      (cases_eq j i))
     where
       under : (j ≡ i → ⊥) → j < i
       under ne = omega arith
@@ -62,7 +62,7 @@ module _ {job : Job} (r : Rooted job) where
       (λ lt. let l : up_of job j < j = r.lower j (omega arith) k in
       climb_over i j lt k (climb_below m i (up_of job j) (omega arith) (omega arith)))
       (λ ge. climb_at i j ge k)
-      (lt_or_ge i j)
+      (cases_lt i j)
 
   -- at the end of the way up a place holds the values of the sections at or below its own
   pub part_below : (f : ℕ → ℕ) (i : ℕ) → part (count_of job) (up_of job) f i i ≡ sum_to (count_of job) (λ j. cond (below job i j) (f j) 0)
@@ -112,14 +112,14 @@ module _ {job : Job} (r : Rooted job) where
         (λ p. let l : (section_of job j).parent < j = r.lower j p k in
         below_up r i j ne p k ∙ not_below m (section_of job j).parent (omega arith) (omega arith) (alone j p k))
         (λ z. below_under r i j (omega arith) k)
-        (lt_or_ge 0 j)
+        (cases_lt 0 j)
 
     below_alone : (j : ℕ) → j ≤ count_of job → below job i j ≡ eqb j i
     below_alone j k =
         ⊎_elim
         (λ e. rw (eq-eqb j i e, e) (below_self job i))
         (λ ne. rw (ne_eqb j i ne) (not_below j j (omega arith) k ne))
-        (eq_or_ne j i)
+        (cases_eq j i)
 
     -- a section that is no one's parent is a set of one
     pub set_alone : set_of job i ≡ 2 ^ i
@@ -159,7 +159,7 @@ own_all job j h bare =
     ⊎_elim
     (λ p. sum_one 12 (section_of job j).kind (λ kind. (section_of job j).fixtures) p h)
     (λ z. sum_out 12 (section_of job j).kind (λ kind. (section_of job j).fixtures) (λ p. absurd (omega arith)) ∙ sym (bare (omega arith)))
-    (lt_or_ge 0 (section_of job j).kind)
+    (cases_lt 0 (section_of job j).kind)
 
 -- all fixtures are the sum over the kinds, where no kind is over 12 and kind 0 has none
 pub served_all : (job : Job) → ((j : ℕ) → 0 < j → j ≤ count_of job → (section_of job j).kind ≤ 12) →

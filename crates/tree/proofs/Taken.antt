@@ -8,8 +8,8 @@ use native.Mathlib.Omega.{arith}
 use lib.Dec.{eqb}
 use borrow.Author.Tests.{eq-eqb, ne_eqb, le-leb, lt-leb}
 use Rattle.std.proofs.lemmas.Bool.Decides.{nat_tests}
+use Rattle.std.proofs.lemmas.Bool.{cases_lt}
 use Rattle.basis.specs.Range.{within, sum_to}
-use Rattle.basis.proofs.Split.{lt_or_ge}
 use Rattle.basis.proofs.Sum.{sum_ext, sum_add, sum_if, sum_one, sum_out, sum_some}
 use Rattle.tree.specs.Rows.{Filled}
 use Rattle.tree.proofs.Climb.{climb, climb_stop, fall}
@@ -46,9 +46,9 @@ part_all n up f t s h =
     (λ p. ⊎_elim
     (λ out. rw (le-leb 1 s p, lt-leb s n out) (sum_out n s f (λ q. out)))
     (λ one. rw (le-leb 1 s p, le-leb s n one) (sum_one n s f p one))
-    (lt_or_ge n s))
+    (cases_lt n s))
     (λ z. rw (lt-leb 1 s (omega arith)) (sum_out n s f (λ q. absurd (omega arith))))
-    (lt_or_ge 0 s)
+    (cases_lt 0 s)
 
 pub taken_start : (n : ℕ) (up : ℕ → ℕ) {f v : ℕ → ℕ} → Filled n f v → Taken n up f n v
 taken_start n up {f} own = record { at = λ s h. own.at s h ∙ sym (part_all n up f (max s n) s (omega arith)) }
@@ -83,5 +83,5 @@ module _ (n : ℕ) (up f : ℕ → ℕ) (lower : (j : ℕ) → 0 < j → j ≤ n
           at = λ s h. step s h ∙ ⊎_elim
               (λ lt. rw (at_low s (omega arith), at_low i (omega arith), max_right s (i - 1) (omega arith), part_fall s lt))
               (λ ge. rw (ne_eqb s (up i) (λ e. omega arith), w.at s h, max_left s i ge, max_left s (i - 1) (omega arith)) (omega arith))
-              (lt_or_ge s i);
+              (cases_lt s i);
         }

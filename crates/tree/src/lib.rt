@@ -17,7 +17,7 @@ pub fn parents_of(job: Job) -> [u8; 64]
     ensures { result ≡ slots 64 1 (count_of job + 1) 0 (parent_of job) }
 {
     let mut parents = [0u8; 64];
-    for i in 1..=usize::from(job.header.sections) {
+    for i in 1..=job.count() {
         parents[i] = job.sections[i].parent;
     }
     parents
@@ -59,7 +59,7 @@ impl Tree<'_> {
     pub fn sets(&self) -> [u64; 64]
         ensures { (i : ℕ) → i < 64 → get_or result i 0 ≡ set_of self.now.job.now i }
     {
-        let count = usize::from(self.job.header.sections);
+        let count = self.job.count();
         let mut sets = singles(count);
         for t in (1..=count).rev() {
             sets[usize::from(self.job.sections[t].parent)] += sets[t];
@@ -87,7 +87,7 @@ impl Tree<'_> {
         requires { Zeros n.old }
         ensures { Owned self.now.job.now (count_of self.now.job.now) n.new }
     {
-        for j in 1..=usize::from(self.job.header.sections) {
+        for j in 1..=self.job.count() {
             let Section { kind, fixtures, .. } = self.job.sections[j];
             if (1..=12).contains(&kind) {
                 n[j * 12 + (usize::from(kind) - 1)] = u32::from(fixtures);
@@ -100,7 +100,7 @@ impl Tree<'_> {
         requires { Owned self.now.job.now (count_of self.now.job.now) n.old }
         ensures { Counted self.now.job.now n.new }
     {
-        for t in (1..=usize::from(self.job.header.sections)).rev() {
+        for t in (1..=self.job.count()).rev() {
             add_row(n, t, usize::from(self.job.sections[t].parent));
         }
     }

@@ -56,7 +56,7 @@ fn fields(to: &mut Output, job: &Job) -> io::Result<()> {
     for n in &job.residents {
         write!(to, "{n:04x}")?;
     }
-    let count = usize::from(job.header.sections);
+    let count = job.count();
     for s in job.sections.iter().skip(1).take(count) {
         section(to, s)?;
     }

@@ -12,7 +12,7 @@ use mir.Syntax.{Width, w8, w16, w32, w64, w128}
 use mir.Val.{SFits, bits, hbits}
 use Rattle.std.specs.Int.{to_be_bytes, from_be_bytes, cast_signed, cast_unsigned}
 use Rattle.std.proofs.lemmas.Int.{of_z-to_z, to_z-of_z}
-use Rattle.basis.proofs.Split.{lt_or_ge}
+use Rattle.std.proofs.lemmas.Bool.{cases_lt}
 use Rattle.wire.specs.Wire.{byte_at, be_at, bytes_of, signed_of, bits_of}
 use Rattle.wire.proofs.Signed.{signed_low, signed_high}
 
@@ -55,7 +55,7 @@ bits_half w128 = refl
 pub signed_is : (w : Width) (n : ℕ) → n < 2 ^ bits w → cast_signed w n ≡ signed_of (bits w) n
 signed_is w n h =
     ⊎_elim (λ lt. rw (lt-ltb n (2 ^ hbits w) lt, bits_half w, signed_low (hbits w) n lt))
-    (λ ge. rw (le-ltb n (2 ^ hbits w) ge, bits_half w, signed_high (hbits w) n ge (rw (bits_half w) at h))) (lt_or_ge n (2 ^ hbits w))
+    (λ ge. rw (le-ltb n (2 ^ hbits w) ge, bits_half w, signed_high (hbits w) n ge (rw (bits_half w) at h))) (cases_lt n (2 ^ hbits w))
 
 pub signed_held : (w : Width) (n : ℕ) (z : ℤ) → n < 2 ^ bits w → z ≡ cast_signed w n →
     cast_signed w (cast_unsigned w z) ≡ signed_of (bits w) n

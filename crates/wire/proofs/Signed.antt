@@ -8,7 +8,7 @@ use native.Mathlib.Omega.{arith}
 use lib.IntN.{ℤ, pos, negsuc, ◌-ℤ◌}
 use lib.Signed.{mag}
 use borrow.Author.Tests.{lt-ltb, le-ltb}
-use Rattle.basis.proofs.Split.{lt_or_ge}
+use Rattle.std.proofs.lemmas.Bool.{cases_lt}
 use Rattle.wire.specs.Wire.{signed_of, bits_of}
 
 sub_neg : (a b : ℕ) → a < b → pos a -ℤ pos b ≡ negsuc (b - suc a)
@@ -35,7 +35,7 @@ module _ (h : ℕ) where
   pub bits_signed : (n : ℕ) → n < 2 ^ suc h → bits_of (suc h) (signed_of (suc h) n) ≡ n
   unfolding bits_of
   bits_signed n l =
-      ⊎_elim (λ lt. rw (signed_low n lt)) (λ ge. rw (signed_high n ge l) (omega arith)) (lt_or_ge n (2 ^ h))
+      ⊎_elim (λ lt. rw (signed_low n lt)) (λ ge. rw (signed_high n ge l) (omega arith)) (cases_lt n (2 ^ h))
 
   pub signed_bits : (z : ℤ) → mag z < 2 ^ h → signed_of (suc h) (bits_of (suc h) z) ≡ z
   unfolding bits_of

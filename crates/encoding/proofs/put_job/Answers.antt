@@ -33,7 +33,7 @@ module _ (job : Job) (few : count_of job ≤ 63) (long : length job.sections ≡
 pub put_sections-requires : goal.put_sections-requires
 put_sections-requires c =
     let long : length c.args.job.sections ≡ 64 = search rules in
-    rw (c.from-count.ensures, row_length c.args.job (omega arith) long) (omega arith, omega arith)
+    rw (c.count-count.ensures.is, row_length c.args.job (omega arith) long) (omega arith, omega arith)
 
 pub returns : goal.returns
 unfolding residents_bytes
@@ -42,7 +42,7 @@ returns c =
     let twelve : length c.args.job.residents ≡ 12 = search rules in
     rw (
       c.put_sections.ensures,
-      c.from-count.ensures,
+      c.count-count.ensures.is,
       row_written c.args.job (omega arith) long,
       c.put_service.ensures,
       c.put_all.ensures,

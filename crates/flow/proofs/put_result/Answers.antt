@@ -42,14 +42,14 @@ module _ (job : Job) (few : count_of job ≤ 63) where
 pub put_all-requires : goal.put_all-requires
 put_all-requires c =
     let few = (valid_count c.args.accepted.now.accepted.valid).high in
-    rw (c.from-count.ensures, c.flows-flows.ensures, row_length c.args.accepted.now.job few) (omega arith)
+    rw (c.count-count.ensures.is, c.flows-flows.ensures, row_length c.args.accepted.now.job few) (omega arith)
 
 pub returns : goal.returns
 unfolding flow_bytes house_bytes bytes_of
 returns c =
     rw (
       c.put_all.ensures,
-      c.from-count.ensures,
+      c.count-count.ensures.is,
       c.flows-flows.ensures,
       row_written c.args.accepted.now.job (valid_count c.args.accepted.now.accepted.valid).high,
       c.put_house.ensures,

@@ -24,7 +24,7 @@ pub returns-in_err-losses-clause-number : goal.returns-in_err-losses-clause-numb
 returns-in_err-losses-clause-number c =
     let none = rw c.in_err-losses.ensures.ok_part at c.in_err-losses.ensures.value in
     let refusal : c.in_err-losses.field-0.0 ≡ LossList = cc in
-    let other = rw (c.in_err-losses.ensures.ok_part, c.from-count.ensures, c.in_ok-accepted.ensures.job) at c.read_losses.ensures in
+    let other = rw (c.in_err-losses.ensures.ok_part, c.count-count.ensures.is, c.in_ok-accepted.ensures.job) at c.read_losses.ensures in
     number_at_exit _ _ c.from_residual-in_err-losses.ensures.1 ∙ ap refusal_number refusal ∙
     sym (heads_listed _ _ _ (sym c.in_ok-accepted.ensures.number) other)
 
@@ -32,7 +32,7 @@ returns-in_err-losses-clause-number c =
 listed : (c : In_ok-losses) →
     (losses_ok (count_of (decode c.args.b.now)) c.args.given.now ≡ true) ×
     (c.in_ok-losses.losses ≡ slots 64 1 (count_of (decode c.args.b.now) + 1) 0 (loss_in c.args.given.now))
-listed c = rw (c.in_ok-losses.ensures.ok_part, c.from-count.ensures, c.in_ok-accepted.ensures.job) at c.read_losses.ensures
+listed c = rw (c.in_ok-losses.ensures.ok_part, c.count-count.ensures.is, c.in_ok-accepted.ensures.job) at c.read_losses.ensures
 
 accepted : (c : In_ok-losses) → Accepted (decode c.args.b.now)
 accepted c = rw c.in_ok-accepted.ensures.job at c.in_ok-accepted.accepted.accepted

@@ -20,10 +20,10 @@ pub invariant_of-result : goal.invariant_of-result
 invariant_of-result c =
     record {
       sound = sound c.args.accepted.now.accepted c.args.catalogue.now.accepted c.args.catalogue.now.fit c.put_options.ensures.losses c.put_options.ensures.costs
-          c.parents_of.result c.from.ensures (c.from-2.ensures ∙ c.sizes_of.ensures) (above c) c.needs_of.ensures;
+          c.parents_of.result c.count.ensures.is (c.from.ensures ∙ c.sizes_of.ensures) (above c) c.needs_of.ensures;
     }
 
 pub returns : goal.returns
 returns c =
     tree_of c.args.accepted.now.accepted c.args.catalogue.now.accepted c.args.catalogue.now.fit c.put_options.ensures.losses c.put_options.ensures.costs
-    c.parents_of.result c.from.ensures (c.from-2.ensures ∙ c.sizes_of.ensures) (above (goal.at.returns c).After-needs_of) c.needs_of.ensures
+    c.parents_of.result c.count.ensures.is (c.from.ensures ∙ c.sizes_of.ensures) (above (goal.at.returns c).After-needs_of) c.needs_of.ensures

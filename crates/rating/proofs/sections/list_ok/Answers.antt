@@ -11,14 +11,14 @@ use Rattle.sizing.proofs.Named as named
 use Rattle.rating.proofs.Listed.{all_listed}
 use Rattle.rating.proofs.sections.list_ok.Goals as goal
 
-pub returns-then-list-from : goal.returns-then-list-from
-returns-then-list-from c =
+pub returns-then-list-count : goal.returns-then-list-count
+returns-then-list-count c =
     let test = within 1 (sizes_of c.args.cat.now) in
     let each : c.all.result ≡ list_all test c.args.list.now =
     all_from_yields_List test _ _ _ c.all.ensures.ran (YieldsList-from_slice c.args.list.now cc) (λ x b q k. search (rules, tests)) in
     let long : length c.args.list.now ≡ count_of c.args.job.now = omega arith in
     each ∙ all_listed test c.args.list.now ∙ rw long (sym (named.list_all c.args.job.now c.args.cat.now c.args.list.now long))
 
-pub returns-else-list-from : goal.returns-else-list-from
-returns-else-list-from c =
+pub returns-else-list-count : goal.returns-else-list-count
+returns-else-list-count c =
     rw (named.other_length c.args.job.now c.args.cat.now c.args.list.now (λ e. omega arith)) (search (rules, tests))

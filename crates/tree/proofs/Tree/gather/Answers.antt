@@ -5,7 +5,7 @@ use Rattle.tree.proofs.Upward.{summed_start, summed_fits, summed_more, summed_en
 use Rattle.tree.proofs.Tree.gather.Goals as goal
 
 pub loop-t-init : goal.loop-t-init
-loop-t-init c = summed_start c.args.self.now.rooted c.requires c.from-t.ensures
+loop-t-init c = summed_start c.args.self.now.rooted c.requires c.count-t.ensures.is
 
 pub add_row-requires : goal.add_row-requires
 add_row-requires c = summed_fits c.args.self.now.rooted (omega arith) (omega arith) c.from.ensures c.loop-t.invariant

@@ -5,7 +5,7 @@ use Rattle.tree.proofs.Upward.{joined_start, joined_fits, joined_more, joined_en
 use Rattle.tree.proofs.Tree.sets.Goals as goal
 
 pub loop-t-init : goal.loop-t-init
-loop-t-init c = joined_start c.args.self.now.rooted c.singles-sets.ensures c.from-count.ensures
+loop-t-init c = joined_start c.args.self.now.rooted c.singles-sets.ensures c.count-count.ensures.is
 
 pub overflow_add-sets : goal.overflow_add-sets
 overflow_add-sets c = record { fits = joined_fits c.args.self.now.rooted (omega arith) (omega arith) c.from.ensures c.loop-t.invariant }

@@ -15,7 +15,7 @@ pub returns : goal.returns
 returns c =
     let few = (valid_count c.args.self.now.accepted.accepted.valid).high in
     let places : length c.args.self.now.figures ≡ 64 = search rules in
-    let count : c.from-count.result ≡ count_of c.args.self.now.accepted.job = c.from-count.ensures in
-    let part : mid_of 1 (c.from-count.result + 1 - 1) c.args.self.now.figures ≡ slice_range c.args.self.now.figures 1 (count_of c.args.self.now.accepted.job + 1) =
+    let count : c.count-count.result ≡ count_of c.args.self.now.accepted.job = c.count-count.ensures.is in
+    let part : mid_of 1 (c.count-count.result + 1 - 1) c.args.self.now.figures ≡ slice_range c.args.self.now.figures 1 (count_of c.args.self.now.accepted.job + 1) =
     rw count (search rules) in
     alone _ _ part (omega arith)
