@@ -20,6 +20,8 @@ fn day_part(job: &Job, kind: usize) -> u64
 }
 
 /// The greatest day in litres.
+// A loop, as the proof of `sum` over a chain did not close: `sum` asks that the total fits before any kind's residents are read, and a day's
+// bound is known of residents that are read.
 pub fn day_of(job: Job) -> u32
     ensures { result ≡ day_of job }
 {

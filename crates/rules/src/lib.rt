@@ -97,13 +97,9 @@ fn bare_end(s: Section, set: u64, i: usize) -> bool
 fn childless_zero(tree: &Tree) -> bool
     ensures { result ≡ childless_zero tree.now.job.now }
 {
+    let job = tree.job;
     let below = tree.sets();
-    let Job {
-        header,
-        sections,
-        ..
-    } = tree.job;
-    (1..usize::from(header.sections) + 1).any(|i| bare_end(sections[i], below[i], i))
+    (1..usize::from(job.header.sections) + 1).any(|i| bare_end(job.sections[i], below[i], i))
 }
 
 // 7: a kind has residents without fixtures, or the reverse.

@@ -106,7 +106,8 @@ impl Tree<'_> {
     }
 
     /// The fixtures of each kind at a section's end or at any end below it: kind c + 1 of section i at place i * 12 + c. Row 0 is the house.
-    /// One list and no array of rows, which would be no plainer: each contract, here and above, would have to say how long every row is.
+    // One list and no array of rows: indices would be plainer, but the laws behind `fill` and `gather` are over lists, and would have to carry the
+    // length of each of 64 rows beside the number of rows.
     #[tactic(auto, using(crate::proofs::Filled::zeros))]
     pub fn counts(&self) -> [u32; 768]
         ensures { Counted self.now.job.now result }

@@ -15,7 +15,7 @@ returns c =
     let tree = c.args.tree.now in
     let served = c.counts-served.result in
     let test = λ (i : ℕ). not (beq (eqb (get_or tree.job.now.residents i 0) 0) (eqb (get_or served i 0) 0)) in
-    let each = any_from_yields_List test _ _ _ c.any.ensures.ran (YieldsList-from_range 0 12 12 (cc) refl) (λ x b q k. search (rules, tests)) in
+    let each = any_from_yields_List test _ _ _ c.any.ensures.ran (YieldsList-from_range 0 12 12 refl refl) (λ x b q k. search (rules, tests)) in
     each ∙ range_any test (odd_at tree.job.now) 0 12
     (λ k h. let row : 0 * 12 + k ≡ k = omega arith in
     ap test (omega arith) ∙ sym (odd_served tree.rooted k _ (rw row at (c.counts-served.ensures.at 0 k (omega arith) h))))
