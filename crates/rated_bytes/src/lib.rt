@@ -42,16 +42,34 @@ pub fn put_heads(out: &mut [u8], given: &JobWithLosses)
     out[8] = heads.dictating;
 }
 
-/// The sections' figures from byte `from` on, each without its first `skip` bytes: a rating leaves out the flows.
-pub fn put_sections(out: &mut [u8], from: usize, skip: usize, figures: &[Figure])
-    requires { (skip ≤ 10) × (from + (10 - skip) * length figures.now ≤ length out.old) }
-    ensures { out.new ≡ stored out.old from
-        (concat_to (length figures.now) (λ i. drop skip (figure_bytes (figure_of figures.now i)))) }
+/// How the sections stand in a result: the bytes before the first, and the bytes of each, which are the last of a section's ten.
+#[derive(Clone, Copy)]
+pub struct Layout {
+    pub front: usize,
+    pub each: usize,
+}
+
+impl Layout {
+    /// A rating: the heads, then the sections without their flows.
+    pub const RATING: Layout = Layout { front: 9, each: 6 };
+
+    /// The losses.
+    pub const LOSSES: Layout = Layout { front: 0, each: 10 };
+}
+
+/// The sections' figures at their places in a result.
+pub fn put_sections(out: &mut [u8], layout: Layout, figures: &[Figure])
+    requires { (layout.each ≤ 10) × (layout.front + layout.each * length figures.now ≤ length out.old) }
+    ensures { out.new ≡ stored out.old layout.front
+        (concat_to (length figures.now) (λ i. drop (10 - layout.each) (figure_bytes (figure_of figures.now i)))) }
 {
-    // By places, and not by chunks of the buffer: a chunk has a byte at least, and `skip` may be 10.
-    let width = 10 - skip;
+    // By places, and not by chunks of the buffer: a chunk has a byte at least, and `each` may be 0.
     for (i, figure) in figures.iter().enumerate() {
         let bytes = figure.bytes();
-        wire::put(out, from + width * i, &bytes[skip..]);
+        wire::put(
+            out,
+            layout.front + layout.each * i,
+            &bytes[10 - layout.each..],
+        );
     }
 }

@@ -1,45 +1,39 @@
--- The results of the rating call and of the losses call from the flows, velocities and losses at the sections' places.
+-- The results of the rating call and of the losses call from the figures at the sections' places.
 -- Assumes nothing.
-use mathlib.Core.Path.{◌≡◌}
-use mathlib.Core.List.{List, ◌++◌}
-use Prim.Native.Nat.{ℕ, ◌+◌, ◌*◌, ◌≤◌, ◌<◌}
+use mathlib.Core.Path.{◌≡◌, refl, ap, ◌∙◌}
+use mathlib.Core.List.{List, ◌++◌, map}
+use Prim.Native.Nat.{ℕ, ◌+◌, ◌-◌, ◌*◌, ◌≤◌, ◌<◌}
 use native.Mathlib.Omega.{arith}
-use lib.ListN.{get_or}
-use Rattle.basis.specs.Sections.{size_of}
+use lib.ListN.{length, drop, get_or}
+use Rattle.std.specs.List.{slice_range}
+use Rattle.std.proofs.lemmas.List.Edits.{length-between, get_or-between}
+use Rattle.std.proofs.Math.ListN.{get_or-map}
+use Rattle.basis.specs.Range.{concat_to}
+use Rattle.basis.specs.Stored.{stored}
 use Rattle.basis.proofs.Concat.{concat_ext}
-use Rattle.basis.proofs.Slots.{slots_in}
+use Rattle.basis.proofs.Slots.{slots_in, slots_length}
 use Rattle.basis.proofs.Within.{Within}
 use Rattle.wire.specs.Wire.{bytes_of}
 use Rattle.fields.specs.declared.Job.{Job}
 use Rattle.fields.specs.Fields.{count_of}
 use Rattle.record.specs.Record.{decode}
-use Rattle.demand.specs.Demand.{section_flow}
 use Rattle.demand.proofs.Validity.{valid_count, valid_sections, valid_rooted}
 use Rattle.heads.specs.Steps.{Given}
-use Rattle.sizing.specs.Losses.{reading_of, losses_of}
-use Rattle.rated_bytes.specs.RatedBytes.{result_bytes, figures_bytes}
+use Rattle.sizing.specs.Losses.{losses_of}
+use Rattle.rated_bytes.specs.declared.Figure.{Figure}
+use Rattle.rated_bytes.specs.Figures.{blank_figure, figure_of, figure_bytes}
+use Rattle.rated_bytes.specs.RatedBytes.{heads_bytes, result_bytes, figures_bytes}
 use Rattle.rated_bytes.proofs.Same.{heads_same}
+use Rattle.rated_bytes.proofs.Written.{rest_flowless, result_stored}
 use Rattle.rating.specs.Calls.{rate_bytes, losses_bytes}
-use Rattle.rating.specs.Steps.{RatedAt, RatedJob}
+use Rattle.rating.specs.Steps.{rated_figure, RatedAt, RatedJob, OwnFlows}
 
-module _ (job : Job) (cat list : List ℕ) {f v w : List ℕ} (rated : RatedAt job cat list f v w) (few : count_of job ≤ 63) where
-  pub flow_at_lem : (i : ℕ) → 0 < i → i ≤ count_of job → get_or f i 0 ≡ section_flow job i
-  flow_at_lem i a h = rw rated.flows (slots_in 64 1 (count_of job + 1) 0 (section_flow job) i 0 (omega arith) (omega arith) (omega arith))
-
-  pub velocity_at_lem : (i : ℕ) → 0 < i → i ≤ count_of job → get_or v i 0 ≡ (reading_of job cat (size_of list i) i).velocity
-  velocity_at_lem i a h =
-      rw rated.velocities
-      (slots_in 64 1 (count_of job + 1) 0 (λ j. (reading_of job cat (size_of list j) j).velocity) i 0 (omega arith) (omega arith) (omega arith))
-
-  pub loss_at_lem : (i : ℕ) → 0 < i → i ≤ count_of job → get_or w i 0 ≡ losses_of job cat list i
-  loss_at_lem i a h =
-      rw rated.losses (slots_in 64 1 (count_of job + 1) 0 (losses_of job cat list) i 0 (omega arith) (omega arith) (omega arith))
-
-  pub loss_small : (i : ℕ) → 0 < i → i ≤ count_of job → get_or w i 0 ≤ 4259775
-  loss_small i a h = rw (loss_at_lem i a h) (rated.small i a (omega arith)).loss
+-- the losses at the sections' places
+abbrev pub losses_in : List Figure → List ℕ
+losses_in figures = map (λ figure. figure.loss) figures
 
 -- what a job that is rated gives those that write it
-module _ {b cat list : List ℕ} {room long : ℕ} {job : Job} {f v w : List ℕ} (r : RatedJob b cat list room long job f v w) where
+module _ {b cat list : List ℕ} {room long : ℕ} {job : Job} {figures : List Figure} (r : RatedJob b cat list room long job figures) where
   pub rated_count : Within 1 63 (count_of job)
   rated_count = valid_count r.accepted.valid
 
@@ -47,29 +41,56 @@ module _ {b cat list : List ℕ} {room long : ℕ} {job : Job} {f v w : List ℕ
   pub rated_room : (front each : ℕ) → long ≡ front + each * count_of (decode b) → front + each * count_of job ≤ room
   rated_room front each e = rw (r.fields, ← e) r.fits
 
-  pub rated_given : Given job w
+  pub figure_at : (i : ℕ) → 0 < i → i ≤ count_of job → get_or figures i blank_figure ≡ rated_figure job cat list i
+  figure_at i low high =
+      let few = rated_count.high in
+      rw r.at.placed (slots_in 64 1 (count_of job + 1) blank_figure (rated_figure job cat list) i blank_figure (omega arith) (omega arith) (omega arith))
+
+  pub loss_at : (i : ℕ) → 0 < i → i ≤ count_of job → get_or (losses_in figures) i 0 ≡ losses_of job cat list i
+  loss_at i low high = get_or-map (λ (f : Figure). f.loss) figures i blank_figure ∙ ap (λ (f : Figure). f.loss) (figure_at i low high)
+
+  pub rated_flows : OwnFlows job figures
+  rated_flows i low high = ap (λ (f : Figure). f.flow) (figure_at i low high)
+
+  pub rated_given : Given job (losses_in figures)
   rated_given =
       record {
         header = r.accepted.valid.header;
         sections = valid_sections r.accepted.valid;
-        top = loss_small job cat list r.at rated_count.high;
+        top = λ i low high. rw (loss_at i low high) (r.at.small i low (omega arith)).loss;
       }
 
-  pub rated_result : result_bytes job (λ i. get_or v i 0) (λ i. get_or w i 0) ≡ rate_bytes job cat list
-  unfolding rate_bytes result_bytes
-  rated_result =
-      let loss = loss_at_lem job cat list r.at rated_count.high in
-      rw (
-        heads_same job (valid_rooted r.accepted.valid) rated_count.low (λ i. get_or w i 0) (losses_of job cat list) loss,
-        concat_ext (count_of job) (λ i. bytes_of 2 (get_or v i 0) ++ bytes_of 4 (get_or w i 0))
-            (λ i. bytes_of 2 (reading_of job cat (size_of list i) i).velocity ++ bytes_of 4 (losses_of job cat list i))
-            (λ i a h. rw (velocity_at_lem job cat list r.at rated_count.high i a h, loss i a h)),
-      )
+  -- the sections' figures alone
+  module _ {sections : List Figure} (s : sections ≡ slice_range figures 1 (count_of job + 1)) where
+    pub sections_length : length sections ≡ count_of job
+    sections_length =
+        let few = rated_count.high in
+        let all : length figures ≡ 64 = rw r.at.placed (slots_length 64 1 (count_of job + 1) blank_figure (rated_figure job cat list)) in
+        let long : length (slice_range figures 1 (count_of job + 1)) ≡ count_of job + 1 - 1 = length-between figures 1 (count_of job + 1) (omega arith) in
+        rw s (omega arith)
 
-  pub rated_sections : figures_bytes job (λ i. get_or f i 0) (λ i. get_or v i 0) (λ i. get_or w i 0) ≡ losses_bytes job cat list
-  unfolding losses_bytes figures_bytes
-  rated_sections =
-      let few = rated_count.high in
-      concat_ext (count_of job) (λ i. bytes_of 4 (get_or f i 0) ++ (bytes_of 2 (get_or v i 0) ++ bytes_of 4 (get_or w i 0)))
-      (λ i. bytes_of 4 (section_flow job i) ++ (bytes_of 2 (reading_of job cat (size_of list i) i).velocity ++ bytes_of 4 (losses_of job cat list i)))
-      (λ i a h. rw (flow_at_lem job cat list r.at few i a h, velocity_at_lem job cat list r.at few i a h, loss_at_lem job cat list r.at few i a h))
+    pub section_figure : (i : ℕ) → 0 < i → i ≤ count_of job → figure_of sections i ≡ rated_figure job cat list i
+    section_figure i low high =
+        let e : 1 + (i - 1) ≡ i = omega arith in
+        rw s (rw e at (get_or-between figures 1 (count_of job + 1) (i - 1) blank_figure (omega arith)) ∙ figure_at i low high)
+
+    pub rated_result : (l : List ℕ) → 9 ≤ length l →
+        stored (stored l 0 (heads_bytes job (λ i. get_or (losses_in figures) i 0))) 9
+        (concat_to (length sections) (λ i. drop 4 (figure_bytes (figure_of sections i)))) ≡ stored l 0 (rate_bytes job cat list)
+    unfolding rate_bytes result_bytes
+    rated_result l h =
+        rw (
+          sections_length,
+          heads_same job (valid_rooted r.accepted.valid) rated_count.low (λ i. get_or (losses_in figures) i 0) (losses_of job cat list) loss_at,
+          concat_ext (count_of job) (λ i. drop 4 (figure_bytes (figure_of sections i)))
+              (λ i. bytes_of 2 (rated_figure job cat list i).velocity ++ bytes_of 4 (rated_figure job cat list i).loss)
+              (λ i low high. rw (section_figure i low high) (rest_flowless _ _ _)),
+        )
+        (result_stored l job _ _ h)
+
+    pub rated_sections : concat_to (length sections) (λ i. drop 0 (figure_bytes (figure_of sections i))) ≡ losses_bytes job cat list
+    unfolding losses_bytes figures_bytes
+    rated_sections =
+        rw sections_length
+        (concat_ext (count_of job) (λ i. drop 0 (figure_bytes (figure_of sections i)))
+        (λ i. figure_bytes (rated_figure job cat list i)) (λ i low high. rw (section_figure i low high)))

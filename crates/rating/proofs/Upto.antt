@@ -4,7 +4,6 @@ use Rattle.std.proofs.Common.{◌≡◌, ℕ, ◌+◌, ◌-◌, ◌≤◌, ◌<�
 use mathlib.Core.Logic.{⊎_elim}
 use native.Mathlib.Nat.{add-sub_cancel}
 use lib.ListN.{get_or, set, replicate}
-use Rattle.std.proofs.lemmas.List.{map-set}
 use Rattle.basis.specs.Range.{any_to}
 use Rattle.basis.specs.Slots.{slots}
 use Rattle.basis.specs.Sections.{size_of}
@@ -22,18 +21,15 @@ use Rattle.sizing.proofs.Trying.{none_over, some_under}
 use Rattle.sizing.specs.Losses.{over_at, any_with, over_any, reading_of}
 use Rattle.sizing.specs.Losses as sized
 use Rattle.rated_bytes.specs.declared.Figure.{Figure}
-use Rattle.rated_bytes.specs.Figures.{flows_of, velocities_of, losses_of}
-use Rattle.rating.specs.Steps.{Fitting, RatedAt}
+use Rattle.rated_bytes.specs.Figures.{blank_figure}
+use Rattle.rating.specs.Steps.{Fitting, rated_figure, RatedAt}
 
 module _ (job : Job) (cat list : List ℕ) where
   -- what the figures of section i are
   pub record Figures (i : ℕ) (figure : Figure) : Type 0 where
-    pub flow : figure.flow ≡ section_flow job i
     pub under : over_at job cat (size_of list i) i ≡ false
-    pub velocity : figure.velocity ≡ (reading_of job cat (size_of list i) i).velocity
-    pub loss : figure.loss ≡ sized.losses_of job cat list i
-    pub small : figure.loss ≤ 4259775
-    pub thin : figure.velocity ≤ 65535
+    pub is : figure ≡ rated_figure job cat list i
+    pub fitting : Fitting job cat list i
 
   -- the flow of section i in the list of flows
   pub flow_in : {flows : List ℕ} (i : ℕ) → flows ≡ slots 64 1 (count_of job + 1) 0 (section_flow job) → 0 < i → i ≤ count_of job → count_of job ≤ 63 →
@@ -55,38 +51,30 @@ module _ (job : Job) (cat list : List ℕ) where
         (t.velocity ≤ 65535) × (t.loss ≤ 4259775) → Figures i (record { flow = q; velocity = t.velocity; loss = t.loss })
     some_tried {t} e small =
         let u = some_under job cat (size_of list i) i t (sym (e ∙ tried)) in
-        record { flow = flow; under = u.0; velocity = u.1; loss = u.2; small = small.1; thin = small.0 }
+        record { under = u.0; is = cc; fitting = record { velocity = rw (← u.1) small.0; loss = rw (← u.2) small.1 } }
 
   -- sections 1 to i - 1 are not over, and their figures stand at their places
   pub record Upto (i : ℕ) (figures : List Figure) : Type 0 where
     pub none : any_to (i - 1) (λ j. over_at job cat (size_of list j) j) ≡ false
-    pub flows : flows_of figures ≡ slots 64 1 i 0 (section_flow job)
-    pub velocities : velocities_of figures ≡ slots 64 1 i 0 (λ j. (reading_of job cat (size_of list j) j).velocity)
-    pub losses : losses_of figures ≡ slots 64 1 i 0 (sized.losses_of job cat list)
+    pub placed : figures ≡ slots 64 1 i blank_figure (rated_figure job cat list)
     pub small : (j : ℕ) → 0 < j → j < i → Fitting job cat list j
+
+  blank_is : {flow velocity loss : ℕ} → flow ≡ 0 → velocity ≡ 0 → loss ≡ 0 →
+      ◌≡◌ {A = Figure} (record { flow = flow; velocity = velocity; loss = loss }) blank_figure
+  blank_is e f g = rw (e, f, g) refl
 
   pub upto_start : (x : Figure) → (x.flow ≡ 0) × ((x.velocity ≡ 0) × (x.loss ≡ 0)) → Upto 1 (replicate 64 x)
   upto_start x e =
-      record {
-        none = any_none _;
-        flows = rw e.0 (slots_none 64 1 0 _);
-        velocities = rw e.1.0 (slots_none 64 1 0 _);
-        losses = rw e.1.1 (slots_none 64 1 0 _);
-        small = λ j a h. absurd (omega arith);
-      }
+      let blank : x ≡ blank_figure = blank_is e.0 e.1.0 e.1.1 in
+      record { none = any_none _; placed = rw blank (slots_none 64 1 blank_figure _); small = λ j a h. absurd (omega arith) }
 
   module _ {i : ℕ} {figures : List Figure} (u : Upto i figures) (low : 0 < i) (fits : i < 64) where
     pub upto_more : {figure : Figure} → Figures i figure → Upto (i + 1) (set figures i figure)
     upto_more {figure} f =
         record {
           none = rw (add-sub_cancel i 1) (any_more (i - 1) i _ (omega arith) u.none f.under);
-          flows = map-set _ figures i figure ∙ rw (u.flows, f.flow) (slots_more 64 1 i 0 (section_flow job) (omega arith) fits);
-          velocities =
-              map-set _ figures i figure ∙
-              rw (u.velocities, f.velocity) (slots_more 64 1 i 0 (λ j. (reading_of job cat (size_of list j) j).velocity) (omega arith) fits);
-          losses = map-set _ figures i figure ∙ rw (u.losses, f.loss) (slots_more 64 1 i 0 (sized.losses_of job cat list) (omega arith) fits);
-          small = λ j a h.
-              ⊎_elim (λ e. rw e (record { velocity = rw (← f.velocity) f.thin; loss = rw (← f.loss) f.small })) (λ n. u.small j a (omega arith)) (eq_or_ne j i);
+          placed = rw (u.placed, f.is) (slots_more 64 1 i blank_figure (rated_figure job cat list) (omega arith) fits);
+          small = λ j a h. ⊎_elim (λ e. rw e f.fitting) (λ n. u.small j a (omega arith)) (eq_or_ne j i);
         }
 
     pub upto_over : i ≤ count_of job → over_at job cat (size_of list i) i ≡ true → over_any job cat list ≡ true
@@ -94,8 +82,8 @@ module _ (job : Job) (cat list : List ℕ) where
     upto_over h e = any_true (count_of job) i _ low h e
 
   pub upto_end : {i : ℕ} {figures : List Figure} → Upto i figures → i ≡ count_of job + 1 →
-      (over_any job cat list ≡ false) × RatedAt job cat list (flows_of figures) (velocities_of figures) (losses_of figures)
+      (over_any job cat list ≡ false) × RatedAt job cat list figures
   unfolding any_with
   upto_end {i} u e =
       let n : i - 1 ≡ count_of job = omega arith in
-      (rw n at u.none, record { flows = rw e at u.flows; velocities = rw e at u.velocities; losses = rw e at u.losses; small = rw e at u.small })
+      (rw n at u.none, record { placed = rw e at u.placed; small = rw e at u.small })

@@ -1,50 +1,72 @@
 // The rating call, and the losses call, which gives no heads.
-ghost use Rattle.std.specs.Prelude.{◌≡◌, ◌+◌, ◌*◌, ◌≤◌, length, IfOk};
+ghost use Rattle.std.specs.Prelude.{◌≡◌, ◌+◌, ◌*◌, ◌≤◌, length, map, slice_range, IfOk};
 ghost use Rattle.answer.specs.Answer.{number_of};
 ghost use Rattle.answer.specs.Checks.{buffer_after};
 ghost use Rattle.fields.specs.Fields.{count_of};
 ghost use Rattle.record.specs.Record.{decode};
-ghost use Rattle.rated_bytes.specs.Figures.{flows_of, velocities_of, losses_of};
+ghost use Rattle.heads.specs.Steps.{Given};
 ghost use Rattle.rating.specs.Calls.{sized_no, rate_no, rate_bytes, losses_no, losses_bytes};
-ghost use Rattle.rating.specs.Steps.{RatedJob};
+ghost use Rattle.rating.specs.Steps.{OwnFlows, RatedJob};
 
 use crate::sections::{list_ok, rate_sections};
 use acceptance::accept_both;
 use answer::Refusal;
 use demand::AcceptedJob;
-use rated_bytes::{Figure, put_result, put_sections};
+use heads::JobWithLosses;
+use rated_bytes::{Figure, Layout, put_heads, put_sections};
 
 /// A rated job, with the figures of its sections at their places, in an array since a call has no heap.
 #[derive(Clone, Copy)]
 pub struct Rating {
     pub accepted: AcceptedJob,
     pub figures: [Figure; 64],
+    pub ghost flows: { OwnFlows accepted.job figures },
+    pub ghost given: { Given accepted.job (map (λ figure. figure.loss) figures) },
 }
 
-/// What the sections come to with a result buffer of so many bytes, of which the result takes `front` and `each` for each section.
+impl Rating {
+    /// The figures of the sections alone.
+    pub fn sections(&self) -> &[Figure]
+        ensures { result.now ≡ slice_range self.now.figures 1 (count_of self.now.accepted.job + 1) }
+    {
+        let count = usize::from(self.accepted.job.header.sections);
+        &self.figures[1..=count]
+    }
+
+    /// The job with the losses of its sections.
+    pub fn with_losses(&self) -> JobWithLosses<'_>
+        ensures { (result.job.now ≡ self.now.accepted.job) × (result.losses ≡ map (λ figure. figure.loss) self.now.figures) }
+    {
+        JobWithLosses {
+            job: &self.accepted.job,
+            losses: self.figures.map(|figure| figure.loss),
+        }
+    }
+}
+
+/// What the sections come to with a result buffer of so many bytes, in which the sections stand so.
 pub fn outcome(
     b: &[u8],
     cat: &[u8],
     list: &[u8],
     room: usize,
-    front: usize,
-    each: usize,
+    layout: Layout,
 ) -> Result<Rating, Refusal>
-    requires { (front ≤ 9) × (each ≤ 10) }
+    requires { (layout.front ≤ 9) × (layout.each ≤ 10) }
     ensures number { number_of result ≡ sized_no b.now cat.now list.now room
-        (front + each * count_of (decode b.now)) }
-    ensures rated { IfOk result (λ o. RatedJob b.now cat.now list.now room (front + each * count_of (decode b.now)) o.accepted.job
-        (flows_of o.figures) (velocities_of o.figures) (losses_of o.figures)) }
+        (layout.front + layout.each * count_of (decode b.now)) }
+    ensures rated { IfOk result (λ o. RatedJob b.now cat.now list.now room (layout.front + layout.each * count_of (decode b.now))
+        o.accepted.job o.figures) }
 {
-    let accepted = accept_both(b, cat)?;
-    if !list_ok(accepted.job, cat, list) {
+    let (accepted, catalogue) = accept_both(b, cat)?;
+    if !list_ok(accepted.job, catalogue.bytes, list) {
         return Err(Refusal::SizeList);
     }
     let count = usize::from(accepted.job.header.sections);
-    if room < front + each * count {
+    if room < layout.front + layout.each * count {
         return Err(Refusal::ResultShort);
     }
-    let figures = rate_sections(&accepted, cat, list).ok_or(Refusal::SizeTooSmall)?;
+    let figures = rate_sections(&accepted, &catalogue, list).ok_or(Refusal::SizeTooSmall)?;
     Ok(Rating { accepted, figures })
 }
 
@@ -54,8 +76,9 @@ pub fn rate(b: &[u8], cat: &[u8], list: &[u8], out: &mut [u8]) -> Result<(), Ref
     ensures buffer { out.new ≡ buffer_after (number_of result)
         (rate_bytes (decode b.now) cat.now list.now) out.old }
 {
-    let rated = outcome(b, cat, list, out.len(), 9, 6)?;
-    put_result(out, rated.accepted.job, &rated.figures);
+    let rating = outcome(b, cat, list, out.len(), Layout::RATING)?;
+    put_heads(out, &rating.with_losses());
+    put_sections(out, Layout::RATING, rating.sections());
     Ok(())
 }
 
@@ -65,8 +88,7 @@ pub fn losses(b: &[u8], cat: &[u8], list: &[u8], out: &mut [u8]) -> Result<(), R
     ensures buffer { out.new ≡ buffer_after (number_of result)
         (losses_bytes (decode b.now) cat.now list.now) out.old }
 {
-    let rated = outcome(b, cat, list, out.len(), 0, 10)?;
-    let count = usize::from(rated.accepted.job.header.sections);
-    put_sections(out, 0, 0, count, &rated.figures);
+    let rating = outcome(b, cat, list, out.len(), Layout::LOSSES)?;
+    put_sections(out, Layout::LOSSES, rating.sections());
     Ok(())
 }

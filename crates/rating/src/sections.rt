@@ -1,9 +1,9 @@
 // Flow, velocity and loss of each section.
 ghost use Rattle.std.specs.Prelude.{◌≡◌, true, false, ◌≤◌, length, MatchOption};
 ghost use Rattle.sizing.specs.Losses.{list_ok, over_any};
-ghost use Rattle.rated_bytes.specs.Figures.{flows_of, velocities_of, losses_of};
-ghost use Rattle.rating.specs.Steps.{Rateable, RatedAt};
+ghost use Rattle.rating.specs.Steps.{RatedAt};
 
+use catalogue::Catalogue;
 use demand::AcceptedJob;
 use fields::Job;
 use rated_bytes::Figure;
@@ -20,27 +20,27 @@ pub fn list_ok(job: Job, cat: &[u8], list: &[u8]) -> bool
 }
 
 /// The figures of each section with its size, at the sections' places, where no section is over its last row or the limit.
-pub fn rate_sections(accepted: &AcceptedJob, cat: &[u8], list: &[u8]) -> Option<[Figure; 64]>
-    requires { Rateable accepted.now.job cat.now list.now }
-    ensures { MatchOption result (over_any accepted.now.job cat.now list.now ≡ true)
-        (λ figures. (over_any accepted.now.job cat.now list.now ≡ false)
-        × RatedAt accepted.now.job cat.now list.now (flows_of figures) (velocities_of figures) (losses_of figures)) }
+pub fn rate_sections(accepted: &AcceptedJob, catalogue: &Catalogue, list: &[u8]) -> Option<[Figure; 64]>
+    requires { list_ok accepted.now.job catalogue.now.bytes.now list.now ≡ true }
+    ensures { MatchOption result (over_any accepted.now.job catalogue.now.bytes.now list.now ≡ true)
+        (λ figures. (over_any accepted.now.job catalogue.now.bytes.now list.now ≡ false)
+        × RatedAt accepted.now.job catalogue.now.bytes.now list.now figures) }
 {
     let flows = accepted.flows();
     let job = &accepted.job;
     let mut figures = [Figure::default(); 64];
     for i in 1..=usize::from(job.header.sections) {
         let tried = try_size(
-            cat,
+            catalogue,
             usize::from(list[i - 1]),
             flows[i],
             job.header.limit,
             job.sections[i].decimetres,
             job.header.tenths,
         )?;
-        // A catalogue gives velocities of two bytes.
         figures[i] = Figure {
             flow: flows[i],
+            // std has no `From` of u32 for u16; a catalogue gives velocities of two bytes.
             velocity: tried.velocity as u16,
             loss: tried.loss,
         };

@@ -10,4 +10,4 @@ loop-i-init c = running_start _ _ _
 
 pub loop-i-preserved : goal.loop-i-preserved
 loop-i-preserved c =
-    row_more c.args.figures.now c.args.skip c.loop-i.invariant (omega arith) c.requires.1 c.bytes-bytes.ensures c.put.ensures
+    row_more c.args.figures.now c.args.layout.each c.loop-i.invariant (omega arith) c.requires.0 c.requires.1 c.bytes-bytes.ensures c.put.ensures

@@ -5,4 +5,4 @@ use Rattle.rated_bytes.proofs.Figures.{row}
 use Rattle.rated_bytes.proofs.put_sections.Given as goal
 
 abbrev pub invariant-loop-i : goal.invariant-loop-i
-invariant-loop-i l = Running (row l.figures l.skip) l.fn.out l.from l.i l.out
+invariant-loop-i l = Running (row l.figures l.layout.each) l.fn.out l.layout.front l.i l.out

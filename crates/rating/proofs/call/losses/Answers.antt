@@ -4,29 +4,25 @@ use Rattle.std.proofs.Common.{◌≡◌, ℕ, List, ◌+◌, ◌*◌, ap, ◌∙
 use Rattle.answer.proofs.Some.{number_at_exit}
 use Rattle.fields.specs.Fields.{count_of}
 use Rattle.record.specs.Record.{decode}
-use Rattle.rated_bytes.specs.RatedBytes.{figures_bytes}
 use Rattle.rating.specs.Calls.{sized_no, losses_no}
-use Rattle.rating.proofs.Rated.{rated_count, rated_sections, rated_room}
+use Rattle.rating.proofs.Rated.{rated_sections, rated_room, sections_length}
 use Rattle.rating.proofs.call.losses.Goals as goal
 
 counted : (b cat list : List ℕ) (room : ℕ) → sized_no b cat list room (0 + 10 * count_of (decode b)) ≡ losses_no b cat list room
 counted b cat list room = ap (sized_no b cat list room) (zero-add (10 * count_of (decode b)))
 
-pub returns-in_err-rated-clause-number : goal.returns-in_err-rated-clause-number
-returns-in_err-rated-clause-number c = number_at_exit _ _ c.from_residual.ensures.1 ∙ c.in_err-rated.ensures.number ∙ counted _ _ _ _
+pub returns-in_err-rating-clause-number : goal.returns-in_err-rating-clause-number
+returns-in_err-rating-clause-number c = number_at_exit _ _ c.from_residual.ensures.1 ∙ c.in_err-rating.ensures.number ∙ counted _ _ _ _
 
 pub put_sections-requires : goal.put_sections-requires
 put_sections-requires c =
-    let r = c.in_ok-rated.ensures.rated in
-    let count : c.from-count.result ≡ count_of c.in_ok-rated.rated.accepted.job = c.from-count.ensures in
-    (rw count (rated_count r).high, omega arith, rw count (rated_room r 0 10 refl))
+    let r = c.in_ok-rating.ensures.rated in
+    (omega arith, rw (sections_length r c.sections.ensures) (rated_room r 0 10 refl))
 
 pub returns-clause-number : goal.returns-clause-number
-returns-clause-number c = c.in_ok-rated.ensures.number ∙ counted _ _ _ _
+returns-clause-number c = c.in_ok-rating.ensures.number ∙ counted _ _ _ _
 
 pub returns-clause-buffer : goal.returns-clause-buffer
-unfolding figures_bytes
 returns-clause-buffer c =
-    let r = c.in_ok-rated.ensures.rated in
-    let count : c.from-count.result ≡ count_of c.in_ok-rated.rated.accepted.job = c.from-count.ensures in
-    c.put_sections.ensures ∙ rw (count, rated_sections r, r.fields) refl
+    let r = c.in_ok-rating.ensures.rated in
+    c.put_sections.ensures ∙ rw (rated_sections r c.sections.ensures, r.fields) refl

@@ -13,7 +13,7 @@ pub loop-i-init : goal.loop-i-init
 loop-i-init c =
     record {
       few = (valid_count c.args.accepted.now.accepted.valid).high;
-      long = list_long _ _ _ c.requires.list;
+      long = list_long _ _ _ c.requires;
       below = omega arith;
       upto = upto_start _ _ _ _ c.default-figures.ensures;
     }
@@ -21,8 +21,7 @@ loop-i-init c =
 pub try_size-requires : goal.try_size-requires
 try_size-requires c =
     let i = c.loop-i.i in
-    let s = list_names c.args.accepted.now.job c.args.cat.now c.args.list.now c.requires.list i (omega arith) (omega arith) in (
-      c.requires.cat,
+    let s = list_names c.args.accepted.now.job c.args.catalogue.now.bytes.now c.args.list.now c.requires i (omega arith) (omega arith) in (
       (omega arith, omega arith),
       (
         (sections_in c.args.accepted.now.job (valid_sections c.args.accepted.now.accepted.valid) i (omega arith) (omega arith)).decimetres.high,
@@ -32,17 +31,17 @@ try_size-requires c =
 
 pub returns-in_err-tried : goal.returns-in_err-tried
 returns-in_err-tried c =
-    let flow = flow_in c.args.accepted.now.job c.args.cat.now c.args.list.now c.loop-i.i c.flows-flows.ensures (omega arith) (omega arith) (omega arith) in
-    let over = none_tried c.args.accepted.now.job c.args.cat.now c.args.list.now c.loop-i.i (omega arith) flow c.in_err-tried.ensures.is in
+    let flow = flow_in c.args.accepted.now.job c.args.catalogue.now.bytes.now c.args.list.now c.loop-i.i c.flows-flows.ensures (omega arith) (omega arith) (omega arith) in
+    let over = none_tried c.args.accepted.now.job c.args.catalogue.now.bytes.now c.args.list.now c.loop-i.i (omega arith) flow c.in_err-tried.ensures.is in
     rw c.from_residual.ensures (upto_over _ _ _ c.loop-i.invariant.upto (omega arith) (omega arith) (omega arith) over)
 
 -- a section that is not over
 figures : (c : In_ok-tried) →
-    Figures c.args.accepted.now.job c.args.cat.now c.args.list.now c.loop-i.i
+    Figures c.args.accepted.now.job c.args.catalogue.now.bytes.now c.args.list.now c.loop-i.i
     (record { flow = get_or c.flows-flows.result c.loop-i.i 0; velocity = c.in_ok-tried.tried.velocity; loss = c.in_ok-tried.tried.loss })
 figures c =
-    let flow = flow_in c.args.accepted.now.job c.args.cat.now c.args.list.now c.loop-i.i c.flows-flows.ensures (omega arith) (omega arith) (omega arith) in
-    some_tried c.args.accepted.now.job c.args.cat.now c.args.list.now c.loop-i.i (omega arith) flow c.in_ok-tried.ensures.is c.in_ok-tried.ensures.small
+    let flow = flow_in c.args.accepted.now.job c.args.catalogue.now.bytes.now c.args.list.now c.loop-i.i c.flows-flows.ensures (omega arith) (omega arith) (omega arith) in
+    some_tried c.args.accepted.now.job c.args.catalogue.now.bytes.now c.args.list.now c.loop-i.i (omega arith) flow c.in_ok-tried.ensures.is c.in_ok-tried.ensures.small
 
 pub loop-i-preserved : goal.loop-i-preserved
 loop-i-preserved c =

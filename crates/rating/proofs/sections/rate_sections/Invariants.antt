@@ -11,5 +11,5 @@ invariant-loop-i l =
       few : count_of l.accepted.job ≤ 63;
       long : length l.list ≡ count_of l.accepted.job;
       below : l.i ≤ count_of l.accepted.job + 1;
-      upto : Upto l.accepted.job l.cat l.list l.i l.figures;
+      upto : Upto l.accepted.job l.catalogue.bytes.now l.list l.i l.figures;
     }
