@@ -8,3 +8,4 @@ pub mod RowBounds
 pub mod ShapeBounds
 pub mod SizeBounds
 pub mod Chunks
+pub mod Ranges

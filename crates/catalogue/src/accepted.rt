@@ -54,15 +54,7 @@ fn rows_ok(rows: &[[u8; 8]]) -> bool
     requires { 1 ≤ length rows.now }
     ensures { result ≡ rows_ok (concat rows.now) (length rows.now) }
 {
-    if !row_ok(rows, 0) {
-        return false;
-    }
-    for k in 1..rows.len() {
-        if !row_ok(rows, k) || !rises_at(rows, k) {
-            return false;
-        }
-    }
-    true
+    row_ok(rows, 0) && (1..rows.len()).all(|k| row_ok(rows, k) && rises_at(rows, k))
 }
 
 // Size s.
@@ -78,17 +70,12 @@ fn size_ok(cat: &[u8], s: usize) -> bool
 }
 
 // 11: every size.
-#[tactic(auto, using(basis::proofs::Each::all_none, basis::proofs::Each::all_more, crate::proofs::ShapeBounds::shape_in, crate::proofs::ShapeBounds::shape_sized), unfolding(crate::specs::Rules::sizes_ok))]
+#[tactic(auto, using(crate::proofs::ShapeBounds::shape_in))]
 fn sizes_ok(cat: &[u8]) -> bool
     requires { shape_ok cat.now ≡ true }
     ensures { result ≡ sizes_ok cat.now }
 {
-    for s in 1..=usize::from(sizes_of(cat)) {
-        if !size_ok(cat, s) {
-            return false;
-        }
-    }
-    true
+    (1..usize::from(sizes_of(cat)) + 1).all(|s| size_ok(cat, s))
 }
 
 /// A catalogue that 10 and 11 let pass.

@@ -42,8 +42,12 @@ module _ (f : ℕ → ℕ) (i : ℕ) where
         other = λ j r n k. get_or-set_other l (i * 13 + s) (j * 13 + r) v 0 (λ q. n (omega arith)) ∙ e.other j r n k;
       }
 
-  pub entered_end : (s n : ℕ) (before l : List ℕ) → s ≡ n + 1 → Entered f i (s - 1) before l → Entered f i n before l
-  entered_end s n before l e t = let m : s - 1 ≡ n = omega arith in rw m at t
+  -- the last of n columns
+  pub entered_last : (s n : ℕ) (before l : List ℕ) (v : ℕ) → s ≡ n → i < 64 → 0 < s → s < 13 → Entered f i (s - 1) before l → v ≡ f s →
+      Entered f i n before (set l (i * 13 + s) v)
+  entered_last s n before l v e few low high t q =
+      let m : s + 1 - 1 ≡ n = omega arith in
+      rw m at (entered_more s before l v few low high t q)
 
 -- rows 1 to i - 1
 module _ (f : ℕ → ℕ → ℕ) (m : ℕ) where
@@ -60,5 +64,8 @@ module _ (f : ℕ → ℕ → ℕ) (m : ℕ) where
             (eq_or_ne j i);
       }
 
-  pub tabled_end : (i n : ℕ) (l : List ℕ) → i ≡ n + 1 → Tabled f (i - 1) m l → Tabled f n m l
-  tabled_end i n l e t = let q : i - 1 ≡ n = omega arith in rw q at t
+  -- the last of n rows
+  pub tabled_last : (i n : ℕ) (l next : List ℕ) → i ≡ n → m < 13 → 0 < i → Tabled f (i - 1) m l → Entered (f i) i m l next → Tabled f n m next
+  tabled_last i n l next q thin low t e =
+      let k : i + 1 - 1 ≡ n = omega arith in
+      rw k at (tabled_more i l next thin low t e)

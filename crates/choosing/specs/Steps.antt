@@ -1,9 +1,7 @@
 -- The tree of sections that the search looks at, drawn from a job and a catalogue.
 -- Assumes nothing.
 use Rattle.std.specs.Prelude.{◌≡◌, false, not, Option, Some, None, List, ℕ, ◌+◌, ◌-◌, ◌*◌, ◌≤◌, ◌<◌, pos, ◌+ℤ◌, length, get_or}
-use Rattle.fields.specs.declared.Header.{Header}
 use Rattle.fields.specs.declared.Job.{Job}
-use Rattle.fields.specs.declared.Section.{Section}
 use Rattle.fields.specs.Fields.{count_of, section_of}
 use Rattle.demand.specs.Demand.{Accepted, section_flow}
 use Rattle.catalogue.specs.Layout.{sizes_of, rows_of, part_of}
@@ -39,13 +37,13 @@ abbrev pub entry_of : Option Tried → ℕ
 entry_of None = top
 entry_of (Some t) = t.loss
 
--- of a section at flow q with size s
-abbrev pub loss_by : Header → Section → List ℕ → ℕ → ℕ → ℕ
-loss_by head section cat q s = entry_of (tried_of (read_rows (part_of cat s) (rows_of cat) q) head.limit section.decimetres head.tenths)
+-- of a section of so many decimetres at flow q with size s
+abbrev pub loss_by : ℕ → ℕ → ℕ → List ℕ → ℕ → ℕ → ℕ
+loss_by limit decimetres tenths cat q s = entry_of (tried_of (read_rows (part_of cat s) (rows_of cat) q) limit decimetres tenths)
 
 -- of section i with size s
 unfoldable pub loss_entry : Job → List ℕ → ℕ → ℕ → ℕ
-loss_entry job cat i s = loss_by job.header (section_of job i) cat (section_flow job i) s
+loss_entry job cat i s = loss_by job.header.limit (section_of job i).decimetres job.header.tenths cat (section_flow job i) s
 
 -- section i of an accepted job and size s of an accepted catalogue
 pub record Pair (job : Job) (cat : List ℕ) (i s : ℕ) : Type 0 where

@@ -13,7 +13,7 @@ use demand::AcceptedJob;
 use nets::Tables;
 use search::Choice;
 
-// The tree of a job's sections, and what each of the catalogue's sizes loses and costs there.
+// The tree of a job's sections, and what each of the catalogue's sizes loses and costs there. No heap: the tables are on the stack.
 #[tactic(auto, using(demand::proofs::Validity::valid_count))]
 fn tables_of(accepted: &AcceptedJob, catalogue: &Catalogue) -> Tables
     ensures { TreeOf accepted.now.job catalogue.now.bytes.now (net_in result) }
@@ -45,5 +45,6 @@ pub fn cheapest(
         (λ c. Least accepted.now.job catalogue.now.bytes.now delivered c.cost (take (count_of accepted.now.job) c.sizes)) }
 {
     let meter = usize::from(accepted.job.header.meter);
-    search::choose(work, tables_of(accepted, catalogue), delivered + 1000 - meter)
+    let head = delivered + 1000 - meter;
+    search::choose(work, tables_of(accepted, catalogue), head)
 }

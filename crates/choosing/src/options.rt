@@ -7,9 +7,8 @@ ghost use Rattle.choosing.specs.Steps.{entry_of, loss_by, loss_entry, Entered, T
 
 use catalogue::Catalogue;
 use demand::AcceptedJob;
-use fields::{Header, Section};
 use nets::TOP;
-use sizing::Tried;
+use sizing::{Pipe, Tried};
 
 // The loss of a section with a size, or the mark where the section may not have it.
 fn entry(tried: Option<Tried>) -> u32
@@ -21,34 +20,27 @@ fn entry(tried: Option<Tried>) -> u32
     }
 }
 
-// Row i of both tables, of the section there with each size at its flow. No heap: the tables are of fixed length, 64 rows of 13.
+// Row i of both tables, of the pipe there with each size at its flow. No heap: the tables have room for 63 sections of 12 sizes, each at its number.
+#[tactic(auto, using(catalogue::proofs::AcceptedCat::cat_counts, catalogue::proofs::AcceptedCat::cat_sized, catalogue::proofs::ShapeBounds::shape_in))]
 fn put_row(
-    head: Header,
-    section: Section,
+    pipe: Pipe,
     catalogue: &Catalogue,
     i: usize,
     flow: u32,
     losses: &mut [u32; 832],
     costs: &mut [u32; 832],
 )
-    requires { (i < 64) × ((section.decimetres ≤ 5000) × (head.tenths ≤ 3)) }
-    ensures losses { Entered (loss_by head section catalogue.now.bytes.now flow) i (sizes_of catalogue.now.bytes.now)
+    requires { i < 64 }
+    ensures losses { Entered (loss_by pipe.limit pipe.decimetres pipe.tenths catalogue.now.bytes.now flow) i (sizes_of catalogue.now.bytes.now)
         losses.old losses.new }
-    ensures costs { Entered (λ s. price_of catalogue.now.bytes.now s * section.decimetres) i (sizes_of catalogue.now.bytes.now)
+    ensures costs { Entered (λ s. price_of catalogue.now.bytes.now s * pipe.decimetres) i (sizes_of catalogue.now.bytes.now)
         costs.old costs.new }
 {
     for s in 1..=usize::from(catalogue::sizes_of(catalogue.bytes)) {
-        let tried = sizing::try_size(
-            catalogue,
-            s,
-            flow,
-            head.limit,
-            section.decimetres,
-            head.tenths,
-        );
+        let tried = sizing::try_size(catalogue, s, flow, pipe);
         losses[i * 13 + s] = entry(tried);
         costs[i * 13 + s] = u32::from(catalogue::price(catalogue.bytes, s))
-            * u32::from(section.decimetres);
+            * u32::from(pipe.decimetres);
     }
 }
 
@@ -68,14 +60,11 @@ pub fn put_options(
     let flows = accepted.flows();
     let job = &accepted.job;
     for i in 1..=usize::from(job.header.sections) {
-        put_row(
-            job.header,
-            job.sections[i],
-            catalogue,
-            i,
-            flows[i],
-            losses,
-            costs,
-        );
+        let pipe = Pipe {
+            limit: job.header.limit,
+            decimetres: job.sections[i].decimetres,
+            tenths: job.header.tenths,
+        };
+        put_row(pipe, catalogue, i, flows[i], losses, costs);
     }
 }

@@ -16,35 +16,39 @@ pub struct Tried {
     pub loss: u32,
 }
 
+/// What the job says of a section's pipe: the limit of its velocity in mm/s, its length in decimetres, and k.
+#[derive(Clone, Copy)]
+pub struct Pipe {
+    pub limit: u16,
+    pub decimetres: u16,
+    pub tenths: u8,
+    pub ghost short: { decimetres ≤ 5000 },
+    pub ghost few: { tenths ≤ 3 },
+}
+
 // slope × length × (10 + k) / 1,000, up.
-fn loss(slope: u32, decimetres: u16, tenths: u8) -> u32
-    requires { (slope ≤ 65535) × (decimetres ≤ 5000) × (tenths ≤ 3) }
-    ensures { (result ≡ loss_of slope decimetres tenths) × (result ≤ 4259775) }
+fn loss(slope: u32, pipe: Pipe) -> u32
+    requires { slope ≤ 65535 }
+    ensures { (result ≡ loss_of slope pipe.decimetres pipe.tenths) × (result ≤ 4259775) }
 {
-    let product = u64::from(slope) * u64::from(decimetres) * (10 + u64::from(tenths));
+    let product = u64::from(slope) * u64::from(pipe.decimetres) * (10 + u64::from(pipe.tenths));
     // std has no `From` of u64 for u32; a loss is at most 4,259,775 cm.
     round::divide_up(product, 1000) as u32
 }
 
-/// A section of so many decimetres with size s of a catalogue at flow q; none where the flow is over the size's last row or the velocity over the limit.
-pub fn try_size(
-    catalogue: &Catalogue,
-    s: usize,
-    q: u32,
-    limit: u16,
-    decimetres: u16,
-    tenths: u8,
-) -> Option<Tried>
-    requires { ((0 < s) × (s ≤ sizes_of catalogue.now.bytes.now)) × ((decimetres ≤ 5000) × (tenths ≤ 3)) }
-    ensures is { result ≡ tried_of (read_rows (part_of catalogue.now.bytes.now s) (rows_of catalogue.now.bytes.now) q) limit decimetres tenths }
+/// A section's pipe with size s of a catalogue at flow q; none where the flow is over the size's last row or the velocity over the limit.
+pub fn try_size(catalogue: &Catalogue, s: usize, q: u32, pipe: Pipe) -> Option<Tried>
+    requires { (0 < s) × (s ≤ sizes_of catalogue.now.bytes.now) }
+    ensures is { result ≡ tried_of (read_rows (part_of catalogue.now.bytes.now s) (rows_of catalogue.now.bytes.now) q) pipe.limit
+        pipe.decimetres pipe.tenths }
     ensures small { IfSome result (λ t. (t.velocity ≤ 65535) × (t.loss ≤ 4259775)) }
 {
     let reading = catalogue.read_size(s, q)?;
-    if u32::from(limit) < reading.velocity {
+    if u32::from(pipe.limit) < reading.velocity {
         return None;
     }
     Some(Tried {
         velocity: reading.velocity,
-        loss: loss(reading.slope, decimetres, tenths),
+        loss: loss(reading.slope, pipe),
     })
 }

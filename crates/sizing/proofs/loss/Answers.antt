@@ -8,13 +8,13 @@ use Rattle.sizing.proofs.loss.Goals as goal
 pub overflow_cast-result : goal.overflow_cast-result
 unfolding loss_of
 overflow_cast-result c =
-    let top = loss_top c.args.slope c.args.decimetres c.args.tenths c.requires.0 c.requires.1 c.requires.2 in
-    let whole : c.divide_up.result ≡ loss_of c.args.slope c.args.decimetres c.args.tenths = cc in
+    let top = loss_top c.args.slope c.args.pipe.decimetres c.args.pipe.tenths c.requires c.args.pipe.short c.args.pipe.few in
+    let whole : c.divide_up.result ≡ loss_of c.args.slope c.args.pipe.decimetres c.args.pipe.tenths = cc in
     omega arith
 
 pub returns : goal.returns
 unfolding loss_of
 returns c =
-    let top = loss_top c.args.slope c.args.decimetres c.args.tenths c.requires.0 c.requires.1 c.requires.2 in
-    let whole : c.divide_up.result ≡ loss_of c.args.slope c.args.decimetres c.args.tenths = cc in
+    let top = loss_top c.args.slope c.args.pipe.decimetres c.args.pipe.tenths c.requires c.args.pipe.short c.args.pipe.few in
+    let whole : c.divide_up.result ≡ loss_of c.args.slope c.args.pipe.decimetres c.args.pipe.tenths = cc in
     (whole, omega arith)

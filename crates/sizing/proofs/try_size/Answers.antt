@@ -14,10 +14,9 @@ returns-then-from-reading-clause-is c =
 
 pub loss-requires : goal.loss-requires
 loss-requires c =
-    let p = c.requires in
     let s = served_some _ _ (sym c.in_ok-reading.ensures) in
-    let t = read_top c.args.catalogue.now.accepted c.args.s p.0.0 p.0.1 c.args.catalogue.now.fit c.args.q in
-    (omega arith, omega arith, omega arith)
+    let t = read_top c.args.catalogue.now.accepted c.args.s c.requires.0 c.requires.1 c.args.catalogue.now.fit c.args.q in
+    omega arith
 
 pub returns-clause-is : goal.returns-clause-is
 returns-clause-is c =

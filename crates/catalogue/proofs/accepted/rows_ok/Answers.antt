@@ -1,27 +1,21 @@
--- `catalogue::accepted::rows_ok`: a row that breaks a rule refuses the rows, and where each is seen they keep the rules.
+-- `catalogue::accepted::rows_ok` meets its contract: the chain tests each row after the first.
 -- Assumes nothing.
-use Rattle.std.proofs.Common.{◌≡◌, length, sym, arith}
-use Rattle.catalogue.proofs.RowBounds.{seen_first, seen_more, seen_rows, own_refused, rises_refused}
-use Rattle.catalogue.proofs.accepted.rows_ok.Goals.{then-not-row_ok-2-via-then-not-row_ok-2, then-not-row_ok-2-via-else-not-row_ok-2+then-not-rises_at}
+use Rattle.std.proofs.Common.{ℕ, length, ◌-◌, ◌&&◌, sym, ◌∙◌, refl, rules, tests, arith}
+use Rattle.std.specs.List.{concat}
+use Rattle.std.proofs.lemmas.Iterator.{YieldsList-from_range}
+use Rattle.std.proofs.lemmas.Iterator.Search.{all_from_yields_List}
+use Rattle.catalogue.specs.Rules.{row_ok, rises_at}
+use Rattle.catalogue.proofs.Ranges.{range_all}
+use Rattle.catalogue.proofs.RowBounds.{rows_each, first_refused}
 use Rattle.catalogue.proofs.accepted.rows_ok.Goals as goal
 
-pub returns-then-not-row_ok : goal.returns-then-not-row_ok
-returns-then-not-row_ok c = own_refused _ _ 0 (omega arith) cc
+pub returns-then-row_ok : goal.returns-then-row_ok
+returns-then-row_ok c =
+    let rows = concat c.args.rows.now in
+    let n = length c.args.rows.now in
+    let test = λ (k : ℕ). row_ok rows k && rises_at rows k in
+    let each = all_from_yields_List test _ _ _ c.all.ensures.ran (YieldsList-from_range 1 n (n - 1) (cc) refl) (λ x b q k. search (rules, tests)) in
+    each ∙ range_all test (n - 1) ∙ rows_each rows n (sym c.if-row_ok.ensures) (omega arith)
 
-pub loop-k-init : goal.loop-k-init
-loop-k-init c = seen_first _ cc
-
-pub returns-then-not-row_ok-2 : goal.returns-then-not-row_ok-2
-returns-then-not-row_ok-2 c =
-    elim c.then-not-row_ok-2.branch [
-      | then-not-row_ok-2-via-then-not-row_ok-2 w ↦ own_refused _ _ c.loop-k.k (omega arith) cc
-      | then-not-row_ok-2-via-else-not-row_ok-2+then-not-rises_at w ↦ rises_refused _ _ c.loop-k.k (omega arith) (omega arith) cc
-    ]
-
-pub loop-k-preserved : goal.loop-k-preserved
-loop-k-preserved c = seen_more _ c.loop-k.k (omega arith) c.loop-k.invariant (cc) (cc)
-
-pub returns : goal.returns
-returns c =
-    let e : c.loop-k.k ≡ length c.args.rows.now = omega arith in
-    sym (seen_rows _ _ (rw e at c.loop-k.invariant))
+pub returns-else-row_ok : goal.returns-else-row_ok
+returns-else-row_ok c = c.if-row_ok.false ∙ first_refused _ _ (omega arith) cc

@@ -1,10 +1,22 @@
--- `catalogue::accepted::sizes_ok`: a size that breaks a rule refuses the catalogue.
+-- `catalogue::accepted::sizes_ok` meets its contract: the chain tests each size, and each lies within the catalogue.
 -- Assumes nothing.
-use Rattle.std.proofs.Common.{sym, arith}
-use Rattle.basis.proofs.Each.{all_false}
-use Rattle.catalogue.specs.Rules.{sizes_ok}
+use Rattle.std.proofs.Common.{◌+◌, ◌∙◌, rules, tests, arith}
+use Rattle.std.proofs.lemmas.Iterator.{YieldsList-from_range, serves_from_Range}
+use Rattle.std.proofs.lemmas.Iterator.Search.{all_from_yields_List}
+use Rattle.catalogue.specs.Layout.{sizes_of}
+use Rattle.catalogue.specs.Rules.{size_ok, sizes_ok}
+use Rattle.catalogue.proofs.Ranges.{range_all}
+use Rattle.catalogue.proofs.ShapeBounds.{shape_in, shape_sized}
 use Rattle.catalogue.proofs.accepted.sizes_ok.Goals as goal
 
-pub returns-then-not-size_ok : goal.returns-then-not-size_ok
+pub all-requires-clause-callable : goal.all-requires-clause-callable
+all-requires-clause-callable c =
+    let shape = shape_in _ c.requires in
+    serves_from_Range (λ x q r. search (rules, tests)) (λ x low high. let rows = shape.rows.low in let sized = shape_sized {s = x} shape low (omega arith) in search (rules, tests))
+
+pub returns : goal.returns
 unfolding sizes_ok
-returns-then-not-size_ok c = sym (all_false _ c.loop-s.s _ (omega arith) (omega arith) cc)
+returns c =
+    let cat = c.args.cat.now in
+    let each = all_from_yields_List (size_ok cat) _ _ _ c.all.ensures.ran (YieldsList-from_range 1 (sizes_of cat + 1) (sizes_of cat) (cc) (omega arith)) (λ x b q k. search (rules, tests)) in
+    each ∙ range_all (size_ok cat) (sizes_of cat)

@@ -8,14 +8,14 @@ use Rattle.catalogue.proofs.AcceptedCat.{cat_counts}
 use Rattle.choosing.specs.Suitable.{price_at}
 use Rattle.choosing.specs.Steps.{loss_entry}
 use Rattle.choosing.proofs.Entries.{flow_held}
-use Rattle.choosing.proofs.Placed.{tabled_more, tabled_end}
+use Rattle.choosing.proofs.Placed.{tabled_more, tabled_last}
 use Rattle.choosing.proofs.options.put_options.Goals as goal
 
-pub put_row-requires : goal.put_row-requires
-put_row-requires c =
+pub invariant_of-pipe : goal.invariant_of-pipe
+invariant_of-pipe c =
     let valid = c.args.accepted.now.accepted.valid in
     let section = sections_in c.args.accepted.now.job (valid_sections valid) c.loop-i.i (omega arith) (omega arith) in
-    (omega (arith, (valid_count valid).high), (section.decimetres.high, (header_in c.args.accepted.now.job.header valid.header).tenths.high))
+    record { short = section.decimetres.high; few = (header_in c.args.accepted.now.job.header valid.header).tenths.high }
 
 pub loop-i-preserved : goal.loop-i-preserved
 unfolding loss_entry price_at
@@ -33,10 +33,10 @@ unfolding loss_entry
 returns-2-clause-losses c =
     let thin = (cat_counts c.args.catalogue.now.accepted).0.high in
     let flow = flow_held c.args.accepted.now.job _ c.loop-i.i c.flows-flows.ensures (valid_count c.args.accepted.now.accepted.valid).high (omega arith) (omega arith) in
-    tabled_end _ _ _ _ _ (omega arith) (tabled_more _ _ _ _ _ (omega (arith, thin)) (omega arith) c.loop-i.invariant.losses (rw flow at c.put_row.ensures.losses))
+    tabled_last _ _ _ _ _ _ (omega arith) (omega (arith, thin)) (omega arith) c.loop-i.invariant.losses (rw flow at c.put_row.ensures.losses)
 
 pub returns-2-clause-costs : goal.returns-2-clause-costs
 unfolding price_at
 returns-2-clause-costs c =
     let thin = (cat_counts c.args.catalogue.now.accepted).0.high in
-    tabled_end _ _ _ _ _ (omega arith) (tabled_more _ _ _ _ _ (omega (arith, thin)) (omega arith) c.loop-i.invariant.costs c.put_row.ensures.costs)
+    tabled_last _ _ _ _ _ _ (omega arith) (omega (arith, thin)) (omega arith) c.loop-i.invariant.costs c.put_row.ensures.costs
