@@ -7,7 +7,7 @@ use catalogue::Catalogue;
 use demand::AcceptedJob;
 use fields::Job;
 use rated_bytes::Figure;
-use sizing::try_size;
+use sizing::{Pipe, try_size};
 
 /// 12: the list is S long and names sizes.
 pub fn list_ok(job: Job, cat: &[u8], list: &[u8]) -> bool
@@ -30,14 +30,12 @@ pub fn rate_sections(accepted: &AcceptedJob, catalogue: &Catalogue, list: &[u8])
     let job = &accepted.job;
     let mut figures = [Figure::default(); 64];
     for i in 1..=usize::from(job.header.sections) {
-        let tried = try_size(
-            catalogue,
-            usize::from(list[i - 1]),
-            flows[i],
-            job.header.limit,
-            job.sections[i].decimetres,
-            job.header.tenths,
-        )?;
+        let pipe = Pipe {
+            limit: job.header.limit,
+            decimetres: job.sections[i].decimetres,
+            tenths: job.header.tenths,
+        };
+        let tried = try_size(catalogue, usize::from(list[i - 1]), flows[i], pipe)?;
         figures[i] = Figure {
             flow: flows[i],
             // std has no `From` of u32 for u16; a catalogue gives velocities of two bytes.

@@ -18,16 +18,18 @@ loop-i-init c =
       upto = upto_start _ _ _ _ c.default-figures.ensures;
     }
 
+pub invariant_of-pipe : goal.invariant_of-pipe
+invariant_of-pipe c =
+    let valid = c.args.accepted.now.accepted.valid in
+    record {
+      short = (sections_in c.args.accepted.now.job (valid_sections valid) c.loop-i.i (omega arith) (omega arith)).decimetres.high;
+      few = (header_in c.args.accepted.now.job.header valid.header).tenths.high;
+    }
+
 pub try_size-requires : goal.try_size-requires
 try_size-requires c =
-    let i = c.loop-i.i in
-    let s = list_names c.args.accepted.now.job c.args.catalogue.now.bytes.now c.args.list.now c.requires i (omega arith) (omega arith) in (
-      (omega arith, omega arith),
-      (
-        (sections_in c.args.accepted.now.job (valid_sections c.args.accepted.now.accepted.valid) i (omega arith) (omega arith)).decimetres.high,
-        (header_in c.args.accepted.now.job.header c.args.accepted.now.accepted.valid.header).tenths.high,
-      ),
-    )
+    let s = list_names c.args.accepted.now.job c.args.catalogue.now.bytes.now c.args.list.now c.requires c.loop-i.i (omega arith) (omega arith) in
+    (omega arith, omega arith)
 
 pub returns-in_err-tried : goal.returns-in_err-tried
 returns-in_err-tried c =

@@ -13,7 +13,8 @@ mapped : (c : After-map) → c.map.result ≡ losses_in c.args.self.now.figures
 mapped c =
     let at : (i : ℕ) → i < 64 → get_or c.map.result i 0 ≡ (get_or c.args.self.now.figures i blank_figure).loss = λ i h. let k = c.map.ensures.items.at i blank_figure 0 h in search rules in
     let long : length c.map.result ≡ 64 = c.map.ensures.items.long in
-    let same : length c.map.result ≡ length (losses_in c.args.self.now.figures) = long ∙ sym (length-map (λ (f : Figure). f.loss) c.args.self.now.figures ∙ ?) in
+    let told : length c.args.self.now.figures ≡ 64 = search rules in
+    let same : length c.map.result ≡ length (losses_in c.args.self.now.figures) = long ∙ sym (length-map c.args.self.now.figures (λ f. f.loss) ∙ told) in
     ext_get_or 0 _ _ same (λ i h. at i (omega arith) ∙ sym (get_or-map (λ (f : Figure). f.loss) c.args.self.now.figures i blank_figure))
 
 pub invariant_of-result : goal.invariant_of-result
