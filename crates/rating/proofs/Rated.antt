@@ -11,7 +11,7 @@ use Rattle.std.proofs.Math.ListN.{get_or-map}
 use Rattle.basis.specs.Range.{concat_to}
 use Rattle.basis.specs.Stored.{stored}
 use Rattle.basis.proofs.Concat.{concat_ext}
-use Rattle.basis.proofs.Slots.{slots_in, slots_length}
+use Rattle.basis.proofs.Slots.{slots_in}
 use Rattle.basis.proofs.Within.{Within}
 use Rattle.wire.specs.Wire.{bytes_of}
 use Rattle.fields.specs.declared.Job.{Job}
@@ -26,11 +26,20 @@ use Rattle.rated_bytes.specs.RatedBytes.{heads_bytes, result_bytes, figures_byte
 use Rattle.rated_bytes.proofs.Same.{heads_same}
 use Rattle.rated_bytes.proofs.Written.{rest_flowless, result_stored}
 use Rattle.rating.specs.Calls.{rate_bytes, losses_bytes}
-use Rattle.rating.specs.Steps.{rated_figure, RatedAt, RatedJob, OwnFlows}
+use Rattle.rating.specs.Steps.{rated_figure, RatedAt, RatedJob, Alone, OwnFlows, losses_in}
 
--- the losses at the sections' places
-abbrev pub losses_in : List Figure → List ℕ
-losses_in figures = map (λ figure. figure.loss) figures
+-- a part of the figures at the sections' places
+pub alone : (count : ℕ) (figures : List Figure) {sections : List Figure} → sections ≡ slice_range figures 1 (count + 1) → count + 1 ≤ length figures →
+    Alone count figures sections
+alone count figures s fits =
+    let long : length (slice_range figures 1 (count + 1)) ≡ count + 1 - 1 = length-between figures 1 (count + 1) fits in
+    rw s
+    (record {
+      long = omega arith;
+      each = λ i low high.
+          let e : 1 + (i - 1) ≡ i = omega arith in
+          rw e at (get_or-between figures 1 (count + 1) (i - 1) blank_figure (omega arith));
+    })
 
 -- what a job that is rated gives those that write it
 module _ {b cat list : List ℕ} {room long : ℕ} {job : Job} {figures : List Figure} (r : RatedJob b cat list room long job figures) where
@@ -60,19 +69,10 @@ module _ {b cat list : List ℕ} {room long : ℕ} {job : Job} {figures : List F
         top = λ i low high. rw (loss_at i low high) (r.at.small i low (omega arith)).loss;
       }
 
-  -- the sections' figures alone
-  module _ {sections : List Figure} (s : sections ≡ slice_range figures 1 (count_of job + 1)) where
-    pub sections_length : length sections ≡ count_of job
-    sections_length =
-        let few = rated_count.high in
-        let all : length figures ≡ 64 = rw r.at.placed (slots_length 64 1 (count_of job + 1) blank_figure (rated_figure job cat list)) in
-        let long : length (slice_range figures 1 (count_of job + 1)) ≡ count_of job + 1 - 1 = length-between figures 1 (count_of job + 1) (omega arith) in
-        rw s (omega arith)
-
-    pub section_figure : (i : ℕ) → 0 < i → i ≤ count_of job → figure_of sections i ≡ rated_figure job cat list i
-    section_figure i low high =
-        let e : 1 + (i - 1) ≡ i = omega arith in
-        rw s (rw e at (get_or-between figures 1 (count_of job + 1) (i - 1) blank_figure (omega arith)) ∙ figure_at i low high)
+  -- by the sections' figures alone
+  module _ {sections : List Figure} (s : Alone (count_of job) figures sections) where
+    section_figure : (i : ℕ) → 0 < i → i ≤ count_of job → figure_of sections i ≡ rated_figure job cat list i
+    section_figure i low high = s.each i low high ∙ figure_at i low high
 
     pub rated_result : (l : List ℕ) → 9 ≤ length l →
         stored (stored l 0 (heads_bytes job (λ i. get_or (losses_in figures) i 0))) 9
@@ -80,7 +80,7 @@ module _ {b cat list : List ℕ} {room long : ℕ} {job : Job} {figures : List F
     unfolding rate_bytes result_bytes
     rated_result l h =
         rw (
-          sections_length,
+          s.long,
           heads_same job (valid_rooted r.accepted.valid) rated_count.low (λ i. get_or (losses_in figures) i 0) (losses_of job cat list) loss_at,
           concat_ext (count_of job) (λ i. drop 4 (figure_bytes (figure_of sections i)))
               (λ i. bytes_of 2 (rated_figure job cat list i).velocity ++ bytes_of 4 (rated_figure job cat list i).loss)
@@ -91,6 +91,6 @@ module _ {b cat list : List ℕ} {room long : ℕ} {job : Job} {figures : List F
     pub rated_sections : concat_to (length sections) (λ i. drop 0 (figure_bytes (figure_of sections i))) ≡ losses_bytes job cat list
     unfolding losses_bytes figures_bytes
     rated_sections =
-        rw sections_length
+        rw s.long
         (concat_ext (count_of job) (λ i. drop 0 (figure_bytes (figure_of sections i)))
         (λ i. figure_bytes (rated_figure job cat list i)) (λ i low high. rw (section_figure i low high)))

@@ -1,6 +1,6 @@
 -- What the contracts inside rating say.
 -- Assumes nothing.
-use Rattle.std.specs.Prelude.{◌≡◌, true, ℕ, ◌+◌, ◌≤◌, ◌<◌, List, get_or}
+use Rattle.std.specs.Prelude.{◌≡◌, true, ℕ, ◌+◌, ◌≤◌, ◌<◌, List, length, get_or, map}
 use Rattle.basis.specs.Slots.{slots}
 use Rattle.basis.specs.Sections.{size_of}
 use Rattle.fields.specs.declared.Job.{Job}
@@ -9,7 +9,7 @@ use Rattle.record.specs.Record.{decode}
 use Rattle.demand.specs.Demand.{section_flow, Accepted}
 use Rattle.catalogue.specs.Steps.{AcceptedCat}
 use Rattle.rated_bytes.specs.declared.Figure.{Figure}
-use Rattle.rated_bytes.specs.Figures.{blank_figure}
+use Rattle.rated_bytes.specs.Figures.{blank_figure, figure_of}
 use Rattle.sizing.specs.Losses.{list_ok, reading_of, losses_of}
 
 -- an accepted job, an accepted catalogue and a list that 12 lets pass
@@ -47,3 +47,12 @@ pub record RatedJob (b cat list : List ℕ) (room long : ℕ) (job : Job) (figur
 -- figures at their places with the job's own flows
 abbrev pub OwnFlows : Job → List Figure → Type 0
 OwnFlows job figures = (i : ℕ) → 0 < i → i ≤ count_of job → (get_or figures i blank_figure).flow ≡ section_flow job i
+
+-- the losses at the sections' places
+abbrev pub losses_in : List Figure → List ℕ
+losses_in figures = map (λ figure. figure.loss) figures
+
+-- the figures of sections 1 to count alone, out of those at the sections' places
+pub record Alone (count : ℕ) (figures sections : List Figure) : Type 0 where
+  pub long : length sections ≡ count
+  pub each : (i : ℕ) → 0 < i → i ≤ count → figure_of sections i ≡ get_or figures i blank_figure

@@ -1,12 +1,12 @@
 // The rating call, and the losses call, which gives no heads.
-ghost use Rattle.std.specs.Prelude.{◌≡◌, ◌+◌, ◌*◌, ◌≤◌, length, map, slice_range, IfOk};
+ghost use Rattle.std.specs.Prelude.{◌≡◌, ◌+◌, ◌*◌, ◌≤◌, length, IfOk};
 ghost use Rattle.answer.specs.Answer.{number_of};
 ghost use Rattle.answer.specs.Checks.{buffer_after};
 ghost use Rattle.fields.specs.Fields.{count_of};
 ghost use Rattle.record.specs.Record.{decode};
 ghost use Rattle.heads.specs.Steps.{Given};
 ghost use Rattle.rating.specs.Calls.{sized_no, rate_no, rate_bytes, losses_no, losses_bytes};
-ghost use Rattle.rating.specs.Steps.{OwnFlows, RatedJob};
+ghost use Rattle.rating.specs.Steps.{Alone, OwnFlows, RatedJob, losses_in};
 
 use crate::sections::{list_ok, rate_sections};
 use acceptance::accept_both;
@@ -21,13 +21,13 @@ pub struct Rating {
     pub accepted: AcceptedJob,
     pub figures: [Figure; 64],
     pub ghost flows: { OwnFlows accepted.job figures },
-    pub ghost given: { Given accepted.job (map (λ figure. figure.loss) figures) },
+    pub ghost given: { Given accepted.job (losses_in figures) },
 }
 
 impl Rating {
     /// The figures of the sections alone.
     pub fn sections(&self) -> &[Figure]
-        ensures { result.now ≡ slice_range self.now.figures 1 (count_of self.now.accepted.job + 1) }
+        ensures { Alone (count_of self.now.accepted.job) self.now.figures result.now }
     {
         let count = usize::from(self.accepted.job.header.sections);
         &self.figures[1..=count]
@@ -35,7 +35,7 @@ impl Rating {
 
     /// The job with the losses of its sections.
     pub fn with_losses(&self) -> JobWithLosses<'_>
-        ensures { (result.job.now ≡ self.now.accepted.job) × (result.losses ≡ map (λ figure. figure.loss) self.now.figures) }
+        ensures { (result.job.now ≡ self.now.accepted.job) × (result.losses ≡ losses_in self.now.figures) }
     {
         JobWithLosses {
             job: &self.accepted.job,

@@ -20,7 +20,11 @@ pub fn list_ok(job: Job, cat: &[u8], list: &[u8]) -> bool
 }
 
 /// The figures of each section with its size, at the sections' places, where no section is over its last row or the limit.
-pub fn rate_sections(accepted: &AcceptedJob, catalogue: &Catalogue, list: &[u8]) -> Option<[Figure; 64]>
+pub fn rate_sections(
+    accepted: &AcceptedJob,
+    catalogue: &Catalogue,
+    list: &[u8],
+) -> Option<[Figure; 64]>
     requires { list_ok accepted.now.job catalogue.now.bytes.now list.now ≡ true }
     ensures { MatchOption result (over_any accepted.now.job catalogue.now.bytes.now list.now ≡ true)
         (λ figures. (over_any accepted.now.job catalogue.now.bytes.now list.now ≡ false)

@@ -4,12 +4,8 @@ use Rattle.std.proofs.Common.{◌≡◌, sym, ap, ◌∙◌, arith}
 use Rattle.answer.specs.Answer.{refusal_number}
 use Rattle.answer.proofs.Some.{refusal_some}
 use Rattle.lines.specs.Lines.{refused_line}
-use Rattle.rating.proofs.Rated.{rated_given}
 use Rattle.rated_text.proofs.Figures.{text_refused, text_rated}
 use Rattle.rated_text.proofs.text_of.Goals as goal
-
-pub rated-requires : goal.rated-requires
-rated-requires c = let r = c.in-Ok.ensures.rated in (rated_given r, r.at.flows)
 
 pub returns-in-Ok : goal.returns-in-Ok
 returns-in-Ok c = c.rated.ensures ∙ text_rated c.in-Ok.ensures.rated (sym c.in-Ok.ensures.number)

@@ -5,7 +5,7 @@ use Rattle.answer.proofs.Some.{number_at_exit}
 use Rattle.fields.specs.Fields.{count_of}
 use Rattle.record.specs.Record.{decode}
 use Rattle.rating.specs.Calls.{sized_no, losses_no}
-use Rattle.rating.proofs.Rated.{rated_sections, rated_room, sections_length}
+use Rattle.rating.proofs.Rated.{rated_sections, rated_room}
 use Rattle.rating.proofs.call.losses.Goals as goal
 
 counted : (b cat list : List ℕ) (room : ℕ) → sized_no b cat list room (0 + 10 * count_of (decode b)) ≡ losses_no b cat list room
@@ -17,7 +17,7 @@ returns-in_err-rating-clause-number c = number_at_exit _ _ c.from_residual.ensur
 pub put_sections-requires : goal.put_sections-requires
 put_sections-requires c =
     let r = c.in_ok-rating.ensures.rated in
-    (omega arith, rw (sections_length r c.sections.ensures) (rated_room r 0 10 refl))
+    (omega arith, rw (c.sections.ensures.long) (rated_room r 0 10 refl))
 
 pub returns-clause-number : goal.returns-clause-number
 returns-clause-number c = c.in_ok-rating.ensures.number ∙ counted _ _ _ _

@@ -2,7 +2,7 @@
 -- Assumes nothing.
 use Rattle.std.proofs.Common.{◌∙◌, refl, arith}
 use Rattle.answer.proofs.Some.{number_at_exit}
-use Rattle.rating.proofs.Rated.{rated_result, rated_room, sections_length}
+use Rattle.rating.proofs.Rated.{rated_result, rated_room}
 use Rattle.rating.proofs.call.rate.Goals as goal
 
 pub returns-in_err-rating-clause-number : goal.returns-in_err-rating-clause-number
@@ -14,7 +14,7 @@ put_heads-requires c = omega (arith, rated_room c.in_ok-rating.ensures.rated 9 6
 pub put_sections-requires : goal.put_sections-requires
 put_sections-requires c =
     let r = c.in_ok-rating.ensures.rated in
-    (omega arith, rw (sections_length r c.sections.ensures) (omega (arith, rated_room r 9 6 refl)))
+    (omega arith, rw (c.sections.ensures.long) (omega (arith, rated_room r 9 6 refl)))
 
 pub returns-clause-buffer : goal.returns-clause-buffer
 returns-clause-buffer c =

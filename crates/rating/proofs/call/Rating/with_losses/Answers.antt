@@ -5,7 +5,7 @@ use Rattle.std.proofs.Math.ListN.{length-map, get_or-map}
 use Rattle.std.proofs.Math.Seq.{ext_get_or}
 use Rattle.rated_bytes.specs.declared.Figure.{Figure}
 use Rattle.rated_bytes.specs.Figures.{blank_figure}
-use Rattle.rating.proofs.Rated.{losses_in}
+use Rattle.rating.specs.Steps.{losses_in}
 use Rattle.rating.proofs.call.Rating.with_losses.Goals as goal
 use Rattle.rating.proofs.call.Rating.with_losses.Goals.{After-map}
 
