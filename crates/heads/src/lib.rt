@@ -21,7 +21,8 @@ struct Greatest {
     section: u8,
 }
 
-/// A job that keeps 3 and 5, with a loss of at most 4,259,775 cm for each section at the section's place. In an array since a call has no heap.
+/// A job that keeps 3 and 5, with a loss of at most 4,259,775 cm for each section. The losses stand at the sections' places, in an array since a
+/// call has no heap.
 #[derive(Clone, Copy)]
 pub struct JobWithLosses<'a> {
     pub job: &'a Job,

@@ -7,6 +7,8 @@ ghost use Rattle.lines.specs.Lines.{spaced, house_line, section_line, head_line,
 
 use text::Text;
 
+// A function for each line, as they differ in word and figures: what they share is the one call of `put_figures`.
+
 /// Hour, day and mean hour.
 #[tactic(auto, using(crate::proofs::Spaced::pieces), unfolding(crate::specs::Lines::house_line))]
 pub fn put_house<const ROOM: usize>(text: &mut Text<ROOM>, hour: u32, day: u32, mean: u32)

@@ -59,7 +59,7 @@ pub fn outcome(
         o.accepted.job o.figures) }
 {
     let (accepted, catalogue) = accept_both(b, cat)?;
-    if !list_ok(accepted.job, catalogue.bytes, list) {
+    if !list_ok(&accepted.job, catalogue.bytes, list) {
         return Err(Refusal::SizeList);
     }
     let count = usize::from(accepted.job.header.sections);

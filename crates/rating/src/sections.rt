@@ -10,16 +10,17 @@ use rated_bytes::Figure;
 use sizing::{Pipe, try_size};
 
 /// 12: the list is S long and names sizes.
-pub fn list_ok(job: Job, cat: &[u8], list: &[u8]) -> bool
+pub fn list_ok(job: &Job, cat: &[u8], list: &[u8]) -> bool
     requires { 7 ≤ length cat.now }
-    ensures { result ≡ list_ok job cat.now list.now }
+    ensures { result ≡ list_ok job.now cat.now list.now }
 {
     let sizes = catalogue::sizes_of(cat);
     list.len() == usize::from(job.header.sections)
         && list.iter().all(|size| (1..=sizes).contains(size))
 }
 
-/// The figures of each section with its size, at the sections' places, where no section is over its last row or the limit.
+/// The figures of each section with its size, at the sections' places in an array (no heap), where no section is over its last row or
+/// the limit.
 pub fn rate_sections(
     accepted: &AcceptedJob,
     catalogue: &Catalogue,

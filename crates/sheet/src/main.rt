@@ -14,7 +14,8 @@ fn main(rt: HostRuntime) {
     let _ = rt.stdout().write_all(&text[..length]);
 }
 
-// Reads until the buffer is full, the input ends or a read fails; how many bytes came. The input may come in pieces.
+// Reads until the buffer is full, the input ends or a read fails; how many bytes came. The input may come in pieces. Fixed memory: std's
+// `read_to_end` takes a Vec, and memory may run out.
 fn read_full(input: &mut impl Read, buffer: &mut [u8]) -> usize
     ensures { result ≤ length buffer.new }
 {

@@ -16,6 +16,7 @@ fn record_end(s: &[u8]) -> usize
     if s.len() < 4 {
         return s.len();
     }
+    // std has no `From` of u32 for usize; each u32 fits.
     let stated = u32::at(s, 0) as usize;
     stated.min(s.len())
 }

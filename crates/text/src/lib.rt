@@ -56,6 +56,8 @@ impl<const ROOM: usize> Text<ROOM> {
         let _ = self.bytes.try_extend_from_slice(word);
     }
 
+    // Two functions for figures, as two definitions are promised, `decimal` and `signed_decimal`: what they share is `push_spaced`.
+
     /// A space and a figure.
     #[tactic(auto, using(crate::proofs::Decimal::figures))]
     pub fn push_figure(&mut self, n: u32)

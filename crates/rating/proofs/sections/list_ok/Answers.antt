@@ -16,9 +16,9 @@ returns-then-list-from c =
     let test = within 1 (sizes_of c.args.cat.now) in
     let each : c.all.result ≡ list_all test c.args.list.now =
     all_from_yields_List test _ _ _ c.all.ensures.ran (YieldsList-from_slice c.args.list.now cc) (λ x b q k. search (rules, tests)) in
-    let long : length c.args.list.now ≡ count_of c.args.job = omega arith in
-    each ∙ all_listed test c.args.list.now ∙ rw long (sym (named.list_all c.args.job c.args.cat.now c.args.list.now long))
+    let long : length c.args.list.now ≡ count_of c.args.job.now = omega arith in
+    each ∙ all_listed test c.args.list.now ∙ rw long (sym (named.list_all c.args.job.now c.args.cat.now c.args.list.now long))
 
 pub returns-else-list-from : goal.returns-else-list-from
 returns-else-list-from c =
-    rw (named.other_length c.args.job c.args.cat.now c.args.list.now (λ e. omega arith)) (search (rules, tests))
+    rw (named.other_length c.args.job.now c.args.cat.now c.args.list.now (λ e. omega arith)) (search (rules, tests))
