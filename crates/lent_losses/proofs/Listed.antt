@@ -22,7 +22,7 @@ module _ (count : ℕ) (losses : List ℕ) where
   other_length n = rw (ne_eqb (length losses) (4 * count) n)
 
   module _ (long : length losses ≡ 4 * count) where
-    pub losses_all : losses_ok count losses ≡ all_to count (λ i. leb (loss_in losses i) 4259775)
+    losses_all : losses_ok count losses ≡ all_to count (λ i. leb (loss_in losses i) 4259775)
     unfolding losses_ok
     losses_all = rw (eq-eqb (length losses) (4 * count) long)
 
@@ -36,7 +36,7 @@ module _ (count : ℕ) (losses : List ℕ) where
         losses_all ∙ all_false count i (λ j. leb (loss_in losses j) 4259775) low high (lt-leb (loss_in losses i) 4259775 h)
 
   module _ (ok : losses_ok count losses ≡ true) where
-    pub losses_long : length losses ≡ 4 * count
+    losses_long : length losses ≡ 4 * count
     unfolding losses_ok
     losses_long = eqb-true (length losses) (4 * count) (left (eqb (length losses) (4 * count)) _ ok)
 

@@ -1,7 +1,7 @@
 -- The results of the rating call and of the losses call from the figures at the sections' places.
 -- Assumes nothing.
-use mathlib.Core.Path.{◌≡◌, refl, ap, ◌∙◌}
-use mathlib.Core.List.{List, ◌++◌, map}
+use mathlib.Core.Path.{◌≡◌, ap, ◌∙◌}
+use mathlib.Core.List.{List, ◌++◌}
 use Prim.Native.Nat.{ℕ, ◌+◌, ◌-◌, ◌*◌, ◌≤◌, ◌<◌}
 use native.Mathlib.Omega.{arith}
 use lib.ListN.{length, drop, get_or}
@@ -26,7 +26,7 @@ use Rattle.rated_bytes.specs.RatedBytes.{heads_bytes, result_bytes, figures_byte
 use Rattle.rated_bytes.proofs.Same.{heads_same}
 use Rattle.rated_bytes.proofs.Written.{rest_flowless, result_stored}
 use Rattle.rating.specs.Calls.{rate_bytes, losses_bytes}
-use Rattle.rating.specs.Steps.{rated_figure, RatedAt, RatedJob, Alone, OwnFlows, losses_in}
+use Rattle.rating.specs.Steps.{rated_figure, RatedJob, Alone, OwnFlows, losses_in}
 
 -- a part of the figures at the sections' places
 pub alone : (count : ℕ) (figures : List Figure) {sections : List Figure} → sections ≡ slice_range figures 1 (count + 1) → count + 1 ≤ length figures →

@@ -19,7 +19,6 @@ use Rattle.sizing.specs.declared.Tried.{Tried}
 use Rattle.sizing.specs.Steps.{tried_of, tried_at}
 use Rattle.sizing.proofs.Trying.{none_over, some_under}
 use Rattle.sizing.specs.Losses.{over_at, any_with, over_any, reading_of}
-use Rattle.sizing.specs.Losses as sized
 use Rattle.rated_bytes.specs.declared.Figure.{Figure}
 use Rattle.rated_bytes.specs.Figures.{blank_figure}
 use Rattle.rating.specs.Steps.{Fitting, rated_figure, RatedAt}

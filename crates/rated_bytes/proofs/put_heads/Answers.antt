@@ -1,6 +1,6 @@
 -- The heads' bytes, from their three numbers written one after another.
 -- Assumes nothing.
-use Rattle.std.proofs.Common.{◌≡◌, ◌≤◌, refl, ◌∙◌, arith, rules}
+use Rattle.std.proofs.Common.{◌≡◌, refl, ◌∙◌, arith, rules}
 use Rattle.basis.specs.Stored.{stored}
 use Rattle.wire.specs.Wire.{bytes_of, bits_of}
 use Rattle.rated_bytes.specs.RatedBytes.{heads_bytes}

@@ -1,6 +1,6 @@
 -- Each section's line stands after those of the sections before it.
 -- Assumes nothing.
-use Rattle.std.proofs.Common.{◌≡◌, length, ◌∷◌, inl, inr, rules, arith}
+use Rattle.std.proofs.Common.{◌≡◌, length, ◌∷◌, inl, inr, arith}
 use Rattle.rated_text.proofs.Figures.{Lined, lined_none, lined_room, lined_more, lined_end}
 use Rattle.rated_text.proofs.put_sections.Goals as goal
 use Rattle.rated_text.proofs.put_sections.Goals.{In-Some, In-None}
