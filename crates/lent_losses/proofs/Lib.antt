@@ -1,3 +1,4 @@
 pub mod Listed
 pub mod Ordering
 pub mod Placed
+pub mod Chunks

@@ -31,12 +31,13 @@ fn read_losses(given: &[u8], count: usize) -> Option<[u32; 64]>
         return None;
     }
     let mut losses = [0; 64];
-    for i in 1..=count {
-        let loss = u32::at(given, 4 * (i - 1));
+    let (chunks, _) = given.as_chunks::<4>();
+    for (i, chunk) in chunks.iter().enumerate() {
+        let loss = u32::at(chunk, 0);
         if MOST_LOSS < loss {
             return None;
         }
-        losses[i] = loss;
+        losses[i + 1] = loss;
     }
     Some(losses)
 }
