@@ -43,7 +43,7 @@ fn read_losses(given: &[u8], count: usize) -> Option<[u32; 64]>
 }
 
 /// Required head, pump head and dictating section, or a number and the buffer as it was.
-#[tactic(auto, using(demand::proofs::Validity::valid_count))]
+#[tactic(auto, using(answer::proofs::Some::number_at_exit, demand::proofs::Validity::valid_count, crate::proofs::Ordering::heads_exit, crate::proofs::Ordering::heads_listed, crate::proofs::Ordering::heads_short, crate::proofs::Ordering::heads_done))]
 pub fn heads(b: &[u8], given: &[u8], out: &mut [u8]) -> Result<(), Refusal>
     ensures number { number_of result ≡ heads_no b.now given.now (length out.old) }
     ensures buffer { out.new ≡ buffer_after (number_of result)

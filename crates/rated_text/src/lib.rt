@@ -26,6 +26,7 @@ fn put_sections(text: &mut Text<4096>, figures: &[Figure])
 }
 
 // House, sections and heads.
+#[tactic(auto, using(demand::proofs::Validity::valid_count))]
 fn rated(rating: &Rating) -> Text<4096>
     ensures { result ≡ lines_of rating.now.accepted.job (λ i. (get_or rating.now.figures i blank_figure).velocity)
         (λ i. get_or (losses_in rating.now.figures) i 0) }

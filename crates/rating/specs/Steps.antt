@@ -12,7 +12,7 @@ use Rattle.rated_bytes.specs.declared.Figure.{Figure}
 use Rattle.rated_bytes.specs.Figures.{blank_figure, figure_of}
 use Rattle.sizing.specs.Losses.{list_ok, reading_of, losses_of}
 
--- an accepted job, an accepted catalogue and a list that 12 lets pass
+-- an accepted job, an accepted catalogue and a list that 12 lets pass: what laws about a rating's result are over
 pub record Rateable (j : Job) (c l : List ℕ) : Type 0 where
   pub job : Accepted j
   pub cat : AcceptedCat c

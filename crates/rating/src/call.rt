@@ -26,6 +26,7 @@ pub struct Rating {
 
 impl Rating {
     /// The figures of the sections alone.
+    #[tactic(auto, using(demand::proofs::Validity::valid_count))]
     pub fn sections(&self) -> &[Figure]
         ensures { Alone (count_of self.now.accepted.job) self.now.figures result.now }
     {
@@ -44,7 +45,8 @@ impl Rating {
     }
 }
 
-/// What the sections come to with a result buffer of so many bytes, in which the sections stand so.
+/// What the sections come to, where a result buffer of `room` bytes has room for them in this layout.
+#[tactic(auto, using(answer::proofs::Some::number_at_exit, catalogue::proofs::ShapeBounds::shape_in, crate::proofs::Ordering::sized_exit, crate::proofs::Ordering::sized_list, crate::proofs::Ordering::sized_short, crate::proofs::Ordering::sized_over, crate::proofs::Ordering::sized_done))]
 pub fn outcome(
     b: &[u8],
     cat: &[u8],
@@ -71,6 +73,7 @@ pub fn outcome(
 }
 
 /// Required head, pump head, dictating section, then velocity and loss of each section; or a number and the buffer as it was.
+#[tactic(auto, using(answer::proofs::Some::number_at_exit, crate::proofs::Rated::rated_room))]
 pub fn rate(b: &[u8], cat: &[u8], list: &[u8], out: &mut [u8]) -> Result<(), Refusal>
     ensures number { number_of result ≡ rate_no b.now cat.now list.now (length out.old) }
     ensures buffer { out.new ≡ buffer_after (number_of result)
@@ -83,6 +86,7 @@ pub fn rate(b: &[u8], cat: &[u8], list: &[u8], out: &mut [u8]) -> Result<(), Ref
 }
 
 /// Flow, velocity and loss of each section, without the heads; or a number and the buffer as it was.
+#[tactic(auto, using(answer::proofs::Some::number_at_exit, crate::proofs::Rated::rated_room))]
 pub fn losses(b: &[u8], cat: &[u8], list: &[u8], out: &mut [u8]) -> Result<(), Refusal>
     ensures number { number_of result ≡ losses_no b.now cat.now list.now (length out.old) }
     ensures buffer { out.new ≡ buffer_after (number_of result)

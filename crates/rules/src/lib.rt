@@ -99,7 +99,7 @@ fn childless_zero(tree: &Tree) -> bool
 {
     let job = tree.job;
     let below = tree.sets();
-    (1..usize::from(job.header.sections) + 1).any(|i| bare_end(job.sections[i], below[i], i))
+    (1..job.count() + 1).any(|i| bare_end(job.sections[i], below[i], i))
 }
 
 // 7: a kind has residents without fixtures, or the reverse.

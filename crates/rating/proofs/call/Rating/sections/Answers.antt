@@ -8,9 +8,6 @@ use Rattle.demand.proofs.Validity.{valid_count}
 use Rattle.rating.proofs.Rated.{alone}
 use Rattle.rating.proofs.call.Rating.sections.Goals as goal
 
-pub slice_bounds-result-end : goal.slice_bounds-result-end
-slice_bounds-result-end c = omega (arith, (valid_count c.args.self.now.accepted.accepted.valid).high)
-
 pub returns : goal.returns
 returns c =
     let few = (valid_count c.args.self.now.accepted.accepted.valid).high in
