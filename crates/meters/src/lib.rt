@@ -1,7 +1,7 @@
 // The list of meters: its rules, a meter's loss, and the meter that wins.
 #![tactic(auto)]
 
-ghost use Rattle.std.specs.Prelude.{◌≡◌, true, ◌*◌, ◌≤◌, ◌<◌, length, unwrap_or, IfSome};
+ghost use Rattle.std.specs.Prelude.{◌≡◌, true, ◌*◌, ◌≤◌, ◌<◌, length, unwrap_or, option_map, IfSome};
 ghost use Rattle.meters.specs.Meters.{meter_at, meter_ok, meters_ok, meter_loss, most_loss, qualifies, winner_of};
 ghost use Rattle.meters.specs.Steps.{better};
 
@@ -53,17 +53,6 @@ pub fn meters_ok(list: &[u8]) -> bool
     true
 }
 
-/// A meter's loss in cm at the house's design flow. It stays under 12,454,000, which the field of a record does not hold.
-#[tactic(auto, using(crate::proofs::Qualifying::square_top, basis::proofs::Round::up_le), unfolding(crate::specs::Meters::meter_loss))]
-pub fn loss_of(m: Meter, q: u32) -> u32
-    requires { q ≤ 137850 }
-    ensures { result ≡ meter_loss m q }
-{
-    let flow = u64::from(q);
-    // std has no From from u64 to u32, which holds the loss.
-    round::divide_up(u64::from(m.resistance) * flow * flow, 100000000) as u32
-}
-
 // The most loss of a meter that qualifies.
 #[tactic(auto, unfolding(crate::specs::Meters::most_loss))]
 fn most_loss(m: Meter) -> u32
@@ -72,38 +61,55 @@ fn most_loss(m: Meter) -> u32
     if m.form == 1 { 500 } else { 250 }
 }
 
-#[tactic(auto, unfolding(crate::specs::Meters::qualifies))]
-fn qualifies(m: Meter, q: u32, mean: u32) -> bool
-    requires { q ≤ 137850 }
-    ensures { result ≡ qualifies m q mean }
-{
-    loss_of(m, q) <= most_loss(m) && mean <= u32::from(m.service)
+/// What a house draws: its design flow in ml/s and its mean hour in l/h. By the flow's bound a loss fits 32 bits.
+#[derive(Clone, Copy)]
+pub struct Draw {
+    pub flow: u32,
+    pub mean: u32,
+    pub ghost small: { flow ≤ 137850 },
 }
 
-// The better of the best so far, a place with the loss there, and the meter at place t.
-#[tactic(auto, unfolding(crate::specs::Steps::better))]
-fn better(best: Option<(usize, u32)>, t: usize, m: Meter, q: u32, mean: u32) -> Option<(usize, u32)>
-    requires { q ≤ 137850 }
-    ensures { result ≡ better best t m q mean }
-{
-    let loss = loss_of(m, q);
-    if qualifies(m, q, mean) && best.is_none_or(|(_, least)| loss < least) {
-        Some((t, loss))
-    } else {
+impl Draw {
+    /// A meter's loss in cm. It stays under 12,454,000, which the field of a record does not hold.
+    #[tactic(auto, using(crate::proofs::Qualifying::square_top, basis::proofs::Round::up_le), unfolding(crate::specs::Meters::meter_loss))]
+    pub fn loss_of(self, m: Meter) -> u32
+        ensures { result ≡ meter_loss m self.flow }
+    {
+        let flow = u64::from(self.flow);
+        // std has no From from u64 to u32, which holds the loss.
+        round::divide_up(u64::from(m.resistance) * flow * flow, 100000000) as u32
+    }
+
+    #[tactic(auto, unfolding(crate::specs::Meters::qualifies))]
+    fn qualifies(self, m: Meter) -> bool
+        ensures { result ≡ qualifies m self.flow self.mean }
+    {
+        self.loss_of(m) <= most_loss(m) && self.mean <= u32::from(m.service)
+    }
+
+    // The better of the best so far, a place with the loss there, and the meter at place t.
+    #[tactic(auto, unfolding(crate::specs::Steps::better))]
+    fn better(self, best: Option<(usize, u32)>, t: usize, m: Meter) -> Option<(usize, u32)>
+        ensures { result ≡ better best t m self.flow self.mean }
+    {
+        let loss = self.loss_of(m);
+        if self.qualifies(m) && best.is_none_or(|(_, least)| loss < least) {
+            Some((t, loss))
+        } else {
+            best
+        }
+    }
+
+    /// The place of the meter that wins, and its loss.
+    pub fn winner(self, list: &[u8]) -> Option<(usize, u32)>
+        requires { meters_ok list.now ≡ true }
+        ensures place { unwrap_or (option_map (λ best. best.0) result) 0 ≡ winner_of list.now self.flow self.mean }
+        ensures named { IfSome result (λ best. (0 < best.0) × (best.1 ≡ meter_loss (meter_at list.now best.0) self.flow)) }
+    {
+        let mut best = None;
+        for t in 1..=list.len() / 5 {
+            best = self.better(best, t, meter_at(list, t));
+        }
         best
     }
-}
-
-/// The place of the meter that wins.
-pub fn winner(list: &[u8], q: u32, mean: u32) -> Option<usize>
-    requires { (meters_ok list.now ≡ true) × (q ≤ 137850) }
-    ensures place { unwrap_or result 0 ≡ winner_of list.now q mean }
-    ensures named { IfSome result (λ t. 0 < t) }
-{
-    let mut best = None;
-    for t in 1..=list.len() / 5 {
-        best = better(best, t, meter_at(list, t), q, mean);
-    }
-    let (place, _) = best?;
-    Some(place)
 }
