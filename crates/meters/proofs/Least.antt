@@ -87,9 +87,6 @@ module _ (list : List ℕ) (q mean : ℕ) where
         (λ (e : (fits t && beats (loss t) best) ≡ false). rw e (pass best l e))
         (either (fits t && beats (loss t) best))
 
-    pub best_last : (m : ℕ) → m ≡ t → (best : Option (ℕ × ℕ)) → Best n best → Best m (better best t (meter_at list t) q mean)
-    best_last m e best l = rw e (best_more best l)
-
   -- the definition's two parts
   abbrev no_less : ℕ → ℕ → Bool
   no_less t u = not (fits u) || leb (loss t) (loss u)

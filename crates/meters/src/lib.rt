@@ -1,7 +1,7 @@
 // The list of meters: its rules, a meter's loss, and the meter that wins.
 #![tactic(auto)]
 
-ghost use Rattle.std.specs.Prelude.{◌≡◌, true, ◌*◌, ◌≤◌, ◌<◌, length, unwrap_or, option_map, IfSome};
+ghost use Rattle.std.specs.Prelude.{◌≡◌, ◌*◌, ◌≤◌, ◌<◌, length, unwrap_or, option_map, IfSome};
 ghost use Rattle.meters.specs.Meters.{meter_at, meter_ok, meters_ok, meter_loss, most_loss, qualifies, winner_of};
 ghost use Rattle.meters.specs.Steps.{better};
 
@@ -16,18 +16,27 @@ pub struct Meter {
     pub service: u16,
 }
 
+// The meter of five bytes.
+impl From<&[u8; 5]> for Meter {
+    ghost from_gives = { λ bytes meter. meter ≡ meter_at bytes.now 1 };
+
+    #[tactic(auto, unfolding(crate::specs::Meters::meter_at))]
+    fn from(bytes: &[u8; 5]) -> Meter {
+        Meter {
+            form: bytes[0],
+            resistance: u16::at(bytes, 1),
+            service: u16::at(bytes, 3),
+        }
+    }
+}
+
 /// The meter at place t, from 1.
-#[tactic(auto, unfolding(crate::specs::Meters::meter_at))]
 pub fn meter_at(list: &[u8], t: usize) -> Meter
     requires { (0 < t) × (5 * t ≤ length list.now) }
     ensures { result ≡ meter_at list.now t }
 {
-    let at = 5 * (t - 1);
-    Meter {
-        form: list[at],
-        resistance: u16::at(list, at + 1),
-        service: u16::at(list, at + 3),
-    }
+    let (meters, _) = list.as_chunks::<5>();
+    Meter::from(&meters[t - 1])
 }
 
 #[tactic(auto, unfolding(crate::specs::Meters::meter_ok))]
@@ -41,16 +50,10 @@ fn meter_ok(m: Meter) -> bool
 pub fn meters_ok(list: &[u8]) -> bool
     ensures { result ≡ meters_ok list.now }
 {
-    let count = list.len() / 5;
-    if !(1..=8).contains(&count) || list.len() != 5 * count {
-        return false;
-    }
-    for t in 1..=count {
-        if !meter_ok(meter_at(list, t)) {
-            return false;
-        }
-    }
-    true
+    let (meters, rest) = list.as_chunks::<5>();
+    (1..=8).contains(&meters.len())
+        && rest.is_empty()
+        && meters.iter().all(|bytes| meter_ok(Meter::from(bytes)))
 }
 
 // The most loss of a meter that qualifies.
@@ -102,13 +105,13 @@ impl Draw {
 
     /// The place of the meter that wins, and its loss.
     pub fn winner(self, list: &[u8]) -> Option<(usize, u32)>
-        requires { meters_ok list.now ≡ true }
         ensures place { unwrap_or (option_map (λ best. best.0) result) 0 ≡ winner_of list.now self.flow self.mean }
         ensures named { IfSome result (λ best. (0 < best.0) × (best.1 ≡ meter_loss (meter_at list.now best.0) self.flow)) }
     {
+        let (meters, _) = list.as_chunks::<5>();
         let mut best = None;
-        for t in 1..=list.len() / 5 {
-            best = self.better(best, t, meter_at(list, t));
+        for (i, bytes) in meters.iter().enumerate() {
+            best = self.better(best, i + 1, Meter::from(bytes));
         }
         best
     }
