@@ -4,60 +4,38 @@
 ghost use Rattle.std.specs.Prelude.{◌≡◌};
 ghost use Rattle.answer.specs.Answer.{refusal_number, number_of};
 
-/// Why an order is refused: one case for each line of the table.
+/// Why an order is refused: one case for each line of the table, with its number.
 #[derive(Clone, Copy, Debug, PartialEq, Eq)]
 pub enum Refusal {
-    JobLength,
-    JobVersion,
-    HeaderRange,
-    SectionBytes,
-    SectionRules,
-    ChildlessKind,
-    Residents,
-    DemandOverTable,
-    DemandOverFixtures,
-    CatalogueShape,
-    CatalogueRules,
-    SizeList,
-    SizeTooSmall,
-    ResultShort,
-    WorkShort,
-    NoSuitableList,
-    MeterList,
-    NoMeter,
-    LossList,
-    NotHot,
-    HeatRange,
+    JobLength = 1,
+    JobVersion = 2,
+    HeaderRange = 3,
+    SectionBytes = 4,
+    SectionRules = 5,
+    ChildlessKind = 6,
+    Residents = 7,
+    DemandOverTable = 8,
+    DemandOverFixtures = 9,
+    CatalogueShape = 10,
+    CatalogueRules = 11,
+    SizeList = 12,
+    SizeTooSmall = 13,
+    ResultShort = 14,
+    WorkShort = 15,
+    NoSuitableList = 16,
+    MeterList = 17,
+    NoMeter = 18,
+    LossList = 19,
+    NotHot = 20,
+    HeatRange = 21,
 }
 
-// The number of the table.
+// The number of the table. A cast, since it is the only way from a case to its number.
 impl From<Refusal> for u32 {
     ghost from_gives = { λ refusal n. n ≡ refusal_number refusal };
 
     fn from(refusal: Refusal) -> u32 {
-        match refusal {
-            Refusal::JobLength => 1,
-            Refusal::JobVersion => 2,
-            Refusal::HeaderRange => 3,
-            Refusal::SectionBytes => 4,
-            Refusal::SectionRules => 5,
-            Refusal::ChildlessKind => 6,
-            Refusal::Residents => 7,
-            Refusal::DemandOverTable => 8,
-            Refusal::DemandOverFixtures => 9,
-            Refusal::CatalogueShape => 10,
-            Refusal::CatalogueRules => 11,
-            Refusal::SizeList => 12,
-            Refusal::SizeTooSmall => 13,
-            Refusal::ResultShort => 14,
-            Refusal::WorkShort => 15,
-            Refusal::NoSuitableList => 16,
-            Refusal::MeterList => 17,
-            Refusal::NoMeter => 18,
-            Refusal::LossList => 19,
-            Refusal::NotHot => 20,
-            Refusal::HeatRange => 21,
-        }
+        refusal as u32
     }
 }
 

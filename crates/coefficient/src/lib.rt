@@ -4,7 +4,6 @@
 mod table;
 
 ghost use Rattle.std.specs.Prelude.{◌≡◌, ◌≤◌};
-ghost use Rattle.coefficient.specs.Table.{pairs};
 ghost use Rattle.coefficient.specs.Alpha.{alpha_of};
 ghost use Rattle.coefficient.specs.Reached.{Reached};
 
@@ -15,28 +14,27 @@ pub use table::table2;
 const FIRST_KEY: u32 = 15000;
 
 // The place of the last key that is at most m.
-fn place(t: &[(u32, u32); 486], m: u32) -> usize
-    requires { (t.now ≡ pairs) × (15000 ≤ m) }
+fn place(m: u32) -> usize
+    requires { 15000 ≤ m }
     ensures { Reached m result }
 {
-    t.partition_point(|pair| pair.0 <= m) - 1
+    table2().partition_point(|pair| pair.0 <= m) - 1
 }
 
-/// The coefficient of m, read from the lent table.
+/// The coefficient of m.
 #[tactic(auto, using(crate::proofs::Coefficient::alpha_low))]
-pub fn alpha(t: &[(u32, u32); 486], m: u32) -> u32
-    requires { t.now ≡ pairs }
+pub fn alpha(m: u32) -> u32
     ensures { result ≡ alpha_of m }
 {
     if m < FIRST_KEY {
         return 200000;
     }
-    let i = place(t, m);
-    let (x, y) = t[i];
-    if i == 485 {
-        return y;
-    }
+    let table = table2();
+    let i = place(m);
+    let (x, y) = table[i];
     let low = Point { x, y };
-    let (x, y) = t[i + 1];
+    let Some(&(x, y)) = table.get(i + 1) else {
+        return low.y;
+    };
     round::line_at(low, Point { x, y }, m)
 }

@@ -492,7 +492,7 @@ static TABLE: [(u32, u32); 486] = [
     (400000000, 91900000),
 ];
 
-/// The table to lend.
+/// Table 2.
 pub fn table2() -> &'static [(u32, u32); 486]
     ensures { result.now ≡ pairs }
 {

@@ -1,7 +1,6 @@
 -- The flows, and the products that they divide, are bounded by α's greatest value.
 -- Assumes nothing.
 use mathlib.Core.Path.{◌≡◌, sym, ◌∙◌}
-use mathlib.Core.List.{List}
 use Prim.Native.Nat.{ℕ, ◌*◌, ◌≤◌, ◌<◌, max}
 use native.Mathlib.Omega.{arith}
 use native.Mathlib.Nat.{mul-le-mul}
@@ -11,7 +10,6 @@ use Rattle.fields.specs.declared.Job.{Job}
 use Rattle.fields.specs.Fields.{count_of}
 use Rattle.tree.specs.Tree.{served_of, house_of}
 use Rattle.norms.proofs.Bounds.{NormIn}
-use Rattle.coefficient.specs.Table.{pairs}
 use Rattle.coefficient.specs.Alpha.{alpha_of}
 use Rattle.coefficient.proofs.Coefficient.{alpha_ceiling}
 use Rattle.demand.specs.Demand.{m_of, fixture_sum_of, one_tap_of, average_flow_of, flow_of, norm_at, section_flow, house_flow, hour_sum_of, hourly_sum_of, hour_of, Valid}
@@ -39,9 +37,8 @@ module _ (job : Job) (n : ℕ → ℕ) where
 
 -- what a flow is worked out from, and what it is, by the sums of its vector
 module _ (job : Job) (n : ℕ → ℕ) {m weighted tap : ℕ} (sums : (m ≡ m_of job n) × (weighted ≡ fixture_sum_of job n) × (tap ≡ one_tap_of job n)) where
-  pub flow_asks : {t : List (ℕ × ℕ)} → t ≡ pairs → 0 < m_of job n → m_of job n ≤ 400000000 →
-      (t ≡ pairs) × (0 < m) × (m ≤ 400000000) × (weighted ≤ 30 * m) × (tap ≤ 300)
-  flow_asks e low high = rw (sums.0, sums.1, sums.2) (e, low, high, fixture_sum_le job n, one_tap_top job n)
+  pub flow_asks : 0 < m_of job n → m_of job n ≤ 400000000 → (0 < m) × (m ≤ 400000000) × (weighted ≤ 30 * m) × (tap ≤ 300)
+  flow_asks low high = rw (sums.0, sums.1, sums.2) (low, high, fixture_sum_le job n, one_tap_top job n)
 
   pub flow_by : {flow : ℕ} → flow ≡ max (up (weighted * alpha_of m) (20000 * m)) tap → flow ≡ flow_of job n
   flow_by e = e ∙ rw (sums.0, sums.1, sums.2, ← average_is job n) (sym (flow_is job n))

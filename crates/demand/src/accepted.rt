@@ -2,7 +2,6 @@
 ghost use Rattle.std.specs.Prelude.{◌≡◌, ◌+◌, ◌*◌, ◌≤◌, ◌<◌, max};
 ghost use Rattle.basis.specs.Round.{up};
 ghost use Rattle.basis.specs.Slots.{slots};
-ghost use Rattle.coefficient.specs.Table.{pairs};
 ghost use Rattle.coefficient.specs.Alpha.{alpha_of};
 ghost use Rattle.demand.specs.Demand.{Accepted};
 
@@ -19,12 +18,12 @@ pub struct AcceptedJob {
 }
 
 // The design flow of sums that 8 let pass: document 01's value, and never less than one tap.
-fn flow(t: &[(u32, u32); 486], s: Sums) -> u32
-    requires { (t.now ≡ pairs) × (0 < s.m) × (s.m ≤ 400000000) × (s.weighted ≤ 30 * s.m) × (s.tap ≤ 300) }
+fn flow(s: Sums) -> u32
+    requires { (0 < s.m) × (s.m ≤ 400000000) × (s.weighted ≤ 30 * s.m) × (s.tap ≤ 300) }
     ensures { result ≡ max (up (s.weighted * alpha_of s.m) (20000 * s.m)) s.tap }
 {
     // Casts: std has no `From` from 64 to 32 bits.
-    let alpha = u64::from(coefficient::alpha(t, s.m as u32));
+    let alpha = u64::from(coefficient::alpha(s.m as u32));
     let average = round::divide_up(s.weighted * alpha, 20000 * s.m);
     average.max(s.tap) as u32
 }
@@ -40,10 +39,9 @@ impl AcceptedJob {
     {
         let tree = Tree { job: &self.job };
         let served = tree.counts();
-        let table = coefficient::table2();
         let mut flows = [0; 64];
         for i in 1..=self.job.count() {
-            flows[i] = flow(table, sums_of(&tree, &served, i));
+            flows[i] = flow(sums_of(&tree, &served, i));
         }
         flows
     }
@@ -55,7 +53,7 @@ impl AcceptedJob {
     {
         let tree = Tree { job: &self.job };
         let served = tree.counts();
-        flow(coefficient::table2(), sums_of(&tree, &served, 0))
+        flow(sums_of(&tree, &served, 0))
     }
 
     /// The flow of the greatest hour in l/h.
@@ -65,7 +63,7 @@ impl AcceptedJob {
     {
         let sums = hour_sums(&self.job);
         // Casts: std has no `From` from 64 to 32 bits.
-        let alpha = u64::from(coefficient::alpha(coefficient::table2(), sums.shares as u32));
+        let alpha = u64::from(coefficient::alpha(sums.shares as u32));
         round::divide_up(sums.weighted * alpha, 200000 * sums.shares) as u32
     }
 

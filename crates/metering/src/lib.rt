@@ -10,6 +10,7 @@ ghost use Rattle.metering.specs.Calls.{meter_length, meter_no, meter_bytes};
 
 use acceptance::accept;
 use answer::Refusal;
+use meters::Draw;
 
 // The place, then the record with the loss in its meter loss field.
 fn put_result(out: &mut [u8], place: usize, b: &[u8], loss: u32)
@@ -34,9 +35,11 @@ pub fn meter(b: &[u8], meters: &[u8], out: &mut [u8]) -> Result<(), Refusal>
     if out.len() <= b.len() {
         return Err(Refusal::ResultShort);
     }
-    let q = accepted.house_flow();
-    let place = meters::winner(meters, q, accepted.mean()).ok_or(Refusal::NoMeter)?;
-    let loss = meters::loss_of(meters::meter_at(meters, place), q);
+    let draw = Draw {
+        flow: accepted.house_flow(),
+        mean: accepted.mean(),
+    };
+    let (place, loss) = draw.winner(meters).ok_or(Refusal::NoMeter)?;
     put_result(out, place, b, loss);
     Ok(())
 }

@@ -1,6 +1,6 @@
 -- The meter of least loss among the first n, one meter more at a time; over the whole list it is the winner.
 -- Assumes nothing.
-use Rattle.std.proofs.Common.{Option, Some, None, unwrap_or, option_map}
+use Rattle.std.proofs.Common.{Option, Some, None, unwrap_or, option_map, IfSome, rules}
 use mathlib.Core.Path.{◌≡◌, refl, sym, ◌∙◌}
 use mathlib.Core.Bool.{Bool, true, false, not, ◌&&◌, ◌||◌}
 use mathlib.Core.Logic.{◌⊎◌, inl, inr, ⊎_elim}
@@ -87,9 +87,6 @@ module _ (list : List ℕ) (q mean : ℕ) where
         (λ (e : (fits t && beats (loss t) best) ≡ false). rw e (pass best l e))
         (cases_Bool (fits t && beats (loss t) best))
 
-    pub best_last : (m : ℕ) → m ≡ t → (best : Option (ℕ × ℕ)) → Best n best → Best m (better best t (meter_at list t) q mean)
-    best_last m e best l = rw e (best_more best l)
-
   -- the definition's two parts
   abbrev no_less : ℕ → ℕ → Bool
   no_less t u = not (fits u) || leb (loss t) (loss u)
@@ -146,6 +143,11 @@ module _ (list : List ℕ) (q mean : ℕ) where
   pub best_wins : (best : Option (ℕ × ℕ)) → Best (meters_in list) best → unwrap_or (option_map (λ (b : ℕ × ℕ). b.0) best) 0 ≡ winner_of list q mean
   best_wins None l = leads_wins l
   best_wins (Some best) l = leads_wins l.1
+
+  -- and the loss kept with a place is the loss there
+  pub best_named : (n : ℕ) (best : Option (ℕ × ℕ)) → Best n best → IfSome best (λ (b : ℕ × ℕ). (0 < b.0) × (b.1 ≡ loss b.0))
+  best_named n None l = search rules
+  best_named n (Some best) l = (l.0, ⊎_elim (λ none. absurd (omega (arith, l.0, none.0))) (λ some. some.0) l.1.held)
 
   -- there is such a place and such a loss for every n
   record Lead (n : ℕ) : Type 0 where

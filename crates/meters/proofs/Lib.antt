@@ -1,3 +1,4 @@
 pub mod Bounds
 pub mod Qualifying
 pub mod Least
+pub mod Chunks

@@ -1,7 +1,7 @@
 // The list of meters: its rules, a meter's loss, and the meter that wins.
 #![tactic(auto)]
 
-ghost use Rattle.std.specs.Prelude.{◌≡◌, true, ◌*◌, ◌≤◌, ◌<◌, length, unwrap_or, IfSome};
+ghost use Rattle.std.specs.Prelude.{◌≡◌, ◌*◌, ◌≤◌, ◌<◌, length, unwrap_or, option_map, IfSome};
 ghost use Rattle.meters.specs.Meters.{meter_at, meter_ok, meters_ok, meter_loss, most_loss, qualifies, winner_of};
 ghost use Rattle.meters.specs.Steps.{better};
 
@@ -16,18 +16,27 @@ pub struct Meter {
     pub service: u16,
 }
 
+// The meter of five bytes.
+impl From<&[u8; 5]> for Meter {
+    ghost from_gives = { λ bytes meter. meter ≡ meter_at bytes.now 1 };
+
+    #[tactic(auto, unfolding(crate::specs::Meters::meter_at))]
+    fn from(bytes: &[u8; 5]) -> Meter {
+        Meter {
+            form: bytes[0],
+            resistance: u16::at(bytes, 1),
+            service: u16::at(bytes, 3),
+        }
+    }
+}
+
 /// The meter at place t, from 1.
-#[tactic(auto, unfolding(crate::specs::Meters::meter_at))]
 pub fn meter_at(list: &[u8], t: usize) -> Meter
     requires { (0 < t) × (5 * t ≤ length list.now) }
     ensures { result ≡ meter_at list.now t }
 {
-    let at = 5 * (t - 1);
-    Meter {
-        form: list[at],
-        resistance: u16::at(list, at + 1),
-        service: u16::at(list, at + 3),
-    }
+    let (meters, _) = list.as_chunks::<5>();
+    Meter::from(&meters[t - 1])
 }
 
 #[tactic(auto, unfolding(crate::specs::Meters::meter_ok))]
@@ -41,27 +50,10 @@ fn meter_ok(m: Meter) -> bool
 pub fn meters_ok(list: &[u8]) -> bool
     ensures { result ≡ meters_ok list.now }
 {
-    let count = list.len() / 5;
-    if !(1..=8).contains(&count) || list.len() != 5 * count {
-        return false;
-    }
-    for t in 1..=count {
-        if !meter_ok(meter_at(list, t)) {
-            return false;
-        }
-    }
-    true
-}
-
-/// A meter's loss in cm at the house's design flow. It stays under 12,454,000, which the field of a record does not hold.
-#[tactic(auto, using(crate::proofs::Qualifying::square_top, basis::proofs::Round::up_le), unfolding(crate::specs::Meters::meter_loss))]
-pub fn loss_of(m: Meter, q: u32) -> u32
-    requires { q ≤ 137850 }
-    ensures { result ≡ meter_loss m q }
-{
-    let flow = u64::from(q);
-    // std has no From from u64 to u32, which holds the loss.
-    round::divide_up(u64::from(m.resistance) * flow * flow, 100000000) as u32
+    let (meters, rest) = list.as_chunks::<5>();
+    (1..=8).contains(&meters.len())
+        && rest.is_empty()
+        && meters.iter().all(|bytes| meter_ok(Meter::from(bytes)))
 }
 
 // The most loss of a meter that qualifies.
@@ -72,38 +64,55 @@ fn most_loss(m: Meter) -> u32
     if m.form == 1 { 500 } else { 250 }
 }
 
-#[tactic(auto, unfolding(crate::specs::Meters::qualifies))]
-fn qualifies(m: Meter, q: u32, mean: u32) -> bool
-    requires { q ≤ 137850 }
-    ensures { result ≡ qualifies m q mean }
-{
-    loss_of(m, q) <= most_loss(m) && mean <= u32::from(m.service)
+/// What a house draws: its design flow in ml/s and its mean hour in l/h. By the flow's bound a loss fits 32 bits.
+#[derive(Clone, Copy)]
+pub struct Draw {
+    pub flow: u32,
+    pub mean: u32,
+    pub ghost small: { flow ≤ 137850 },
 }
 
-// The better of the best so far, a place with the loss there, and the meter at place t.
-#[tactic(auto, unfolding(crate::specs::Steps::better))]
-fn better(best: Option<(usize, u32)>, t: usize, m: Meter, q: u32, mean: u32) -> Option<(usize, u32)>
-    requires { q ≤ 137850 }
-    ensures { result ≡ better best t m q mean }
-{
-    let loss = loss_of(m, q);
-    if qualifies(m, q, mean) && best.is_none_or(|(_, least)| loss < least) {
-        Some((t, loss))
-    } else {
+impl Draw {
+    /// A meter's loss in cm. It stays under 12,454,000, which the field of a record does not hold.
+    #[tactic(auto, using(crate::proofs::Qualifying::square_top, basis::proofs::Round::up_le), unfolding(crate::specs::Meters::meter_loss))]
+    pub fn loss_of(self, m: Meter) -> u32
+        ensures { result ≡ meter_loss m self.flow }
+    {
+        let flow = u64::from(self.flow);
+        // std has no From from u64 to u32, which holds the loss.
+        round::divide_up(u64::from(m.resistance) * flow * flow, 100000000) as u32
+    }
+
+    #[tactic(auto, unfolding(crate::specs::Meters::qualifies))]
+    fn qualifies(self, m: Meter) -> bool
+        ensures { result ≡ qualifies m self.flow self.mean }
+    {
+        self.loss_of(m) <= most_loss(m) && self.mean <= u32::from(m.service)
+    }
+
+    // The better of the best so far, a place with the loss there, and the meter at place t.
+    #[tactic(auto, unfolding(crate::specs::Steps::better))]
+    fn better(self, best: Option<(usize, u32)>, t: usize, m: Meter) -> Option<(usize, u32)>
+        ensures { result ≡ better best t m self.flow self.mean }
+    {
+        let loss = self.loss_of(m);
+        if self.qualifies(m) && best.is_none_or(|(_, least)| loss < least) {
+            Some((t, loss))
+        } else {
+            best
+        }
+    }
+
+    /// The place of the meter that wins, and its loss.
+    pub fn winner(self, list: &[u8]) -> Option<(usize, u32)>
+        ensures place { unwrap_or (option_map (λ best. best.0) result) 0 ≡ winner_of list.now self.flow self.mean }
+        ensures named { IfSome result (λ best. (0 < best.0) × (best.1 ≡ meter_loss (meter_at list.now best.0) self.flow)) }
+    {
+        let (meters, _) = list.as_chunks::<5>();
+        let mut best = None;
+        for (i, bytes) in meters.iter().enumerate() {
+            best = self.better(best, i + 1, Meter::from(bytes));
+        }
         best
     }
-}
-
-/// The place of the meter that wins.
-pub fn winner(list: &[u8], q: u32, mean: u32) -> Option<usize>
-    requires { (meters_ok list.now ≡ true) × (q ≤ 137850) }
-    ensures place { unwrap_or result 0 ≡ winner_of list.now q mean }
-    ensures named { IfSome result (λ t. 0 < t) }
-{
-    let mut best = None;
-    for t in 1..=list.len() / 5 {
-        best = better(best, t, meter_at(list, t), q, mean);
-    }
-    let (place, _) = best?;
-    Some(place)
 }

@@ -74,7 +74,7 @@ fn alpha(to: &mut Output, m: &[u8]) -> io::Result<()> {
     if m.len() != 4 {
         return Ok(());
     }
-    let alpha = coefficient::alpha(coefficient::table2(), u32::at(m, 0));
+    let alpha = coefficient::alpha(u32::at(m, 0));
     write!(to, "{alpha:08x}")
 }
 

@@ -9,10 +9,10 @@ use Rattle.coefficient.proofs.place.Goals as goal
 
 point : (c : goal.After-partition_point) → IsPartitionPoint {X = ℕ × ℕ} (λ p. leb p.0 c.args.m ≡ true) (λ p. leb p.0 c.args.m ≡ false) pairs c.partition_point.result
 point c =
-    IsPartitionPoint-from_clause {X = ℕ × ℕ} (λ p. leb p.0 c.args.m) _ _ (rw c.requires.0 at c.partition_point.ensures.partitioned) (parted c.args.m) (λ a r q k. search rules)
+    IsPartitionPoint-from_clause {X = ℕ × ℕ} (λ p. leb p.0 c.args.m) _ _ (rw c.table2.ensures at c.partition_point.ensures.partitioned) (parted c.args.m) (λ a r q k. search rules)
 
 pub overflow_sub-result : goal.overflow_sub-result
-overflow_sub-result c = some _ _ c.requires.1 (omega (arith, c.partition_point.ensures.bound)) (point c)
+overflow_sub-result c = some _ _ c.requires (omega (arith, c.partition_point.ensures.bound)) (point c)
 
 pub returns : goal.returns
-returns c = reached _ _ c.requires.1 (omega (arith, c.partition_point.ensures.bound)) (point c)
+returns c = reached _ _ c.requires (omega (arith, c.partition_point.ensures.bound)) (point c)

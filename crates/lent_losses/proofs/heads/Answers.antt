@@ -16,7 +16,7 @@ use Rattle.lent_losses.proofs.heads.Goals.{In_ok-losses}
 listed : (c : In_ok-losses) →
     (losses_ok (count_of (decode c.args.b.now)) c.args.given.now ≡ true) ×
     (c.in_ok-losses.losses ≡ slots 64 1 (count_of (decode c.args.b.now) + 1) 0 (loss_in c.args.given.now))
-listed c = rw (c.in_ok-losses.ensures.ok_part, c.from-count.ensures, c.in_ok-accepted.ensures.job) at c.read_losses.ensures
+listed c = rw (c.in_ok-losses.ensures.ok_part, c.count-count.ensures.is, c.in_ok-accepted.ensures.job) at c.read_losses.ensures
 
 accepted : (c : In_ok-losses) → Accepted (decode c.args.b.now)
 accepted c = rw c.in_ok-accepted.ensures.job at c.in_ok-accepted.accepted.accepted

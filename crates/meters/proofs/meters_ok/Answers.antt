@@ -1,39 +1,40 @@
--- `meters::meters_ok`: a list of another length and a meter that breaks a rule are refused, and where each keeps them the list passes.
+-- `meters::meters_ok` meets its contract: a list of another length is refused, and of one that is let pass the chain tests each meter.
 -- Assumes nothing.
-use Rattle.std.proofs.Common.{◌≡◌, ◌≤◌, ◌-◌, sym, arith}
-use Rattle.std.proofs.Math.Nat.{add-sub_cancel}
-use Rattle.std.proofs.lemmas.Grind.{common_steps}
-use Rattle.std.proofs.lemmas.Map.Keys.{le_from_is_le}
-use Rattle.basis.proofs.Each.{all_none, all_more, all_at}
+use Rattle.std.proofs.Common.{◌≡◌, ◌+◌, ◌∙◌, List, ℕ, true, false, length, ap, sym, arith, rules, tests, eqb-true, eq-eqb}
+use Rattle.std.proofs.lemmas.Iterator.{YieldsList-from_slice}
+use Rattle.std.proofs.lemmas.Iterator.Search.{all_from_yields_List}
+use Rattle.basis.specs.Range.{within}
 use Rattle.basis.proofs.Bools.{apart}
-use Rattle.meters.specs.Meters.{meters_ok, meters_in}
-use Rattle.meters.proofs.Bounds.{in_list, list_refused}
-use Rattle.meters.proofs.meters_ok.Goals.{then-not-contains-via-then-not-contains, then-not-contains-via-else-not-contains+then-list-count}
+use Rattle.basis.proofs.Within.{within_in, in_within}
+use Rattle.meters.specs.Meters.{meters_in, meter_at, meter_ok}
+use Rattle.meters.proofs.Bounds.{list_each, list_refused}
+use Rattle.meters.proofs.Chunks.{chunk_meter, chunks_all}
+use Rattle.meters.proofs.meters_ok.Goals.{then-contains, else-contains}
 use Rattle.meters.proofs.meters_ok.Goals as goal
 
-pub loop-t-init : goal.loop-t-init
-loop-t-init c = all_none _
-
-pub returns-then-not-contains : goal.returns-then-not-contains
-unfolding meters_ok
-returns-then-not-contains c =
-    elim c.then-not-contains.branch [
-      | then-not-contains-via-then-not-contains w ↦ grind (arith, common_steps)
-      | then-not-contains-via-else-not-contains+then-list-count w ↦ grind (arith, common_steps)
+pub returns-then-is_empty : goal.returns-then-is_empty
+returns-then-is_empty c =
+    let list = c.args.list.now in
+    let chunks = c.as_chunks.result.0.now in
+    let count : length chunks ≡ meters_in list = c.as_chunks.ensures.front_len in
+    let test = λ (bytes : List ℕ). meter_ok (meter_at bytes 1) in
+    let each = all_from_yields_List test _ _ _ c.all.ensures.ran (YieldsList-from_slice chunks cc) (λ x b q k. search (rules, tests)) in
+    let all = chunks_all test (λ t. meter_ok (meter_at list t)) chunks
+    (λ k h. ap meter_ok (chunk_meter list _ k (k + 1) chunks c.as_chunks.ensures.front (omega arith) (omega arith))) in
+    elim c.if-contains.branch [
+      | then-contains w ↦
+          let empty : length c.as_chunks.result.1.now ≡ 0 = eqb-true _ _ (sym w.is_empty.ensures ∙ sym w.value-is ∙ c.if-is_empty.true) in
+          let inside : within 1 8 (length chunks) ≡ true = search (rules, tests) in
+          each ∙ all ∙ rw count (list_each list (within_in 1 8 _ (rw count at inside)) (omega arith))
+      | else-contains w ↦ absurd (apart c.if-is_empty.true cc)
     ]
 
-pub returns-then-not-meter_ok : goal.returns-then-not-meter_ok
-returns-then-not-meter_ok c =
-    list_refused _ (λ b. apart (all_at _ _ b.each c.loop-t.t (omega arith) (omega arith)) (rw (← c.meter_at.ensures) (sym c.if-not-meter_ok.ensures)))
-
-pub loop-t-preserved : goal.loop-t-preserved
-loop-t-preserved c =
-    rw (add-sub_cancel c.loop-t.t 1)
-    (all_more (c.loop-t.t - 1) c.loop-t.t _ (omega arith) c.loop-t.invariant (rw (← c.meter_at.ensures) (sym c.if-not-meter_ok.ensures)))
-
-pub returns-else-not-meter_ok : goal.returns-else-not-meter_ok
-returns-else-not-meter_ok c =
-    let e : c.loop-t.t ≡ meters_in c.args.list.now = omega arith in
-    let all = all_more (c.loop-t.t - 1) c.loop-t.t _ (omega arith) c.loop-t.invariant (rw (← c.meter_at.ensures) (sym c.if-not-meter_ok.ensures)) in
-    let few : meters_in c.args.list.now ≤ 8 = le_from_is_le (meters_in c.args.list.now) 8 (rw c.new.ensures.end at c.if-not-contains.ensures.cases.1) in
-    sym (in_list _ (record { few = record { low = omega arith; high = few }; whole = omega arith; each = rw e at all }))
+pub returns-else-is_empty : goal.returns-else-is_empty
+returns-else-is_empty c =
+    let list = c.args.list.now in
+    c.if-is_empty.false ∙ elim c.if-contains.branch [
+      | then-contains w ↦ list_refused list (λ b. apart (eq-eqb _ _ (omega arith)) (sym w.is_empty.ensures ∙ sym w.value-is ∙ c.if-is_empty.false))
+      | else-contains w ↦
+          let outside : within 1 8 (length c.as_chunks.result.0.now) ≡ false = search (rules, tests) in
+          list_refused list (λ b. apart (in_within 1 8 _ b.few) (rw c.as_chunks.ensures.front_len at outside))
+    ]

@@ -14,8 +14,8 @@ rated : (c : In_ok-figures) →
     c.in_ok-accepted.accepted.job c.in_ok-figures.figures
 rated c =
     let at = rw (c.in_ok-figures.ensures.ok_part, c.in_ok-accepted.ensures.input.1) at c.rate_sections.ensures in
-    let count : c.from-count.result ≡ count_of (decode c.args.b.now) =
-    c.from-count.ensures ∙ ap (λ (job : Job). count_of job) c.in_ok-accepted.ensures.input.0 in
+    let count : c.count-count.result ≡ count_of (decode c.args.b.now) =
+    c.count-count.ensures.is ∙ ap (λ (job : Job). count_of job) c.in_ok-accepted.ensures.input.0 in
     record {
       fields = c.in_ok-accepted.ensures.input.0;
       accepted = c.in_ok-accepted.accepted.accepted;

@@ -1,8 +1,0 @@
--- The loop of `meters::winner`: the best of the meters before `t`.
--- Assumes nothing.
-use Rattle.std.proofs.Common.{◌-◌}
-use Rattle.meters.proofs.Least.{Best}
-use Rattle.meters.proofs.winner.Given as goal
-
-abbrev pub invariant-loop-t : goal.invariant-loop-t
-invariant-loop-t l = Best l.list l.q l.mean (l.t - 1) l.best
