@@ -11,3 +11,5 @@ pub mod Concat
 pub mod Runs
 pub mod Round
 pub mod Paths
+pub mod Chunks
+pub mod Listed

@@ -8,4 +8,3 @@ pub mod RowBounds
 pub mod ShapeBounds
 pub mod SizeBounds
 pub mod Chunks
-pub mod Ranges

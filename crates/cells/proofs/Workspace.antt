@@ -1,26 +1,19 @@
 -- Four bytes of a workspace as a cell that is read or written.
 -- Assumes nothing.
-use Rattle.std.proofs.Common.{◌≡◌, ◌∙◌, ap, refl, ℕ, zero, suc, ◌+◌, ◌*◌, ◌≤◌, ◌<◌, List, [], length, get_or, take, drop, arith, rules, get_or-take, get_or-drop, drop-drop}
+use Rattle.std.proofs.Common.{◌≡◌, ◌∙◌, ap, ℕ, ◌+◌, ◌*◌, ◌≤◌, ◌<◌, List, [], length, get_or, take, drop, arith, rules, get_or-take, get_or-drop}
 use borrow.Rule.Slice.PartMut.{put_mid}
 use Rattle.std.specs.Int.{w32, from_le_bytes, to_le_bytes}
 use Rattle.std.specs.Simd.{first_chunks}
 use Rattle.std.proofs.lemmas.Slice.{overwrites}
 use Rattle.std.proofs.lemmas.List.{places}
+use Rattle.basis.proofs.Chunks.{chunk_at}
 use Rattle.cells.specs.Cells.{cell_at, Written}
-
--- the k-th of n chunks of four bytes
-chunk_at : (ws : List ℕ) (n k : ℕ) → k < n → get_or (first_chunks 4 n ws) k [] ≡ take 4 (drop (4 * k) ws)
-chunk_at ws zero k h = absurd (omega arith)
-chunk_at ws (suc n) zero h = refl
-chunk_at ws (suc n) (suc k) h =
-    let e : 4 * suc k ≡ 4 + 4 * k = omega arith in
-    chunk_at (drop 4 ws) n k (omega arith) ∙ ap (take 4) (rw e (drop-drop (4 * k) 4 ws))
 
 -- a chunk read as a number is a cell
 pub cell_read : (ws : List ℕ) (n k : ℕ) (chunks : List (List ℕ)) → k < n → chunks ≡ first_chunks 4 n ws → from_le_bytes w32 (get_or chunks k []) ≡ cell_at ws k
 unfolding cell_at
 cell_read ws n k chunks h e =
-    ap (from_le_bytes w32) (ap (λ c. get_or c k []) e ∙ chunk_at ws n k h) ∙
+    ap (from_le_bytes w32) (ap (λ c. get_or c k []) e ∙ chunk_at 4 ws n k h) ∙
     grind (arith, get_or-take 4 (drop (4 * k) ws), get_or-drop (4 * k) ws)
 
 -- bytes that are written to cell k leave the others as they were

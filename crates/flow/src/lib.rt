@@ -36,12 +36,7 @@ fn put_result(out: &mut [u8], accepted: &AcceptedJob)
 {
     let count = accepted.job.count();
     let flows = accepted.flows();
-    put_house(
-        out,
-        accepted.hour(),
-        demand::day_of(accepted.job),
-        accepted.mean(),
-    );
+    put_house(out, accepted.hour(), accepted.day(), accepted.mean());
     wire::put_all(out, 12, &flows[1..=count]);
 }
 

@@ -30,15 +30,6 @@ impl From<&[u8; 5]> for Meter {
     }
 }
 
-/// The meter at place t, from 1.
-pub fn meter_at(list: &[u8], t: usize) -> Meter
-    requires { (0 < t) × (5 * t ≤ length list.now) }
-    ensures { result ≡ meter_at list.now t }
-{
-    let (meters, _) = list.as_chunks::<5>();
-    Meter::from(&meters[t - 1])
-}
-
 #[tactic(auto, unfolding(crate::specs::Meters::meter_ok))]
 fn meter_ok(m: Meter) -> bool
     ensures { result ≡ meter_ok m }

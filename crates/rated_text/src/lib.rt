@@ -33,12 +33,7 @@ fn rated(rating: &Rating) -> Text<4096>
 {
     let accepted = &rating.accepted;
     let mut text = Text::new();
-    put_house(
-        &mut text,
-        accepted.hour(),
-        demand::day_of(accepted.job),
-        accepted.mean(),
-    );
+    put_house(&mut text, accepted.hour(), accepted.day(), accepted.mean());
     put_sections(&mut text, rating.sections());
     let heads = rating.with_losses().heads();
     put_head(

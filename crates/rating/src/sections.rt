@@ -15,8 +15,7 @@ pub fn list_ok(job: &Job, cat: &[u8], list: &[u8]) -> bool
     ensures { result ≡ list_ok job.now cat.now list.now }
 {
     let sizes = catalogue::sizes_of(cat);
-    list.len() == job.count()
-        && list.iter().all(|size| (1..=sizes).contains(size))
+    list.len() == job.count() && list.iter().all(|size| (1..=sizes).contains(size))
 }
 
 /// The figures of each section with its size, at the sections' places in an array (no heap), where no section is over its last row or

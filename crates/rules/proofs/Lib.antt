@@ -1,4 +1,3 @@
-pub mod Ranges
 pub mod HeaderBounds
 pub mod Elevation
 pub mod SectionBounds

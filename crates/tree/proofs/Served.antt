@@ -12,21 +12,7 @@ use borrow.Author.Tests.{eq-eqb, ne_eqb}
 use Rattle.std.proofs.lemmas.Bool.Decides.{nat_tests}
 use Rattle.std.proofs.lemmas.Bool.{cases_lt, cases_eq}
 use Rattle.basis.specs.Range.{sum_to}
-use Rattle.basis.proofs.Sum.{
-  sum_none,
-  sum_more,
-  sum_ext,
-  sum_add,
-  sum_le,
-  sum_if,
-  sum_out,
-  sum_one,
-  sum_two,
-  sum_some,
-  sum_nothing,
-  sum_at,
-  sum_wider,
-}
+use Rattle.basis.proofs.Sum.{sum_none, sum_more, sum_ext, sum_add, sum_le, sum_if, sum_out, sum_one, sum_two, sum_some, sum_nothing, sum_at, sum_wider}
 use Rattle.fields.specs.declared.Job.{Job}
 use Rattle.fields.specs.Fields.{count_of, section_of}
 use Rattle.tree.specs.Tree.{below, own_of, served_of, house_of, set_of, fixtures_below, Rooted}

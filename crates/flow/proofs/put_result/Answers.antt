@@ -54,7 +54,7 @@ returns c =
       row_written c.args.accepted.now.job (valid_count c.args.accepted.now.accepted.valid).high,
       c.put_house.ensures,
       c.mean.ensures,
-      c.day_of.ensures,
+      c.day.ensures,
       c.hour.ensures,
       stored_next c.args.out.now 0 _ 12 _ refl (omega arith),
     )

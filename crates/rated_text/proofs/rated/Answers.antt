@@ -22,7 +22,7 @@ returns c =
       c.from.ensures,
       own,
       c.hour.ensures,
-      c.day_of.ensures,
+      c.day.ensures,
       c.mean.ensures,
       heads.0,
       heads.1,

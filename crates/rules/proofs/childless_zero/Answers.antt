@@ -6,7 +6,7 @@ use Rattle.std.proofs.lemmas.Iterator.Search.{any_from_yields_List}
 use Rattle.fields.specs.Fields.{count_of, section_of}
 use Rattle.rules.specs.Rules.{childless_zero}
 use Rattle.rules.proofs.Ends.{childless_zero_at, zero_set}
-use Rattle.rules.proofs.Ranges.{range_any}
+use Rattle.basis.proofs.Listed.{range_any}
 use Rattle.rules.proofs.childless_zero.Goals as goal
 
 pub returns : goal.returns

@@ -5,7 +5,7 @@ use Rattle.std.proofs.lemmas.Iterator.{YieldsList-from_range}
 use Rattle.std.proofs.lemmas.Iterator.Search.{all_from_yields_List}
 use Rattle.fields.specs.Fields.{count_of, section_of}
 use Rattle.rules.specs.Rules.{section_ok, sections_ok}
-use Rattle.rules.proofs.Ranges.{range_all}
+use Rattle.basis.proofs.Listed.{range_all}
 use Rattle.rules.proofs.sections_ok.Goals as goal
 
 pub returns : goal.returns

@@ -6,7 +6,7 @@ use Rattle.std.proofs.lemmas.Iterator.{YieldsList-from_range}
 use Rattle.std.proofs.lemmas.Iterator.Search.{any_from_yields_List}
 use Rattle.rules.specs.Rules.{unmatched}
 use Rattle.rules.proofs.House.{odd_at, odd_served}
-use Rattle.rules.proofs.Ranges.{range_any}
+use Rattle.basis.proofs.Listed.{range_any}
 use Rattle.rules.proofs.unmatched_kind.Goals as goal
 
 pub returns : goal.returns

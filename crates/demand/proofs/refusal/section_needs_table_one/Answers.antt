@@ -4,7 +4,7 @@ use Rattle.std.proofs.Common.{◌+◌, ap, ◌∙◌, rules, tests, arith}
 use Rattle.std.proofs.lemmas.Iterator.{YieldsList-from_range}
 use Rattle.std.proofs.lemmas.Iterator.Search.{any_from_yields_List}
 use Rattle.fields.specs.Fields.{count_of}
-use Rattle.rules.proofs.Ranges.{range_any}
+use Rattle.basis.proofs.Listed.{range_any}
 use Rattle.demand.proofs.Deciding.{section_test}
 use Rattle.demand.proofs.refusal.section_needs_table_one.Goals as goal
 
