@@ -24,6 +24,7 @@ pub fn answer(to: &mut Output, letter: u8, data: &[u8]) -> io::Result<()> {
     }
     let room = usize::from(u16::at(data, 0));
     let fill = data[2];
+    // A place has 64 bits, and std has no From for it from 32.
     let length = u32::at(data, 3) as usize;
     let first = usize::from(u16::at(data, 7));
     let next = usize::from(u16::at(data, 9));
@@ -51,6 +52,7 @@ fn call(to: &mut Output, letter: u8, input: &Input<'_>, out: &mut [u8]) -> io::R
     let record = input.job;
     let second = input.second;
     let list = input.list;
+    // No table of calls: each takes other parts of the line.
     match letter {
         b'r' => jobs::read(to, record, out),
         b'w' => jobs::write(to, record, out),
