@@ -1,7 +1,7 @@
 // The list of meters: its rules, a meter's loss, and the meter that wins.
 #![tactic(auto)]
 
-ghost use Rattle.std.specs.Prelude.{◌≡◌, ◌*◌, ◌≤◌, ◌<◌, length, unwrap_or, option_map, IfSome};
+ghost use Rattle.std.specs.Prelude.{◌≡◌, ◌≤◌, ◌<◌, unwrap_or, option_map, IfSome};
 ghost use Rattle.meters.specs.Meters.{meter_at, meter_ok, meters_ok, meter_loss, most_loss, qualifies, winner_of};
 ghost use Rattle.meters.specs.Steps.{better};
 

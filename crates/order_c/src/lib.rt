@@ -1,5 +1,6 @@
 // The exported calls, for the order office's Rust program and for C: numbers and byte slices, each slice a pointer and then a length.
-// Each calls the function of its name in `order`, with the same clauses.
+// Each calls the function of its name in `order`, with the same clauses: C takes no generic function, and the theorems stand on a library,
+// which a static library is not.
 #![tactic(auto)]
 
 ghost use Rattle.choosing.specs.Calls.{Chosen};

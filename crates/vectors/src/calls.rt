@@ -1,6 +1,8 @@
 // The calls. A line's bytes are the room of the result buffer (2), the byte that fills what is lent (1), a length (4), the lengths of
 // the next two parts (2 each), and then the parts: in most calls a job, then a catalogue, a list of meters or losses, then a size list.
 // Bytes that are not such give an empty line.
+ghost use Rattle.std.specs.Prelude.{◌≤◌, length};
+
 use crate::jobs;
 use crate::print::Output;
 use answer::Refusal;
@@ -24,6 +26,7 @@ pub fn answer(to: &mut Output, letter: u8, data: &[u8]) -> io::Result<()> {
     }
     let room = usize::from(u16::at(data, 0));
     let fill = data[2];
+    // A place has 64 bits, and std has no From for it from 32.
     let length = u32::at(data, 3) as usize;
     let first = usize::from(u16::at(data, 7));
     let next = usize::from(u16::at(data, 9));
@@ -51,6 +54,7 @@ fn call(to: &mut Output, letter: u8, input: &Input<'_>, out: &mut [u8]) -> io::R
     let record = input.job;
     let second = input.second;
     let list = input.list;
+    // No table of calls: each takes other parts of the line.
     match letter {
         b'r' => jobs::read(to, record, out),
         b'w' => jobs::write(to, record, out),
@@ -64,7 +68,9 @@ fn call(to: &mut Output, letter: u8, input: &Input<'_>, out: &mut [u8]) -> io::R
         b'e' => to.given(rating::losses(record, second, list, out), out),
         b'h' => to.given(lent_losses::heads(record, second, out), out),
         b's' => sheet(to, record, input.length, out),
-        b'l' | b'k' => choose(to, letter, input, out),
+        b'l' => choose(to, input, out.len(), out),
+        // Where several lists are equally cheap, only the cost is shown.
+        b'k' => choose(to, input, out.len().min(4), out),
         _ => Ok(()),
     }
 }
@@ -89,7 +95,8 @@ fn heat(to: &mut Output, record: &[u8], asked: &[u8], out: &mut [u8]) -> io::Res
     )
 }
 
-// The value of a call is not written out in the proofs of its callers, so the longest arrays have functions of their own.
+// The value of a call is not written out in the proofs of its callers, so the longest arrays have functions of their own. Arrays and no `Vec`,
+// so that no line lacks memory.
 fn blank() -> [u8; 131072] {
     [0u8; 131072]
 }
@@ -116,18 +123,21 @@ fn workspace(fill: u8) -> [u8; 1792256] {
     [fill; 1792256]
 }
 
-// Of a line `k`, where several lists are equally cheap, only the cost is shown. After a result and after 16 the workspace is free.
-fn choose(to: &mut Output, letter: u8, input: &Input<'_>, out: &mut [u8]) -> io::Result<()> {
+// So many bytes of the result buffer are shown. After a result and after 16 the workspace is free.
+fn choose(
+    to: &mut Output,
+    input: &Input<'_>,
+    shown: usize,
+    out: &mut [u8],
+) -> io::Result<()>
+    requires { shown ≤ length out.old }
+{
     let mut whole = workspace(input.fill);
     let Some(work) = whole.get_mut(..input.length) else {
         return Ok(());
     };
     let answer = choosing::choose(input.job, input.second, work, out);
-    if letter == b'k' && 4 <= out.len() {
-        to.given(answer, &out[..4])?;
-    } else {
-        to.given(answer, out)?;
-    }
+    to.given(answer, &out[..shown])?;
     match answer {
         Ok(()) | Err(Refusal::NoSuitableList) => Ok(()),
         Err(_) => kept(to, work, input.fill),

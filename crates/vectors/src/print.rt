@@ -4,7 +4,7 @@ use arrayvec::ArrayVec;
 use std::io;
 use std::io::{Stdout, Write};
 
-/// Standard output, and what is printed and not yet written to it.
+/// Standard output, and what is printed and not yet written to it. No `BufWriter`: it keeps what it could not write, and answers no line after that.
 #[derive(Drop)]
 pub struct Output {
     stdout: Stdout,
@@ -35,6 +35,7 @@ impl Output {
         }
     }
 
+    // Byte by byte: the kit's `hex` wants room for all digits at once.
     pub fn hex(&mut self, bytes: &[u8]) -> io::Result<()> {
         for b in bytes {
             write!(self, "{b:02x}")?;

@@ -59,6 +59,7 @@ impl Line {
         let Some(digit) = char::from(b).to_digit(16) else {
             return;
         };
+        // A digit of base 16 fits.
         let x = digit as u8;
         match self.half.take() {
             Some(high) => {
