@@ -124,12 +124,7 @@ fn workspace(fill: u8) -> [u8; 1792256] {
 }
 
 // So many bytes of the result buffer are shown. After a result and after 16 the workspace is free.
-fn choose(
-    to: &mut Output,
-    input: &Input<'_>,
-    shown: usize,
-    out: &mut [u8],
-) -> io::Result<()>
+fn choose(to: &mut Output, input: &Input<'_>, shown: usize, out: &mut [u8]) -> io::Result<()>
     requires { shown ≤ length out.old }
 {
     let mut whole = workspace(input.fill);
