@@ -20,7 +20,7 @@ pub fn accept(b: &[u8]) -> Result<AcceptedJob, Refusal>
     Ok(AcceptedJob { job })
 }
 
-/// Any bytes give an accepted job and an accepted catalogue, or a number from 1 to 11.
+/// Any bytes give an accepted job and an accepted catalogue, or a number from 1 to 11. A pair and no struct: most of what follows takes one of them.
 pub fn accept_both<'a>(b: &[u8], cat: &'a [u8]) -> Result<(AcceptedJob, Catalogue<'a>), Refusal>
     ensures number { number_of result ≡ input_no b.now cat.now }
     ensures input { IfOk result (λ both. (both.0.job ≡ decode b.now) × (both.1.bytes.now ≡ cat.now)) }

@@ -38,7 +38,7 @@ fn row_ok(rows: &[[u8; 8]], k: usize) -> bool
     (1..=1_000_000).contains(&row.flow) && 1 <= row.velocity && 1 <= row.slope
 }
 
-// Row k, from 1, against the row before it.
+// Row k, from 1, against the row before it. (By places and not by `windows`: the definition is of a place too.)
 #[tactic(auto, unfolding(crate::specs::Rules::rises_at))]
 fn rises_at(rows: &[[u8; 8]], k: usize) -> bool
     requires { (0 < k) × (k < length rows.now) }

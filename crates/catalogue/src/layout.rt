@@ -100,7 +100,7 @@ pub fn row_flow(row: &[u8; 8]) -> u32
     u32::at(row, 0)
 }
 
-/// Row k of a part, from 0.
+/// Row k of a part, from 0. No `From` of eight bytes: what stands in a row is defined of the whole part and k.
 #[tactic(auto, using(crate::proofs::Chunks::flow_row, crate::proofs::Chunks::velocity_row, crate::proofs::Chunks::slope_row))]
 pub fn row_at(rows: &[[u8; 8]], k: usize) -> Row
     requires { k < length rows.now }

@@ -21,6 +21,7 @@ pub fn needs_of(accepted: &AcceptedJob) -> [u32; 64]
 {
     let job = &accepted.job;
     let mut needs = [0u32; 64];
+    // A loop, as `from_fn` would have to test at each of the 64 places whether a section has it.
     for i in 1..=job.count() {
         needs[i] = need(job.sections[i]);
     }

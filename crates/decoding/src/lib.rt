@@ -67,7 +67,8 @@ fn section_from(b: &[u8], at: usize) -> Section
     }
 }
 
-// Sections 1 to count; the other places are blank. No heap: 64 places, whatever the count.
+// Sections 1 to count; the other places are blank. No heap: 64 places, whatever the count; a loop, as `from_fn` would have to test at each place
+// whether a section has it.
 #[tactic(auto, using(record::proofs::Lengths::from_in, basis::proofs::Slots::slots_none, crate::proofs::Arrays::one_more))]
 fn sections_of(b: &[u8], count: usize) -> [Section; 64]
     requires { (count ≤ 63) × (length_of (version_at b.now) count ≤ length b.now) }

@@ -36,7 +36,7 @@ module _ (count : ℕ) (losses : List ℕ) where
         losses_all ∙ all_false count i (λ j. leb (loss_in losses j) 4259775) low high (lt-leb (loss_in losses i) 4259775 h)
 
   module _ (ok : losses_ok count losses ≡ true) where
-    losses_long : length losses ≡ 4 * count
+    pub losses_long : length losses ≡ 4 * count
     unfolding losses_ok
     losses_long = eqb-true (length losses) (4 * count) (left (eqb (length losses) (4 * count)) _ ok)
 

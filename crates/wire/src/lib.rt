@@ -109,7 +109,7 @@ impl Field for i32 {
     }
 }
 
-/// Writes the bytes x from i on.
+/// Writes the bytes x from i on. (One call of std, which the clause ties to `stored`.)
 pub fn put(s: &mut [u8], i: usize, x: &[u8])
     requires { i + length x.now ≤ length s.old }
     ensures { s.new ≡ stored s.old i x.now }
