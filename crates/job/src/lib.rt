@@ -16,11 +16,8 @@ use wire::Field;
 fn shape_refusal(b: &[u8]) -> Result<(), Refusal>
     ensures { number_of result ≡ first_no (shape_checks b.now) }
 {
-    if b.len() < 40 {
-        return Err(Refusal::JobLength);
-    }
     // std has no From from u32 to usize, whose 64 bits hold it.
-    if u32::at(b, 0) as usize != b.len() {
+    if b.len() < 40 || u32::at(b, 0) as usize != b.len() {
         return Err(Refusal::JobLength);
     }
     let head = decoding::header_of(b);
