@@ -1,25 +1,26 @@
 -- The numbers of reading, writing and copying, part by part of their lists of checks.
 -- Assumes nothing.
 use mathlib.Core.Path.{◌≡◌, sym, ◌∙◌}
-use mathlib.Core.Bool.{true, false, not}
-use mathlib.Core.List.{List, [], ◌∷◌}
+use mathlib.Core.Bool.{true}
+use mathlib.Core.List.{List, [], ◌∷◌, ◌++◌}
 use Prim.{tt}
 use Prim.Native.Nat.{ℕ, ◌≤◌, ◌<◌}
 use native.Mathlib.Omega.{arith}
 use lib.ListN.{length}
 use lib.Dec.{ltb}
-use borrow.Author.Tests.{eq-eqb, ltb-false, not-false}
+use borrow.Author.Tests.{eq-eqb, ltb-false}
 use Rattle.answer.specs.declared.Refusal.{Refusal}
 use Rattle.answer.specs.Answer.{refusal_number}
 use Rattle.answer.specs.Checks.{first_no, too_short}
-use Rattle.answer.proofs.First.{Numbered, first_none, first_found, first_next, short_found, short_next, first_clear, first_after, first_split, numbered_append}
+use Rattle.answer.proofs.First.{Numbered, first_none, short_found, short_next, first_clear, first_after, first_split, numbered_append}
 use Rattle.answer.proofs.Some.{first_refused, first_passed, number_at_exit}
+use Rattle.fields.specs.declared.Header.{Header}
 use Rattle.fields.specs.declared.Job.{Job}
 use Rattle.fields.specs.Fields.{version_of, count_of}
 use Rattle.rules.specs.Rules.{version_ok, header_ok, field_checks}
 use Rattle.record.specs.Record.{length_of, decode}
 use Rattle.rules.proofs.HeaderBounds.{header_in}
-use Rattle.job.proofs.Shape.{shaped, few}
+use Rattle.job.proofs.Shape.{header_checks, header_numbered, headed, shaped, few}
 use Rattle.job.specs.Calls.{shape_checks, read_checks, read_no, read_job, write_checks, write_no, copy_checks, copy_no}
 
 shape_numbered : (b : List ℕ) → Numbered (shape_checks b)
@@ -71,32 +72,27 @@ module _ (b : List ℕ) (room : ℕ) where
 
 -- writing: 2, else 3, else 5 to 7, else 14
 module _ (job : Job) (room : ℕ) where
-  pub write_version : version_ok job.header ≡ false → write_no job room ≡ 2
+  pub write_header : (r : Refusal) → refusal_number r ≡ first_no (header_checks job.header) → refusal_number r ≡ write_no job room
   unfolding write_no write_checks
-  write_version e = first_found 2 _ (rw e)
+  write_header r e = first_refused (header_checks job.header) _ (header_numbered job.header) r e
 
-  module _ (version : version_ok job.header ≡ true) where
-    pub write_range : header_ok job.header ≡ false → write_no job room ≡ 3
+  module _ (clear : first_no (header_checks job.header) ≡ 0) where
+    write_rest : write_no job room ≡ first_no (field_checks job ++ ((too_short room (length_of (version_of job) (count_of job)), 14) ∷ []))
     unfolding write_no write_checks
-    write_range e = first_next 2 _ (rw version) ∙ first_found 3 _ (rw e)
+    write_rest = first_after (header_checks job.header) _ (header_numbered job.header) clear
 
-    module _ (head : header_ok job.header ≡ true) where
-      pub write_fields : (r : Refusal) → refusal_number r ≡ first_no (field_checks job) → refusal_number r ≡ write_no job room
-      unfolding write_no write_checks
-      write_fields r e =
-          first_refused (field_checks job) _ (fields_numbered job) r e ∙
-          sym (first_next 2 _ (rw version) ∙ first_next 3 _ (rw head))
+    pub write_fields : (r : Refusal) → refusal_number r ≡ first_no (field_checks job) → refusal_number r ≡ write_no job room
+    write_fields r e = first_refused (field_checks job) _ (fields_numbered job) r e ∙ sym write_rest
 
-      module _ (fields : first_no (field_checks job) ≡ 0) where
-        pub write_room : write_no job room ≡ first_no ((too_short room (length_of (version_of job) (count_of job)), 14) ∷ [])
-        unfolding write_no write_checks
-        write_room = first_next 2 _ (rw version) ∙ first_next 3 _ (rw head) ∙ first_after (field_checks job) _ (fields_numbered job) fields
+    module _ (fields : first_no (field_checks job) ≡ 0) where
+      pub write_room : write_no job room ≡ first_no ((too_short room (length_of (version_of job) (count_of job)), 14) ∷ [])
+      write_room = write_rest ∙ first_after (field_checks job) _ (fields_numbered job) fields
 
-        pub write_short : room < length_of (version_of job) (count_of job) → write_no job room ≡ 14
-        write_short h = write_room ∙ short_found room (length_of (version_of job) (count_of job)) [] h
+      pub write_short : room < length_of (version_of job) (count_of job) → write_no job room ≡ 14
+      write_short h = write_room ∙ short_found room (length_of (version_of job) (count_of job)) [] h
 
-        pub write_done : length_of (version_of job) (count_of job) ≤ room → write_no job room ≡ 0
-        write_done h = write_room ∙ short_next room (length_of (version_of job) (count_of job)) [] h ∙ first_none
+      pub write_done : length_of (version_of job) (count_of job) ≤ room → write_no job room ≡ 0
+      write_done h = write_room ∙ short_next room (length_of (version_of job) (count_of job)) [] h ∙ first_none
 
 -- what holds where the writer finds nothing
 pub record Writable (job : Job) (room : ℕ) : Type 0 where
@@ -108,18 +104,22 @@ pub record Writable (job : Job) (room : ℕ) : Type 0 where
 pub writable : (job : Job) (room : ℕ) → write_no job room ≡ 0 → Writable job room
 unfolding write_no write_checks
 writable job room e =
-    let two = first_clear (not (version_ok job.header)) 2 _ (omega arith) e in
-    let three = first_clear (not (header_ok job.header)) 3 _ (omega arith) two.1 in
-    let rest = first_split (field_checks job) _ (fields_numbered job) three.1 in
+    let parts = first_split (header_checks job.header) _ (header_numbered job.header) e in
+    let head = headed job.header parts.0 in
+    let rest = first_split (field_checks job) _ (fields_numbered job) parts.1 in
     let last = first_clear (ltb room (length_of (version_of job) (count_of job))) 14 [] (omega arith) rest.1 in
     record {
-      version = not-false (version_ok job.header) two.0;
-      header = not-false (header_ok job.header) three.0;
+      version = head.version;
+      header = head.range;
       fields = rest.0;
       fits = ltb-false room (length_of (version_of job) (count_of job)) last.0;
     }
 
+-- a header that 2 and 3 let pass has at most 63 sections
+pub few_head : (h : Header) → first_no (header_checks h) ≡ 0 → h.sections ≤ 63
+few_head h e = (header_in h (headed h e).range).sections.high
+
 -- the outcomes of reading and of writing, in turn
 pub ruleset outcomes_read = (number_at_exit, read_refused, read_passed, shaped, few)
 
-pub ruleset outcomes_written = (number_at_exit, header_in, write_version, write_range, write_fields, write_short, write_done)
+pub ruleset outcomes_written = (number_at_exit, few_head, write_header, write_fields, write_short, write_done)

@@ -12,7 +12,7 @@ use Rattle.record.specs.Record.{header_at}
 use Rattle.record.specs.Edited.{SameBut}
 use Rattle.record.proofs.Edited.{field_kept}
 use Rattle.job.specs.Calls.{shape_checks}
-use Rattle.job.proofs.Shape.{shaped, well_formed}
+use Rattle.job.proofs.Shape.{header_clear, shaped, well_formed}
 
 -- 2 looks at the version alone
 version_same : (e b : List ℕ) → byte_at e 4 ≡ byte_at b 4 → version_ok (header_at e) ≡ version_ok (header_at b)
@@ -26,6 +26,5 @@ shape_kept {at} {width} {b} {e} same behind clear head =
     well_formed e
     (rw same.long s.long)
     (field_kept same 4 0 (λ k l c d. omega arith) ∙ s.stated ∙ sym same.long)
-    (version_same e b (same.bytes 4 (λ c d. omega arith)) ∙ s.version)
-    head
+    (header_clear (header_at e) (version_same e b (same.bytes 4 (λ c d. omega arith)) ∙ s.version) head)
     (same.long ∙ s.whole ∙ rw (same.bytes 4 (λ c d. omega arith), same.bytes 6 (λ c d. omega arith)))

@@ -24,7 +24,7 @@ use Rattle.record.specs.Record.{length_of, version_at, header_at, header_bytes, 
 use Rattle.record.proofs.Lengths.{from_in, encode_length}
 use Rattle.record.proofs.RoundTrip.{encode_decode, decode_encode}
 use Rattle.job.specs.Calls.{read_no, read_job, write_no, copy_no, WrittenRead, SameFields}
-use Rattle.job.proofs.Shape.{Shaped, shaped, few, well_formed}
+use Rattle.job.proofs.Shape.{header_clear, Shaped, shaped, few, well_formed}
 use Rattle.job.proofs.Decided.{readable, read_passed, read_accepted, Writable, writable, write_room, copy_room}
 
 -- an accepted record, read and written
@@ -54,7 +54,9 @@ module _ (b : List ℕ) (accepted : read_no b ≡ 0) where
 
   -- the writer gives 14 or nothing, as the room is
   pub rewritten : (room : ℕ) → write_no (read_job b) room ≡ first_no ((too_short room (length b), 14) ∷ [])
-  rewritten room = rw fields_read (write_room (decode b) room read_version read_header (readable b accepted).fields ∙ rw read_length)
+  rewritten room =
+      let clear = header_clear (decode b).header read_version read_header in
+      rw fields_read (write_room (decode b) room clear (readable b accepted).fields ∙ rw read_length)
 
   -- and copying gives what the writer gives
   pub copied : (room : ℕ) → copy_no b room ≡ write_no (read_job b) room
@@ -151,7 +153,8 @@ module _ (job : Job) (room : ℕ) (done : write_no job room ≡ 0) where
         let from = from_in (version_of job) in
         let long : 40 ≤ length (encode job) = rw (encode_length job) (omega arith) in
         let head : header_ok (header_at (encode job)) ≡ true = rw head_again may.header in
-        sym (read_passed (encode job) (sym (well_formed (encode job) long stated_again version_again head shape_again)) (sym fields_again))
+        let clear = header_clear (header_at (encode job)) version_again head in
+        sym (read_passed (encode job) (sym (well_formed (encode job) long stated_again clear shape_again)) (sym fields_again))
 
     pub same_fields : read_job (encode job) ≡ kept job
     same_fields = read_accepted (encode job) accepted_again ∙ again

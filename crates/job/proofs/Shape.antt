@@ -1,20 +1,47 @@
 -- Checks 1 to 4: the number that they give, and what holds where they find nothing.
 -- Assumes nothing.
-use mathlib.Core.Path.{◌≡◌, refl}
+use mathlib.Core.Path.{◌≡◌, refl, sym, ◌∙◌}
 use mathlib.Core.Bool.{Bool, true, false, not, ◌||◌}
-use mathlib.Core.List.{List}
+use mathlib.Core.List.{List, [], ◌∷◌, ◌++◌}
+use Prim.{tt}
 use Prim.Native.Nat.{ℕ, ◌≤◌, ◌<◌}
 use native.Mathlib.Omega.{arith}
 use lib.ListN.{length}
 use lib.Dec.{ltb, eqb}
 use borrow.Author.Tests.{lt-ltb, le-ltb, ltb-false, eq-eqb, ne_eqb, eqb-true, not-false}
+use Rattle.answer.specs.declared.Refusal.{Refusal}
+use Rattle.answer.specs.Answer.{refusal_number}
 use Rattle.answer.specs.Checks.{first_no}
-use Rattle.answer.proofs.First.{first_clear}
+use Rattle.answer.proofs.First.{Numbered, first_none, first_found, first_next, first_clear, first_after}
+use Rattle.answer.proofs.Some.{first_refused, number_at_exit}
+use Rattle.fields.specs.declared.Header.{Header}
 use Rattle.wire.specs.Wire.{byte_at, be_at}
 use Rattle.rules.specs.Rules.{version_ok, header_ok}
 use Rattle.rules.proofs.HeaderBounds.{header_in}
 use Rattle.record.specs.Record.{length_of, version_at, header_at}
 use Rattle.job.specs.Calls.{wrong_length, wrong_version, wrong_count, shape_checks}
+
+-- 2 and 3, of a header, and where neither finds anything
+abbrev pub header_checks : Header → List (Bool × ℕ)
+header_checks h = (not (version_ok h), 2) ∷ (not (header_ok h), 3) ∷ []
+
+pub header_numbered : (h : Header) → Numbered (header_checks h)
+header_numbered h = (omega arith, (omega arith, tt))
+
+pub header_clear : (h : Header) → version_ok h ≡ true → header_ok h ≡ true → first_no (header_checks h) ≡ 0
+unfolding first_no
+header_clear h v e = rw (v, e)
+
+-- a header that 2 and 3 let pass
+pub record Headed (h : Header) : Type 0 where
+  pub version : version_ok h ≡ true
+  pub range : header_ok h ≡ true
+
+pub headed : (h : Header) → first_no (header_checks h) ≡ 0 → Headed h
+headed h e =
+    let two = first_clear _ 2 _ (omega arith) e in
+    let three = first_clear _ 3 _ (omega arith) two.1 in
+    record { version = not-false (version_ok h) two.0; range = not-false (header_ok h) three.0 }
 
 -- the number that the code gives, each test after those before it
 module _ (b : List ℕ) where
@@ -32,27 +59,25 @@ module _ (b : List ℕ) where
       unfolding wrong_length
       right_length = rw (le-ltb (length b) 40 long, eq-eqb (be_at 4 b 0) (length b) stated)
 
-      pub other_version : version_ok (header_at b) ≡ false → first_no (shape_checks b) ≡ 2
+      shape_rest : first_no (shape_checks b) ≡ first_no (header_checks (header_at b) ++ ((wrong_count b, 4) ∷ []))
       unfolding shape_checks first_no wrong_version
-      other_version e = rw (right_length, e)
+      shape_rest = rw right_length
 
-      module _ (version : version_ok (header_at b) ≡ true) where
-        right_version : wrong_version b ≡ false
-        unfolding wrong_version
-        right_version = rw version
+      pub other_header : (r : Refusal) → refusal_number r ≡ first_no (header_checks (header_at b)) → refusal_number r ≡ first_no (shape_checks b)
+      other_header r e = first_refused (header_checks (header_at b)) _ (header_numbered (header_at b)) r e ∙ sym shape_rest
 
-        pub out_of_range : header_ok (header_at b) ≡ false → first_no (shape_checks b) ≡ 3
-        unfolding shape_checks first_no
-        out_of_range e = rw (right_length, right_version, e)
+      module _ (clear : first_no (header_checks (header_at b)) ≡ 0) where
+        count_rest : first_no (shape_checks b) ≡ first_no ((wrong_count b, 4) ∷ [])
+        count_rest = shape_rest ∙ first_after (header_checks (header_at b)) _ (header_numbered (header_at b)) clear
 
-        module _ (head : header_ok (header_at b) ≡ true) where
-          pub other_count : (length b ≡ length_of (version_at b) (byte_at b 6) → ⊥) → first_no (shape_checks b) ≡ 4
-          unfolding shape_checks first_no wrong_count
-          other_count n = rw (right_length, right_version, head, ne_eqb (length b) (length_of (version_at b) (byte_at b 6)) n)
+        pub other_count : (length b ≡ length_of (version_at b) (byte_at b 6) → ⊥) → first_no (shape_checks b) ≡ 4
+        unfolding wrong_count
+        other_count n = count_rest ∙ first_found 4 [] (rw (ne_eqb (length b) (length_of (version_at b) (byte_at b 6)) n))
 
-          pub well_formed : length b ≡ length_of (version_at b) (byte_at b 6) → first_no (shape_checks b) ≡ 0
-          unfolding shape_checks first_no wrong_count
-          well_formed e = rw (right_length, right_version, head, eq-eqb (length b) (length_of (version_at b) (byte_at b 6)) e)
+        pub well_formed : length b ≡ length_of (version_at b) (byte_at b 6) → first_no (shape_checks b) ≡ 0
+        unfolding wrong_count
+        well_formed e =
+            count_rest ∙ first_next 4 [] (rw (eq-eqb (length b) (length_of (version_at b) (byte_at b 6)) e)) ∙ first_none
 
 -- a record that 1 to 4 let pass
 pub record Shaped (b : List ℕ) : Type 0 where
@@ -87,4 +112,4 @@ unfolding header_at
 few {b} s = (header_in (header_at b) s.header).sections.high
 
 -- the tests of a record as it stands, in turn
-pub ruleset tested = (short, not_stated, other_version, out_of_range, other_count, well_formed)
+pub ruleset tested = (number_at_exit, short, not_stated, other_header, other_count, well_formed)

@@ -1,35 +1,42 @@
 // Reading a job record and writing one.
 #![tactic(auto)]
 
-ghost use Rattle.std.specs.Prelude.{◌≡◌, length, IfOk};
+ghost use Rattle.std.specs.Prelude.{◌≡◌, not, [], ◌∷◌, length, IfOk};
 ghost use Rattle.answer.specs.Answer.{number_of};
 ghost use Rattle.answer.specs.Checks.{first_no, buffer_after};
+ghost use Rattle.rules.specs.Rules.{version_ok, header_ok};
 ghost use Rattle.record.specs.Record.{decode, encode};
 ghost use Rattle.job.specs.Calls.{shape_checks, read_no, write_no, copy_no, job_in, WrittenRead};
 
 use answer::Refusal;
-use fields::Job;
+use fields::{Header, Job};
 use wire::Field;
+
+// 2 and 3, of a header.
+#[tactic(auto, unfolding(answer::specs::Checks::first_no))]
+fn header_refusal(h: Header) -> Result<(), Refusal>
+    ensures { number_of result ≡ first_no ((not (version_ok h), 2) ∷ (not (header_ok h), 3) ∷ []) }
+{
+    if !rules::version_ok(h) {
+        return Err(Refusal::JobVersion);
+    }
+    if !rules::header_ok(h) {
+        return Err(Refusal::HeaderRange);
+    }
+    Ok(())
+}
 
 // 1 to 4, of the record as it stands.
 #[tactic(auto, using(crate::proofs::Shape::tested), unfolding(record::specs::Record::header_at))]
 fn shape_refusal(b: &[u8]) -> Result<(), Refusal>
     ensures { number_of result ≡ first_no (shape_checks b.now) }
 {
-    if b.len() < 40 {
-        return Err(Refusal::JobLength);
-    }
     // std has no From from u32 to usize, whose 64 bits hold it.
-    if u32::at(b, 0) as usize != b.len() {
+    if b.len() < 40 || u32::at(b, 0) as usize != b.len() {
         return Err(Refusal::JobLength);
     }
     let head = decoding::header_of(b);
-    if !rules::version_ok(head) {
-        return Err(Refusal::JobVersion);
-    }
-    if !rules::header_ok(head) {
-        return Err(Refusal::HeaderRange);
-    }
+    header_refusal(head)?;
     if b.len() != record::length_of(head.version, head.sections) {
         return Err(Refusal::SectionBytes);
     }
@@ -53,12 +60,7 @@ pub fn read(b: &[u8]) -> Result<Job, Refusal>
 fn write_refusal(job: Job, room: usize) -> Result<(), Refusal>
     ensures { number_of result ≡ write_no job room }
 {
-    if !rules::version_ok(job.header) {
-        return Err(Refusal::JobVersion);
-    }
-    if !rules::header_ok(job.header) {
-        return Err(Refusal::HeaderRange);
-    }
+    header_refusal(job.header)?;
     rules::broken_rule(job)?;
     if room < record::length_of(job.header.version, job.header.sections) {
         return Err(Refusal::ResultShort);
