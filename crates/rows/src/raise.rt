@@ -64,6 +64,7 @@ impl Level {
 }
 
 // Offers size t to the parent's heads after the sizes before it, unless it loses too much.
+// Loss and cost are read by the row's place: a row does not keep the section's number, which `Tables::loss` and `cost` ask for.
 fn offer_next(
     ws: &[u8],
     best: &mut [u32; 7001],
