@@ -39,7 +39,7 @@ fn offer_row(
     }
 }
 
-// Offers one cost at each of the heads. (One loop for both over a closure is no plainer: the closures need these two contracts again.)
+// Offers one cost at each of the heads. (A loop of its own: the one above reads a cell at each head, while here one cell, read once, stands for all.)
 fn offer_flat(best: &mut [u32; 7001], cost: u32, heads: Range<usize>)
     requires { heads.end ≤ 7001 }
     ensures { Offered best.old best.new heads.start heads.end (λ h. cost) }

@@ -3,7 +3,7 @@
 
 ghost use Rattle.nets.specs.Tables.{net_of, Sound};
 
-/// The loss of a size that may not be taken. (An Option is no plainer: this loss is more than any head, so that a size with it is ruled out wherever a loss is held against a head.)
+/// The loss of a size that may not be taken. (Fixed memory: in the table an optional number would take twice the room. This loss is more than any head, so that most tests against a head need no case of their own.)
 pub const TOP: u32 = 4294967295;
 
 /// A net as tables: section s at place s, its size t at place 13 s + t. (Fixed memory: places for 63 sections and 12 sizes, found by number.)

@@ -15,7 +15,7 @@ use Rattle.pruning.specs.Steps.{Alike, Trimmed, Emptied, LeastLoss, Raised, Prun
 use Rattle.pruning.proofs.Keeping.{keeps_then, keeps_none, keeps_pump, keeps_raised}
 use Rattle.pruning.proofs.Trims.{net_alike}
 
-alike_then : {b c d : Tables} → Alike b c → Alike c d → Alike b d
+pub alike_then : {b c d : Tables} → Alike b c → Alike c d → Alike b d
 alike_then p q =
     record { sections = q.sections ∙ p.sections; sizes = q.sizes ∙ p.sizes; parents = q.parents ∙ p.parents; costs = q.costs ∙ p.costs }
 

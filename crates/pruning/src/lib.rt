@@ -33,7 +33,8 @@ fn raise(tables: &mut Tables, s: usize, least: u32)
 /// Leaves fewer sizes and greater needs in the tables, from the last section to the first. Where a section has no size left, no list suits.
 pub fn prune(tables: &mut Tables, head: usize) -> Option<()>
     requires { head ≤ 7000 }
-    ensures { MatchOption result (NoneSuits (net_in tables.old) head) (λ done. Pruned tables.old head tables.new) }
+    ensures alike { Alike tables.old tables.new }
+    ensures pruned { MatchOption result (NoneSuits (net_in tables.old) head) (λ done. Pruned tables.old head tables.new) }
 {
     free_pump(tables);
     for s in (1..=tables.sections).rev() {

@@ -47,7 +47,7 @@ pub fn trim(tables: &mut Tables, head: usize, s: usize)
     }
 }
 
-// The least of some losses, where that may be taken.
+// The least of some losses, where that may be taken. (No head is asked here, so that the mark is: where all have it, it is the least.)
 fn least_of(losses: &[u32]) -> Option<u32>
     ensures { MatchOption result (EachIndex losses.now (λ k. top ≤ slice_index losses.now k))
         (λ least. (least < top) × SomeIndex losses.now (λ k. slice_index losses.now k ≡ least)

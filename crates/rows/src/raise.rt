@@ -64,6 +64,7 @@ impl Level {
 }
 
 // Offers size t to the parent's heads after the sizes before it, unless it loses too much.
+// Loss and cost are read by the row's place: a row does not keep the section's number, which `Tables::loss` and `cost` ask for.
 fn offer_next(
     ws: &[u8],
     best: &mut [u32; 7001],
@@ -110,6 +111,7 @@ pub fn bests(ws: &[u8], best: &mut [u32; 7001], tables: &Tables, row: Row, paren
     ensures { Lowest best.new parent.need (parent.high + 1) tables.now.sizes (options_of row tables.now.losses tables.now.costs ws.now) }
 {
     fresh(best, parent.heads());
+    // No size is offered yet: a level past the last head stops none, whatever its cost.
     let mut level = Level {
         head: parent.high + 1,
         cost: MARK,

@@ -15,6 +15,7 @@ fn cost_at(ws: &[u8], tables: &Tables, row: Row, t: usize, h: usize) -> u64
         × (4 * (row.first + t * row.stride + row.high + 1) ≤ length ws.now) }
     ensures { result ≡ options_of row tables.now.losses tables.now.costs ws.now h t }
 {
+    // A row keeps its place, not the section's number, which `Tables::loss` and `cost` ask for.
     let at = row.at + t;
     let loss = tables.losses[at] as usize; // std has no `From` from 32 bits to a place
     if h < loss + row.need {
@@ -25,6 +26,7 @@ fn cost_at(ws: &[u8], tables: &Tables, row: Row, t: usize, h: usize) -> u64
 }
 
 /// A cheapest of the sizes at the head h, where one will do.
+// The least is kept by hand: `min_by_key` gives a size without its cost, which would be worked out again to tell it from the mark.
 pub fn cheapest(ws: &[u8], tables: &Tables, row: Row, h: usize) -> Option<usize>
     requires { (row.at + tables.now.sizes < 832) × (row.need ≤ 4294967295)
         × (4 * (row.first + tables.now.sizes * row.stride + row.high + 1) ≤ length ws.now) }

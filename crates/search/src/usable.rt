@@ -7,7 +7,7 @@ ghost use Rattle.plan.specs.Plan.{Usable};
 
 use nets::{TOP, Tables};
 
-// The greatest of the losses that may be taken.
+// The greatest of the losses that may be taken. (The mark is looked for: it is more than all of these, so that it would be the greatest.)
 fn greatest_of(losses: &[u32]) -> u32
     ensures { EachIndex losses.now (λ k. slice_index losses.now k < top → slice_index losses.now k ≤ result) }
 {
