@@ -25,7 +25,7 @@ fn needs_table_one(m: u64, fixtures: u64) -> bool
 }
 
 // Whether any section does.
-fn section_needs_table_one(tree: &Tree, served: &[u32; 768], sets: &[u64; 64]) -> bool
+fn section_needs_table_one(tree: &Tree, served: &[[u32; 12]; 64], sets: &[u64; 64]) -> bool
     requires counts { Counted tree.now.job.now served.now }
     requires sets { (i : ℕ) → i < 64 → get_or sets.now i 0 ≡ set_of tree.now.job.now i }
     ensures { result ≡ any_to (count_of tree.now.job.now)

@@ -48,7 +48,7 @@ fn part_of(job: &Job, kind: usize, n: u64, house: u64) -> Sums
 
 /// The sums of row i of the counts: section i's, or the house's where i is 0. The loops here, in `hour_sums` and in `day_of` stay three: one
 /// over a closure would ask each caller again for the bounds against overflow, which differ.
-pub fn sums_of(tree: &Tree, counts: &[u32; 768], i: usize) -> Sums
+pub fn sums_of(tree: &Tree, counts: &[[u32; 12]; 64], i: usize) -> Sums
     requires { Counted tree.now.job.now counts.now × (i < 64) }
     ensures { (result.m ≡ m_of tree.now.job.now (served_of tree.now.job.now i))
         × (result.weighted ≡ fixture_sum_of tree.now.job.now (served_of tree.now.job.now i))
@@ -56,8 +56,8 @@ pub fn sums_of(tree: &Tree, counts: &[u32; 768], i: usize) -> Sums
 {
     let mut sums = Sums::default();
     for kind in 1..=12 {
-        let n = u64::from(counts[i * 12 + (kind - 1)]);
-        let house = u64::from(counts[kind - 1]);
+        let n = u64::from(counts[i][kind - 1]);
+        let house = u64::from(counts[0][kind - 1]);
         let part = part_of(tree.job, kind, n, house);
         sums.m += part.m;
         sums.weighted += part.weighted;

@@ -106,8 +106,8 @@ fn childless_zero(tree: &Tree) -> bool
 fn unmatched_kind(tree: &Tree) -> bool
     ensures { result ≡ unmatched tree.now.job.now }
 {
-    let served = tree.counts();
-    (0..12).any(|c| (tree.job.residents[c] == 0) != (served[c] == 0))
+    let house = tree.counts()[0];
+    (0..12).any(|c| (tree.job.residents[c] == 0) != (house[c] == 0))
 }
 
 /// The first of 5, 6 and 7 that the job breaks, if it breaks one.

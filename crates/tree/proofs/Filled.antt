@@ -1,18 +1,18 @@
 -- The places of the sections, filled one after the other from the first, over zeros.
 -- Assumes nothing.
-use mathlib.Core.Path.{◌≡◌, refl, sym, ◌∙◌}
+use mathlib.Core.Path.{◌≡◌, refl, sym, ap, ◌∙◌}
 use mathlib.Core.Logic.{⊎_elim}
 use mathlib.Core.List.{List}
-use Prim.Native.Nat.{ℕ, ◌+◌, ◌-◌, ◌*◌, ◌^◌, ◌≤◌, ◌<◌}
+use Prim.Native.Nat.{ℕ, ◌+◌, ◌-◌, ◌^◌, ◌≤◌, ◌<◌}
 use native.Mathlib.Omega.{arith}
-use lib.ListN.{get_or, set, replicate, length-set, get_or-replicate}
-use lib.Seq.{get_or-set_same, get_or-set_other}
+use lib.ListN.{get_or, replicate, get_or-replicate}
 use Rattle.std.proofs.lemmas.Bool.Decides.{nat_tests}
 use Rattle.std.proofs.lemmas.Bool.{cases_eq}
 use Rattle.fields.specs.declared.Job.{Job}
 use Rattle.fields.specs.Fields.{section_of}
 use Rattle.tree.specs.Tree.{own_of}
-use Rattle.tree.specs.Rows.{cell, Filled, Singles, Zeros, Owned}
+use Rattle.tree.specs.Rows.{cell, Filled, Singles, Owned}
+use Rattle.tree.proofs.Cells.{put, put_sized, put_here, put_beside, other_row}
 
 pub filled_start : (f v : ℕ → ℕ) → ((i : ℕ) → i < 64 → v i ≡ 0) → Filled 0 f v
 filled_start f v zero = record { at = λ i h. grind (arith, nat_tests, zero i h) }
@@ -40,10 +40,7 @@ own_not : (job : Job) (kind j : ℕ) → ((section_of job j).kind ≡ kind → �
 unfolding own_of
 own_not job kind j ne = grind (arith, nat_tests)
 
-pub zeros : Zeros (replicate 768 0)
-zeros = record { long = refl; zero = λ x h. get_or-replicate 768 x 0 0 h }
-
-module _ {job : Job} {j : ℕ} {n : List ℕ} (o : Owned job (j - 1) n) (p : 0 < j) (h : j < 64) (s : (section_of job j).fixtures < 65536) where
+module _ {job : Job} {j : ℕ} {n : List (List ℕ)} (o : Owned job (j - 1) n) (p : 0 < j) (h : j < 64) (s : (section_of job j).fixtures < 65536) where
   small_more : (i : ℕ) → 0 < i → i ≤ j + 1 - 1 → (section_of job i).fixtures < 65536
   small_more i a b = ⊎_elim (λ e. rw e s) (λ ne. o.small i a (before ne)) (cases_eq i j)
     where
@@ -54,40 +51,34 @@ module _ {job : Job} {j : ℕ} {n : List ℕ} (o : Owned job (j - 1) n) (p : 0 <
   pub owned_skip : ((c : ℕ) → c < 12 → (section_of job j).kind ≡ c + 1 → ⊥) → Owned job (j + 1 - 1) n
   owned_skip ne =
       record {
-        long = o.long;
+        sized = o.sized;
         own = λ c k. filled_more (o.own c k) p (λ i. cell n i c)
             (rest (o.own c k) p h ∙ sym (own_not job (c + 1) j (ne c k))) (λ i ne. refl);
         small = small_more;
       }
 
   module _ (a : 0 < (section_of job j).kind) (b : (section_of job j).kind ≤ 12) where
-    abbrev place : ℕ
-    place = j * 12 + ((section_of job j).kind - 1)
+    abbrev column : ℕ
+    column = (section_of job j).kind - 1
 
-    abbrev stored : List ℕ
-    stored = set n place (section_of job j).fixtures
-
-    other : (i c : ℕ) → (i * 12 + c ≡ place → ⊥) → cell stored i c ≡ cell n i c
-    other i c ne = get_or-set_other n place (i * 12 + c) (section_of job j).fixtures 0 ne
-
-    same : get_or stored place 0 ≡ (section_of job j).fixtures
-    same = get_or-set_same n place (section_of job j).fixtures 0 (omega (arith, o.long))
+    abbrev stored : List (List ℕ)
+    stored = put o.sized j column (section_of job j).fixtures h
 
     here : (c : ℕ) → c < 12 → cell stored j c ≡ own_of job (c + 1) j
     here c k =
         ⊎_elim
-        (λ e. let x : j * 12 + c ≡ place = omega arith in
-        rw (own_at job (c + 1) j e, x) same)
-        (λ ne. other j c (λ x. ne (omega arith)) ∙ rest (o.own c k) p h ∙ sym (own_not job (c + 1) j ne))
+        (λ e. let x : c ≡ column = omega arith in
+        let l : column < 12 = omega arith in
+        rw (own_at job (c + 1) j e, x) (put_here o.sized j column (section_of job j).fixtures h l))
+        (λ ne. put_beside o.sized j column (section_of job j).fixtures h c (λ x. ne (omega arith)) ∙
+        rest (o.own c k) p h ∙ sym (own_not job (c + 1) j ne))
         (cases_eq (section_of job j).kind (c + 1))
 
     pub owned_set : Owned job (j + 1 - 1) stored
     owned_set =
         record {
-          long = length-set n _ _ ∙ o.long;
-          own = λ c k. filled_more (o.own c k) p (λ i. cell stored i c) (here c k) (λ i ne. other i c (apart i c k ne));
+          sized = put_sized o.sized j column (section_of job j).fixtures h;
+          own = λ c k. filled_more (o.own c k) p (λ i. cell stored i c) (here c k)
+              (λ i ne. ap (λ (row : List ℕ). get_or row c 0) (other_row o.sized j column (section_of job j).fixtures h i ne));
           small = small_more;
         }
-      where
-        apart : (i c : ℕ) → c < 12 → (i ≡ j → ⊥) → i * 12 + c ≡ place → ⊥
-        apart i c k ne e = ne (omega arith)

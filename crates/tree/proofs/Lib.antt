@@ -1,4 +1,5 @@
 pub mod Below
+pub mod Cells
 pub mod Parents
 pub mod Climb
 pub mod Filled

@@ -15,7 +15,7 @@ use Rattle.basis.proofs.Sum.{sum_le, sum_pow}
 use Rattle.fields.specs.declared.Job.{Job}
 use Rattle.fields.specs.Fields.{count_of, section_of}
 use Rattle.tree.specs.Tree.{own_of, served_of, set_of, Rooted}
-use Rattle.tree.specs.Rows.{cell, Singles, RowsFit, RowAdded, Owned, Counted}
+use Rattle.tree.specs.Rows.{cell, Sized, Singles, RowsFit, RowAdded, Owned, Counted}
 use Rattle.tree.proofs.Served.{up_of, part_below, served_top}
 use Rattle.tree.proofs.Taken.{Taken, taken_start, taken_fits, taken_more, taken_end}
 
@@ -25,8 +25,8 @@ pub record Joined (job : Job) (t : ℕ) (sets : List ℕ) : Type 0 where
   pub taken : Taken (count_of job) (up_of job) (λ j. 2 ^ j) t (λ i. get_or sets i 0)
 
 -- the counts once the sections above t are taken
-pub record Summed (job : Job) (t : ℕ) (n : List ℕ) : Type 0 where
-  pub long : length n ≡ 768
+pub record Summed (job : Job) (t : ℕ) (n : List (List ℕ)) : Type 0 where
+  pub sized : Sized n
   pub taken : (c : ℕ) → c < 12 → Taken (count_of job) (up_of job) (own_of job (c + 1)) t (λ i. cell n i c)
   pub small : (j : ℕ) → 0 < j → j ≤ count_of job → (section_of job j).fixtures < 65536
 
@@ -46,11 +46,11 @@ module _ {job : Job} (r : Rooted job) where
   unfolding set_of
   joined_end w e i h = taken_end w.taken e i h ∙ part_below r (λ j. 2 ^ j) i
 
-  pub summed_start : {n : List ℕ} {t : ℕ} → Owned job (count_of job) n → t ≡ count_of job → Summed job t n
+  pub summed_start : {n : List (List ℕ)} {t : ℕ} → Owned job (count_of job) n → t ≡ count_of job → Summed job t n
   summed_start o e =
-      record { long = o.long; taken = λ c k. rw e (taken_start (count_of job) (up_of job) (o.own c k)); small = o.small }
+      record { sized = o.sized; taken = λ c k. rw e (taken_start (count_of job) (up_of job) (o.own c k)); small = o.small }
 
-  pub summed_end : {n : List ℕ} {t : ℕ} → Summed job t n → t ≡ 0 → Counted job n
+  pub summed_end : {n : List (List ℕ)} {t : ℕ} → Summed job t n → t ≡ 0 → Counted job n
   unfolding served_of
   summed_end {n} w e =
       let at : (i c : ℕ) → i < 64 → c < 12 → cell n i c ≡ served_of job i (c + 1) =
@@ -78,11 +78,11 @@ module _ {job : Job} (r : Rooted job) where
               (λ i h. added sets (up_of job t) (get_or sets t 0) i (omega (arith, r.lower t p q, r.few, w.long)));
         })
 
-    pub summed_fits : {n : List ℕ} → Summed job t n → RowsFit n t u
+    pub summed_fits : {n : List (List ℕ)} → Summed job t n → RowsFit n t u
     summed_fits {n} w =
         rw e
         (record {
-          long = w.long;
+          sized = w.sized;
           down = r.lower t p q;
           within = omega (arith, r.few);
           fits = λ c k.
@@ -91,10 +91,10 @@ module _ {job : Job} (r : Rooted job) where
               omega (arith, total, r.few, taken_fits (count_of job) (up_of job) (own_of job (c + 1)) r.lower t p q r.few (w.taken c k));
         })
 
-    pub summed_more : {n n' : List ℕ} → Summed job t n → RowAdded n n' t u → Summed job (t - 1) n'
+    pub summed_more : {n n' : List (List ℕ)} → Summed job t n → RowAdded n n' t u → Summed job (t - 1) n'
     summed_more w a =
         record {
-          long = a.long;
+          sized = a.sized;
           taken = λ c k. taken_more (count_of job) (up_of job) (own_of job (c + 1)) r.lower t p q r.few (w.taken c k)
               (λ i h. rw e at (a.at i c k));
           small = w.small;

@@ -2,7 +2,7 @@
 // The tables have 64 places, or 64 rows of twelve, whatever the job's number of sections: there is no heap.
 #![tactic(auto)]
 
-ghost use Rattle.std.specs.Prelude.{◌≡◌, ℕ, ◌+◌, ◌*◌, ◌≤◌, ◌<◌, get_or};
+ghost use Rattle.std.specs.Prelude.{◌≡◌, ℕ, ◌+◌, ◌≤◌, ◌<◌, get_or};
 ghost use Rattle.basis.specs.Slots.{slots};
 ghost use Rattle.fields.specs.Fields.{count_of};
 ghost use Rattle.tree.specs.Tree.{parent_of, set_of, fixtures_below, Rooted};
@@ -37,12 +37,12 @@ fn singles(count: usize) -> [u64; 64]
 }
 
 // Adds the twelve counts of one section to those of another.
-fn add_row(n: &mut [u32; 768], from: usize, to: usize)
+fn add_row(n: &mut [[u32; 12]; 64], from: usize, to: usize)
     requires { RowsFit n.old «from» to }
     ensures { RowAdded n.old n.new «from» to }
 {
     for k in 0..12 {
-        n[to * 12 + k] += n[from * 12 + k];
+        n[to][k] += n[from][k];
     }
 }
 
@@ -83,20 +83,20 @@ impl Tree<'_> {
     }
 
     // Each section's own fixtures, over zeros.
-    fn fill(&self, n: &mut [u32; 768])
+    fn fill(&self, n: &mut [[u32; 12]; 64])
         requires { Zeros n.old }
         ensures { Owned self.now.job.now (count_of self.now.job.now) n.new }
     {
         for j in 1..=self.job.count() {
             let Section { kind, fixtures, .. } = self.job.sections[j];
             if (1..=12).contains(&kind) {
-                n[j * 12 + (usize::from(kind) - 1)] = u32::from(fixtures);
+                n[j][usize::from(kind) - 1] = u32::from(fixtures);
             }
         }
     }
 
     // Adds each section's counts to its parent's, from the leaves up.
-    fn gather(&self, n: &mut [u32; 768])
+    fn gather(&self, n: &mut [[u32; 12]; 64])
         requires { Owned self.now.job.now (count_of self.now.job.now) n.old }
         ensures { Counted self.now.job.now n.new }
     {
@@ -105,14 +105,12 @@ impl Tree<'_> {
         }
     }
 
-    /// The fixtures of each kind at a section's end or at any end below it: kind c + 1 of section i at place i * 12 + c. Row 0 is the house.
-    // One list and no array of rows: indices would be plainer, but the laws behind `fill` and `gather` are over lists, and would have to carry the
-    // length of each of 64 rows beside the number of rows.
-    #[tactic(auto, using(crate::proofs::Filled::zeros))]
-    pub fn counts(&self) -> [u32; 768]
+    /// The fixtures of each kind at a section's end or at any end below it: kind c + 1 of section i in column c of row i. Row 0 is the house.
+    #[tactic(auto, using(crate::proofs::Cells::zeros))]
+    pub fn counts(&self) -> [[u32; 12]; 64]
         ensures { Counted self.now.job.now result }
     {
-        let mut n = [0u32; 768];
+        let mut n = [[0u32; 12]; 64];
         self.fill(&mut n);
         self.gather(&mut n);
         n
