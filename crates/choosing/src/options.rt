@@ -58,13 +58,8 @@ pub fn put_options(
         (sizes_of catalogue.now.bytes.now) costs.new }
 {
     let flows = accepted.flows();
-    let job = &accepted.job;
-    for i in 1..=job.count() {
-        let pipe = Pipe {
-            limit: job.header.limit,
-            decimetres: job.sections[i].decimetres,
-            tenths: job.header.tenths,
-        };
+    for i in 1..=accepted.job.count() {
+        let pipe = Pipe::of(accepted, i);
         put_row(pipe, catalogue, i, flows[i], losses, costs);
     }
 }

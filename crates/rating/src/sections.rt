@@ -31,14 +31,9 @@ pub fn rate_sections(
         × RatedAt accepted.now.job catalogue.now.bytes.now list.now figures) }
 {
     let flows = accepted.flows();
-    let job = &accepted.job;
     let mut figures = [Figure::default(); 64];
-    for i in 1..=job.count() {
-        let pipe = Pipe {
-            limit: job.header.limit,
-            decimetres: job.sections[i].decimetres,
-            tenths: job.header.tenths,
-        };
+    for i in 1..=accepted.job.count() {
+        let pipe = Pipe::of(accepted, i);
         let tried = try_size(catalogue, usize::from(list[i - 1]), flows[i], pipe)?;
         figures[i] = Figure {
             flow: flows[i],
