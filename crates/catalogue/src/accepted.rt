@@ -87,6 +87,26 @@ pub struct Catalogue<'a> {
     pub ghost fit: { Bytes bytes.now },
 }
 
+impl Catalogue<'_> {
+    ghost use Rattle.catalogue.specs.Layout.{sizes_of, price_of};
+
+    /// The number of sizes.
+    #[tactic(auto, using(crate::proofs::ShapeBounds::shape_in))]
+    pub fn sizes(&self) -> u8
+        ensures { result ≡ sizes_of self.now.bytes.now }
+    {
+        sizes_of(self.bytes)
+    }
+
+    /// The price of size s per metre.
+    pub fn price(&self, s: usize) -> u16
+        requires { (0 < s) × (s ≤ sizes_of self.now.bytes.now) }
+        ensures { result ≡ price_of self.now.bytes.now s }
+    {
+        price(self.bytes, s)
+    }
+}
+
 /// Any bytes are an accepted catalogue or get 10 or 11.
 #[tactic(auto, unfolding(crate::specs::Rules::cat_no, crate::specs::Rules::cat_checks, answer::specs::Checks::first_no))]
 pub fn accept(bytes: &[u8]) -> Result<Catalogue<'_>, Refusal>

@@ -24,7 +24,7 @@ fn tables_of(accepted: &AcceptedJob, catalogue: &Catalogue) -> Tables
     put_options(accepted, catalogue, &mut losses, &mut costs);
     Tables {
         sections: job.count(),
-        sizes: usize::from(catalogue::sizes_of(catalogue.bytes)),
+        sizes: usize::from(catalogue.sizes()),
         parents: tree::parents_of(*job),
         needs: needs_of(accepted),
         losses,

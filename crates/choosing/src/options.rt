@@ -21,7 +21,7 @@ fn entry(tried: Option<Tried>) -> u32
 }
 
 // Row i of both tables, of the pipe there with each size at its flow. No heap: the tables have room for 63 sections of 12 sizes, each at its number.
-#[tactic(auto, using(catalogue::proofs::AcceptedCat::cat_counts, catalogue::proofs::AcceptedCat::cat_sized, catalogue::proofs::ShapeBounds::shape_in))]
+#[tactic(auto, using(catalogue::proofs::AcceptedCat::cat_counts))]
 fn put_row(
     pipe: Pipe,
     catalogue: &Catalogue,
@@ -36,11 +36,10 @@ fn put_row(
     ensures costs { Entered (λ s. price_of catalogue.now.bytes.now s * pipe.decimetres) i (sizes_of catalogue.now.bytes.now)
         costs.old costs.new }
 {
-    for s in 1..=usize::from(catalogue::sizes_of(catalogue.bytes)) {
+    for s in 1..=usize::from(catalogue.sizes()) {
         let tried = sizing::try_size(catalogue, s, flow, pipe);
         losses[i * 13 + s] = entry(tried);
-        costs[i * 13 + s] = u32::from(catalogue::price(catalogue.bytes, s))
-            * u32::from(pipe.decimetres);
+        costs[i * 13 + s] = u32::from(catalogue.price(s)) * u32::from(pipe.decimetres);
     }
 }
 
@@ -58,13 +57,8 @@ pub fn put_options(
         (sizes_of catalogue.now.bytes.now) costs.new }
 {
     let flows = accepted.flows();
-    let job = &accepted.job;
-    for i in 1..=job.count() {
-        let pipe = Pipe {
-            limit: job.header.limit,
-            decimetres: job.sections[i].decimetres,
-            tenths: job.header.tenths,
-        };
+    for i in 1..=accepted.job.count() {
+        let pipe = Pipe::of(accepted, i);
         put_row(pipe, catalogue, i, flows[i], losses, costs);
     }
 }

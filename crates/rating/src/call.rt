@@ -46,7 +46,7 @@ impl Rating {
 }
 
 /// What the sections come to, where a result buffer of `room` bytes has room for them in this layout.
-#[tactic(auto, using(answer::proofs::Some::number_at_exit, catalogue::proofs::ShapeBounds::shape_in, crate::proofs::Ordering::sized_exit, crate::proofs::Ordering::sized_list, crate::proofs::Ordering::sized_short, crate::proofs::Ordering::sized_over, crate::proofs::Ordering::sized_done))]
+#[tactic(auto, using(answer::proofs::Some::number_at_exit, crate::proofs::Ordering::sized_exit, crate::proofs::Ordering::sized_list, crate::proofs::Ordering::sized_short, crate::proofs::Ordering::sized_over, crate::proofs::Ordering::sized_done))]
 pub fn outcome(
     b: &[u8],
     cat: &[u8],
@@ -61,7 +61,7 @@ pub fn outcome(
         o.accepted.job o.figures) }
 {
     let (accepted, catalogue) = accept_both(b, cat)?;
-    if !list_ok(&accepted.job, catalogue.bytes, list) {
+    if !list_ok(&accepted.job, &catalogue, list) {
         return Err(Refusal::SizeList);
     }
     let count = accepted.job.count();

@@ -1,5 +1,5 @@
 // Flow, velocity and loss of each section.
-ghost use Rattle.std.specs.Prelude.{◌≡◌, true, false, ◌≤◌, length, MatchOption};
+ghost use Rattle.std.specs.Prelude.{◌≡◌, true, false, MatchOption};
 ghost use Rattle.sizing.specs.Losses.{list_ok, over_any};
 ghost use Rattle.rating.specs.Steps.{RatedAt};
 
@@ -10,11 +10,10 @@ use rated_bytes::Figure;
 use sizing::{Pipe, try_size};
 
 /// 12: the list is S long and names sizes.
-pub fn list_ok(job: &Job, cat: &[u8], list: &[u8]) -> bool
-    requires { 7 ≤ length cat.now }
-    ensures { result ≡ list_ok job.now cat.now list.now }
+pub fn list_ok(job: &Job, catalogue: &Catalogue, list: &[u8]) -> bool
+    ensures { result ≡ list_ok job.now catalogue.now.bytes.now list.now }
 {
-    let sizes = catalogue::sizes_of(cat);
+    let sizes = catalogue.sizes();
     list.len() == job.count() && list.iter().all(|size| (1..=sizes).contains(size))
 }
 
@@ -31,14 +30,9 @@ pub fn rate_sections(
         × RatedAt accepted.now.job catalogue.now.bytes.now list.now figures) }
 {
     let flows = accepted.flows();
-    let job = &accepted.job;
     let mut figures = [Figure::default(); 64];
-    for i in 1..=job.count() {
-        let pipe = Pipe {
-            limit: job.header.limit,
-            decimetres: job.sections[i].decimetres,
-            tenths: job.header.tenths,
-        };
+    for i in 1..=accepted.job.count() {
+        let pipe = Pipe::of(accepted, i);
         let tried = try_size(catalogue, usize::from(list[i - 1]), flows[i], pipe)?;
         figures[i] = Figure {
             flow: flows[i],

@@ -8,6 +8,7 @@ ghost use Rattle.sizing.specs.Losses.{loss_of};
 ghost use Rattle.sizing.specs.Steps.{tried_of};
 
 use catalogue::Catalogue;
+use demand::AcceptedJob;
 
 /// Velocity in mm/s and loss in cm.
 #[derive(Clone, Copy)]
@@ -24,6 +25,26 @@ pub struct Pipe {
     pub tenths: u8,
     pub ghost short: { decimetres ≤ 5000 },
     pub ghost few: { tenths ≤ 3 },
+}
+
+impl Pipe {
+    ghost use Rattle.fields.specs.Fields.{count_of, section_of};
+
+    /// The pipe of section i.
+    #[tactic(auto, using(demand::proofs::Validity::valid_count))]
+    pub fn of(accepted: &AcceptedJob, i: usize) -> Pipe
+        requires { (0 < i) × (i ≤ count_of accepted.now.job) }
+        ensures limit { result.limit ≡ accepted.now.job.header.limit }
+        ensures decimetres { result.decimetres ≡ (section_of accepted.now.job i).decimetres }
+        ensures tenths { result.tenths ≡ accepted.now.job.header.tenths }
+    {
+        let job = &accepted.job;
+        Pipe {
+            limit: job.header.limit,
+            decimetres: job.sections[i].decimetres,
+            tenths: job.header.tenths,
+        }
+    }
 }
 
 // slope × length × (10 + k) / 1,000, up.

@@ -1,21 +1,13 @@
 -- Each turn writes one section's rows.
 -- Assumes nothing.
 use Rattle.std.proofs.Common.{arith}
-use Rattle.rules.proofs.HeaderBounds.{header_in}
-use Rattle.rules.proofs.Kept.{sections_in}
-use Rattle.demand.proofs.Validity.{valid_count, valid_sections}
+use Rattle.demand.proofs.Validity.{valid_count}
 use Rattle.catalogue.proofs.AcceptedCat.{cat_counts}
 use Rattle.choosing.specs.Suitable.{price_at}
 use Rattle.choosing.specs.Steps.{loss_entry}
 use Rattle.choosing.proofs.Entries.{flow_held}
 use Rattle.choosing.proofs.Placed.{tabled_more, tabled_last}
 use Rattle.choosing.proofs.options.put_options.Goals as goal
-
-pub invariant_of-pipe : goal.invariant_of-pipe
-invariant_of-pipe c =
-    let valid = c.args.accepted.now.accepted.valid in
-    let section = sections_in c.args.accepted.now.job (valid_sections valid) c.loop-i.i (omega arith) (omega arith) in
-    record { short = section.decimetres.high; few = (header_in c.args.accepted.now.job.header valid.header).tenths.high }
 
 pub loop-i-preserved : goal.loop-i-preserved
 unfolding loss_entry price_at
@@ -24,8 +16,8 @@ loop-i-preserved c =
     let flow = flow_held c.args.accepted.now.job _ c.loop-i.i c.flows-flows.ensures (valid_count c.args.accepted.now.accepted.valid).high (omega arith) (omega arith) in
     record {
       within = omega arith;
-      losses = tabled_more _ _ _ _ _ (omega (arith, thin)) (omega arith) c.loop-i.invariant.losses (rw flow at c.put_row.ensures.losses);
-      costs = tabled_more _ _ _ _ _ (omega (arith, thin)) (omega arith) c.loop-i.invariant.costs c.put_row.ensures.costs;
+      losses = tabled_more _ _ _ _ _ (omega (arith, thin)) (omega arith) c.loop-i.invariant.losses (rw (flow, c.of-pipe.ensures.limit, c.of-pipe.ensures.decimetres, c.of-pipe.ensures.tenths) at c.put_row.ensures.losses);
+      costs = tabled_more _ _ _ _ _ (omega (arith, thin)) (omega arith) c.loop-i.invariant.costs (rw c.of-pipe.ensures.decimetres at c.put_row.ensures.costs);
     }
 
 pub returns-2-clause-losses : goal.returns-2-clause-losses
@@ -33,10 +25,10 @@ unfolding loss_entry
 returns-2-clause-losses c =
     let thin = (cat_counts c.args.catalogue.now.accepted).0.high in
     let flow = flow_held c.args.accepted.now.job _ c.loop-i.i c.flows-flows.ensures (valid_count c.args.accepted.now.accepted.valid).high (omega arith) (omega arith) in
-    tabled_last _ _ _ _ _ _ (omega arith) (omega (arith, thin)) (omega arith) c.loop-i.invariant.losses (rw flow at c.put_row.ensures.losses)
+    tabled_last _ _ _ _ _ _ (omega arith) (omega (arith, thin)) (omega arith) c.loop-i.invariant.losses (rw (flow, c.of-pipe.ensures.limit, c.of-pipe.ensures.decimetres, c.of-pipe.ensures.tenths) at c.put_row.ensures.losses)
 
 pub returns-2-clause-costs : goal.returns-2-clause-costs
 unfolding price_at
 returns-2-clause-costs c =
     let thin = (cat_counts c.args.catalogue.now.accepted).0.high in
-    tabled_last _ _ _ _ _ _ (omega arith) (omega (arith, thin)) (omega arith) c.loop-i.invariant.costs c.put_row.ensures.costs
+    tabled_last _ _ _ _ _ _ (omega arith) (omega (arith, thin)) (omega arith) c.loop-i.invariant.costs (rw c.of-pipe.ensures.decimetres at c.put_row.ensures.costs)

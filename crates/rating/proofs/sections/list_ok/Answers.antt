@@ -13,12 +13,12 @@ use Rattle.rating.proofs.sections.list_ok.Goals as goal
 
 pub returns-then-list-count : goal.returns-then-list-count
 returns-then-list-count c =
-    let test = within 1 (sizes_of c.args.cat.now) in
+    let test = within 1 (sizes_of c.args.catalogue.now.bytes.now) in
     let each : c.all.result ≡ list_all test c.args.list.now =
     all_from_yields_List test _ _ _ c.all.ensures.ran (YieldsList-from_slice c.args.list.now cc) (λ x b q k. search (rules, tests)) in
     let long : length c.args.list.now ≡ count_of c.args.job.now = omega arith in
-    each ∙ all_listed test c.args.list.now ∙ rw long (sym (named.list_all c.args.job.now c.args.cat.now c.args.list.now long))
+    each ∙ all_listed test c.args.list.now ∙ rw long (sym (named.list_all c.args.job.now c.args.catalogue.now.bytes.now c.args.list.now long))
 
 pub returns-else-list-count : goal.returns-else-list-count
 returns-else-list-count c =
-    rw (named.other_length c.args.job.now c.args.cat.now c.args.list.now (λ e. omega arith)) (search (rules, tests))
+    rw (named.other_length c.args.job.now c.args.catalogue.now.bytes.now c.args.list.now (λ e. omega arith)) (search (rules, tests))

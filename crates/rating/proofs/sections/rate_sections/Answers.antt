@@ -1,9 +1,7 @@
 -- Each section with its size: the first that is over ends the loop, and the figures of the others stand at their places.
 -- Assumes nothing.
 use Rattle.std.proofs.Common.{get_or, arith}
-use Rattle.rules.proofs.HeaderBounds.{header_in}
-use Rattle.rules.proofs.Kept.{sections_in}
-use Rattle.demand.proofs.Validity.{valid_count, valid_sections}
+use Rattle.demand.proofs.Validity.{valid_count}
 use Rattle.sizing.proofs.Named.{list_long, list_names}
 use Rattle.rating.proofs.Upto.{Figures, flow_in, none_tried, some_tried, upto_start, upto_more, upto_over, upto_end}
 use Rattle.rating.proofs.sections.rate_sections.Goals as goal
@@ -18,14 +16,6 @@ loop-i-init c =
       upto = upto_start _ _ _ _ c.default-figures.ensures;
     }
 
-pub invariant_of-pipe : goal.invariant_of-pipe
-invariant_of-pipe c =
-    let valid = c.args.accepted.now.accepted.valid in
-    record {
-      short = (sections_in c.args.accepted.now.job (valid_sections valid) c.loop-i.i (omega arith) (omega arith)).decimetres.high;
-      few = (header_in c.args.accepted.now.job.header valid.header).tenths.high;
-    }
-
 pub try_size-requires : goal.try_size-requires
 try_size-requires c =
     let s = list_names c.args.accepted.now.job c.args.catalogue.now.bytes.now c.args.list.now c.requires c.loop-i.i (omega arith) (omega arith) in
@@ -34,7 +24,7 @@ try_size-requires c =
 pub returns-in_err-tried : goal.returns-in_err-tried
 returns-in_err-tried c =
     let flow = flow_in c.args.accepted.now.job c.args.catalogue.now.bytes.now c.args.list.now c.loop-i.i c.flows-flows.ensures (omega arith) (omega arith) (omega arith) in
-    let over = none_tried c.args.accepted.now.job c.args.catalogue.now.bytes.now c.args.list.now c.loop-i.i (omega arith) flow c.in_err-tried.ensures.is in
+    let over = none_tried c.args.accepted.now.job c.args.catalogue.now.bytes.now c.args.list.now c.loop-i.i (omega arith) flow (rw (c.of-pipe.ensures.limit, c.of-pipe.ensures.decimetres, c.of-pipe.ensures.tenths) at c.in_err-tried.ensures.is) in
     rw c.from_residual.ensures (upto_over _ _ _ c.loop-i.invariant.upto (omega arith) (omega arith) (omega arith) over)
 
 -- a section that is not over
@@ -43,7 +33,7 @@ figures : (c : In_ok-tried) →
     (record { flow = get_or c.flows-flows.result c.loop-i.i 0; velocity = c.in_ok-tried.tried.velocity; loss = c.in_ok-tried.tried.loss })
 figures c =
     let flow = flow_in c.args.accepted.now.job c.args.catalogue.now.bytes.now c.args.list.now c.loop-i.i c.flows-flows.ensures (omega arith) (omega arith) (omega arith) in
-    some_tried c.args.accepted.now.job c.args.catalogue.now.bytes.now c.args.list.now c.loop-i.i (omega arith) flow c.in_ok-tried.ensures.is c.in_ok-tried.ensures.small
+    some_tried c.args.accepted.now.job c.args.catalogue.now.bytes.now c.args.list.now c.loop-i.i (omega arith) flow (rw (c.of-pipe.ensures.limit, c.of-pipe.ensures.decimetres, c.of-pipe.ensures.tenths) at c.in_ok-tried.ensures.is) c.in_ok-tried.ensures.small
 
 pub loop-i-preserved : goal.loop-i-preserved
 loop-i-preserved c =
