@@ -69,7 +69,7 @@ fn size_ok(cat: &[u8], s: usize) -> bool
         && rows_ok(rows_at(cat, s))
 }
 
-// 11: every size.
+// 11: every size. (std's lemmas have chains over `a..b`, and none over `a..=b`.)
 #[tactic(auto, using(crate::proofs::ShapeBounds::shape_in))]
 fn sizes_ok(cat: &[u8]) -> bool
     requires { shape_ok cat.now ≡ true }

@@ -46,8 +46,8 @@ fn part_of(job: &Job, kind: usize, n: u64, house: u64) -> Sums
     }
 }
 
-/// The sums of row i of the counts: section i's, or the house's where i is 0. The loops here, in `hour_sums` and in `day_of` stay three: one
-/// over a closure would ask each caller again for the bounds against overflow, which differ.
+/// The sums of row i of the counts: section i's, or the house's where i is 0. A loop here and in `hour_sums`, as
+/// `sum` adds up one figure, and here are three and two.
 pub fn sums_of(tree: &Tree, counts: &[[u32; 12]; 64], i: usize) -> Sums
     requires { Counted tree.now.job.now counts.now × (i < 64) }
     ensures { (result.m ≡ m_of tree.now.job.now (served_of tree.now.job.now i))

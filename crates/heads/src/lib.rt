@@ -80,6 +80,7 @@ impl JobWithLosses<'_> {
             reach: self.reach_at(1),
             section: 1,
         };
+        // By hand: of equal reaches the first counts, which the clause of `max_by_key` does not say.
         for section in 2..=self.job.header.sections {
             let reach = self.reach_at(section);
             if best.reach < reach {

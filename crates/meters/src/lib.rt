@@ -101,6 +101,7 @@ impl Draw {
     {
         let (meters, _) = list.as_chunks::<5>();
         let mut best = None;
+        // By hand: of equally small losses the first wins, which the clause of `min_by_key` does not say.
         for (i, bytes) in meters.iter().enumerate() {
             best = self.better(best, i + 1, Meter::from(bytes));
         }

@@ -76,7 +76,7 @@ fn section_ok(i: usize, s: Section) -> bool
         && s.free <= 1000
 }
 
-// 5: every section keeps its own fields' rules.
+// 5: every section keeps its own fields' rules. (std's lemmas have chains over `a..b`, and none over `a..=b`.)
 fn sections_ok(job: &Job) -> bool
     requires { count_of job.now ≤ 63 }
     ensures { result ≡ sections_ok job.now }
