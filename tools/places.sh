@@ -16,7 +16,7 @@ count() {
 count 1 'a flag, or an answer, with values beside it' '^\s*(pub )?(answer|ok|found|some|over|serves): (bool|Answer),'
 count 1 'an own enum for results and refusals' 'pub enum Answer|-> Answer\b'
 count 1 'a test of the number of an answer' '(number\((a|answer)\)|if number) != 0'
-count 1 'a number that stands for none' '(TOP|MARK) as usize|_ => 16|(place|size): usize = 0|(place|size) == 0'
+count 1 'a number that stands for none' '(TOP|MARK) as usize|from\(MARK\)|_ => 16|(place|size): usize = 0|(place|size) == 0'
 count 1 'a number for a kind, a service, a version or a form' '\b(kind|service|form|version): (u8|usize)'
 count 2 'a function for each width' 'fn [a-z_]*(8|16|32|64)\('
 count 2 'a function or a type that stands twice but for a name' 'fn (read_full|hour_part|part_of|hour_sums|sums_of|put_house|put_section|put_head|put_refused|one|two|four)[<(]|struct (Hour)?(Part|Sums) '
