@@ -3,7 +3,7 @@ ghost use Rattle.std.specs.Prelude.{◌≡◌, ◌+◌, ◌*◌, ◌≤◌, leng
 ghost use Rattle.nets.specs.Tables.{top};
 ghost use Rattle.cells.specs.Cells.{cell_at, Written};
 
-/// Cell k.
+/// Cell k. (One call of std, which the clause ties to `cell_at`.)
 #[tactic(auto, using(crate::proofs::Workspace::cell_read))]
 pub fn get(ws: &[u8], k: usize) -> u32
     requires { 4 * k + 4 ≤ length ws.now }

@@ -38,6 +38,7 @@ fn put_row(
 {
     for s in 1..=usize::from(catalogue.sizes()) {
         let tried = sizing::try_size(catalogue, s, flow, pipe);
+        // By hand: a method that writes would have to say of each other place that it stays.
         losses[i * 13 + s] = entry(tried);
         costs[i * 13 + s] = u32::from(catalogue.price(s)) * u32::from(pipe.decimetres);
     }

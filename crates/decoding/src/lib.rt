@@ -51,7 +51,7 @@ fn residents_of(b: &[u8]) -> [u16; 12]
     array::from_fn(|c| u16::at(b, 16 + 2 * c))
 }
 
-// The section whose ten bytes begin at a place.
+// The section whose ten bytes begin at a place. No `From` of ten bytes: the definition is of the whole record and the place.
 #[tactic(auto, unfolding(record::specs::Record::section_from))]
 fn section_from(b: &[u8], at: usize) -> Section
     requires { at + 10 ≤ length b.now }

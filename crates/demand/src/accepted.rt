@@ -40,6 +40,7 @@ impl AcceptedJob {
         let tree = Tree { job: &self.job };
         let served = tree.counts();
         let mut flows = [0; 64];
+        // A loop, as `from_fn` would have to test at each of the 64 places whether a section has it.
         for i in 1..=self.job.count() {
             flows[i] = flow(sums_of(&tree, &served, i));
         }

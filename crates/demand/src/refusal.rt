@@ -31,6 +31,7 @@ fn section_needs_table_one(tree: &Tree, served: &[[u32; 12]; 64], sets: &[u64; 6
     ensures { result ≡ any_to (count_of tree.now.job.now)
         (λ i. needs_table_one (m_of tree.now.job.now (served_of tree.now.job.now i)) (fixtures_below tree.now.job.now i)) }
 {
+    // std's lemmas have chains over `a..b`, and none over `a..=b`.
     (1..tree.job.count() + 1).any(|i| {
         let sums = sums_of(tree, served, i);
         let fixtures = tree.fixtures_below(sets[i], i);
@@ -38,7 +39,7 @@ fn section_needs_table_one(tree: &Tree, served: &[[u32; 12]; 64], sets: &[u64; 6
     })
 }
 
-/// 8 and 9, of a job that 3 and 5 to 7 let pass.
+/// 8 and 9, of a job that 3 and 5 to 7 let pass. (`Valid` is a clause and no type: no other function asks for it.)
 #[tactic(auto, using(crate::proofs::Validity::valid_rooted))]
 pub fn demand_refusal(job: Job) -> Result<(), Refusal>
     requires { Valid job }

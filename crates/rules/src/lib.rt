@@ -99,6 +99,7 @@ fn childless_zero(tree: &Tree) -> bool
 {
     let job = tree.job;
     let below = tree.sets();
+    // std's lemmas have chains over `a..b`, and none over `a..=b`.
     (1..job.count() + 1).any(|i| bare_end(job.sections[i], below[i], i))
 }
 

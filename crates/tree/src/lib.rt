@@ -17,6 +17,7 @@ pub fn parents_of(job: Job) -> [u8; 64]
     ensures { result ≡ slots 64 1 (count_of job + 1) 0 (parent_of job) }
 {
     let mut parents = [0u8; 64];
+    // A loop, as `from_fn` would have to test at each of the 64 places whether a section has it.
     for i in 1..=job.count() {
         parents[i] = job.sections[i].parent;
     }
@@ -30,6 +31,7 @@ fn singles(count: usize) -> [u64; 64]
     ensures { Singles count result }
 {
     let mut sets = [0u64; 64];
+    // A loop, as `from_fn` would have to test at each of the 64 places whether a section has it.
     for j in 1..=count {
         sets[j] = 1 << j;
     }
