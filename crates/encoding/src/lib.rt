@@ -64,13 +64,23 @@ fn put_sections(out: &mut [u8], version: u8, sections: &[Section])
     }
 }
 
+// The bytes of b from a place on. (Byte by byte: with std's copy between two slices that the caller lends, the archive would ask for memmove, which a C program may not have.)
+fn put_lent(out: &mut [u8], at: usize, b: &[u8])
+    requires { at + length b.now ≤ length out.old }
+    ensures { out.new ≡ stored out.old at b.now }
+{
+    for k in 0..b.len() {
+        out[at + k] = b[k];
+    }
+}
+
 /// The record b from a place on, with n in the two bytes of one field.
 #[tactic(auto, using(basis::proofs::Stored::stored_inside, wire::proofs::Fields::bytes_length))]
 pub fn put_edited(out: &mut [u8], at: usize, b: &[u8], field: usize, n: u16)
     requires { (at + length b.now ≤ length out.old) × (field + 2 ≤ length b.now) }
     ensures { out.new ≡ stored out.old at (edited 2 b.now field n) }
 {
-    wire::put(out, at, b);
+    put_lent(out, at, b);
     n.put_at(out, at + field);
 }
 
