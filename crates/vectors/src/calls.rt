@@ -127,10 +127,12 @@ fn workspace(fill: u8) -> [u8; 1792256] {
 fn choose(to: &mut Output, input: &Input<'_>, shown: usize, out: &mut [u8]) -> io::Result<()>
     requires { shown ≤ length out.old }
 {
-    let mut whole = workspace(input.fill);
-    let Some(work) = whole.get_mut(..input.length) else {
+    // Before the workspace is filled, which takes longer than all else that a line asks for.
+    if 1792256 < input.length {
         return Ok(());
-    };
+    }
+    let mut whole = workspace(input.fill);
+    let work = &mut whole[..input.length];
     let answer = choosing::choose(input.job, input.second, work, out);
     to.given(answer, &out[..shown])?;
     match answer {

@@ -54,7 +54,7 @@ fn written(to: &mut Output, job: Job, out: &mut [u8]) -> io::Result<()> {
 fn fields(to: &mut Output, job: &Job) -> io::Result<()> {
     head(to, &job.header)?;
     for n in &job.residents {
-        write!(to, "{n:04x}")?;
+        to.hex(&n.to_be_bytes())?;
     }
     let count = job.count();
     for s in job.sections.iter().skip(1).take(count) {
@@ -64,16 +64,17 @@ fn fields(to: &mut Output, job: &Job) -> io::Result<()> {
 }
 
 fn head(to: &mut Output, h: &Header) -> io::Result<()> {
-    write!(to, "{:02x}{:02x}", h.version, h.service)?;
-    write!(to, "{:02x}{:02x}{:02x}", h.tenths, h.sections, h.hours)?;
-    write!(
-        to,
-        "{:04x}{:04x}{:04x}{:04x}",
-        h.meter, h.guaranteed, h.delivered, h.limit
-    )
+    to.hex(&[h.version, h.service, h.tenths, h.sections, h.hours])?;
+    for n in [h.meter, h.guaranteed, h.delivered, h.limit] {
+        to.hex(&n.to_be_bytes())?;
+    }
+    Ok(())
 }
 
 fn section(to: &mut Output, s: &Section) -> io::Result<()> {
-    write!(to, "{:02x}{:02x}{:04x}", s.parent, s.kind, s.fixtures)?;
-    write!(to, "{:04x}{:04x}{:04x}", s.decimetres, s.elevation, s.free)
+    to.hex(&[s.parent, s.kind])?;
+    to.hex(&s.fixtures.to_be_bytes())?;
+    to.hex(&s.decimetres.to_be_bytes())?;
+    to.hex(&s.elevation.to_be_bytes())?;
+    to.hex(&s.free.to_be_bytes())
 }

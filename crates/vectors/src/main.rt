@@ -3,6 +3,8 @@
 // stands in the lines.
 #![tactic(auto)]
 
+ghost use Rattle.std.specs.Prelude.{◌≤◌, length};
+
 mod calls;
 mod jobs;
 mod print;
@@ -13,18 +15,18 @@ use std::io;
 use std::io::{Read, Write};
 use vector_lines::Line;
 
-// At most 256 MiB are read, up to the first read that fails.
+// Nothing says that the input ends, so the chunks are counted: at most 256 MiB are read.
 fn main(rt: HostRuntime) {
     let mut to = Output::new(rt.stdout());
-    let _ = answer_all(&mut rt.stdin().take(1 << 28), &mut to);
+    let _ = answer_all(&mut rt.stdin(), &mut to);
 }
 
-// Each read gives a byte at least, so there are no more reads than bytes.
+// A chunk is full before its lines are answered, or its input has ended: who writes a whole chunk may read the answers after it.
 fn answer_all(input: &mut impl Read, to: &mut Output) -> io::Result<()> {
     let mut line = Line::new();
     let mut chunk = [0u8; 65536];
-    for _ in 0..1 << 28 {
-        let n = input.read(&mut chunk).unwrap_or(0);
+    for _ in 0..4096 {
+        let n = read_full(input, &mut chunk);
         if n == 0 {
             break;
         }
@@ -33,4 +35,19 @@ fn answer_all(input: &mut impl Read, to: &mut Output) -> io::Result<()> {
         }
     }
     to.flush()
+}
+
+// Reads until the buffer is full, the input ends or a read fails; how many bytes came. The input may come in pieces.
+fn read_full(input: &mut impl Read, buffer: &mut [u8]) -> usize
+    ensures { result ≤ length buffer.new }
+{
+    let mut done = 0;
+    for _ in 0..buffer.len() {
+        let n = input.read(&mut buffer[done..]).unwrap_or(0);
+        if n == 0 {
+            break;
+        }
+        done += n;
+    }
+    done
 }

@@ -1,4 +1,6 @@
 // The output: bytes in hex, put together in a buffer and written from there.
+ghost use Rattle.std.specs.Prelude.{◌≡◌, [], ◌<◌, length};
+
 use answer::Refusal;
 use arrayvec::ArrayVec;
 use std::io;
@@ -13,16 +15,14 @@ pub struct Output {
 
 impl Write for Output {
     fn write(&mut self, bytes: &[u8]) -> io::Result<usize> {
-        if self.held.is_full() {
-            self.flush()?;
+        for b in bytes {
+            self.byte(*b);
         }
-        self.held.write(bytes)
+        Ok(bytes.len())
     }
 
-    // What cannot be written is let go.
     fn flush(&mut self) -> io::Result<()> {
-        let _ = self.stdout.write_all(&self.held);
-        self.held.clear();
+        self.write_held();
         Ok(())
     }
 }
@@ -35,17 +35,49 @@ impl Output {
         }
     }
 
-    // Byte by byte: the kit's `hex` wants room for all digits at once.
+    // Writes what is held. What cannot be written is let go.
+    fn write_held(&mut self)
+        ensures { self.new.held.items ≡ [] }
+    {
+        let _ = self.stdout.write_all(&self.held);
+        self.held.clear();
+    }
+
+    // Makes room for a byte.
+    fn make_room(&mut self)
+        ensures { length self.new.held.items < 4096 }
+    {
+        if self.held.is_full() {
+            self.write_held();
+        }
+    }
+
+    /// A byte as it is.
+    pub fn byte(&mut self, b: u8) {
+        self.make_room();
+        self.held.push(b);
+    }
+
+    /// Two digits a byte. (By hand: `write!` takes several times as long.)
     pub fn hex(&mut self, bytes: &[u8]) -> io::Result<()> {
         for b in bytes {
-            write!(self, "{b:02x}")?;
+            self.byte(digit(*b / 16));
+            self.byte(digit(*b % 16));
         }
         Ok(())
     }
 
     /// What a call gives: its number, and the buffer that it was lent.
     pub fn given(&mut self, answer: Result<(), Refusal>, buffer: &[u8]) -> io::Result<()> {
-        write!(self, "{:08x} ", answer::number(answer))?;
+        self.hex(&answer::number(answer).to_be_bytes())?;
+        self.byte(b' ');
         self.hex(buffer)
     }
+}
+
+// The hex digit of a number below 16.
+fn digit(n: u8) -> u8
+    requires { n < 16 }
+{
+    if n < 10 { b'0' + n } else { b'a' + (n - 10) }
 }

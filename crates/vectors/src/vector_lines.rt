@@ -3,7 +3,6 @@ use crate::calls;
 use crate::print::Output;
 use arrayvec::ArrayVec;
 use std::io;
-use std::io::Write;
 
 /// A line as far as it came.
 #[derive(Drop)]
@@ -12,6 +11,8 @@ pub struct Line {
     bytes: ArrayVec<u8, 8191>,
     // The first digit of a pair.
     half: Option<u8>,
+    // The last digit at each byte's place, of this line or one before it.
+    digits: [u8; 8191],
 }
 
 impl Line {
@@ -20,6 +21,7 @@ impl Line {
             letter: None,
             bytes: ArrayVec::new(),
             half: None,
+            digits: [0; 8191],
         }
     }
 
@@ -34,24 +36,26 @@ impl Line {
             Some(_) => self.take_digit(b),
         }
         if self.letter == Some(b'#') {
-            return to.write_all(&[b]);
+            to.byte(b);
         }
         Ok(())
     }
 
-    // The letter asks for a call of the bytes that follow it. A digit without another is a byte.
+    // The letter asks for a call of the bytes that follow it. A digit without another comes after the last digit that stood at its place.
     fn end(&mut self, to: &mut Output) -> io::Result<()> {
-        if let Some(x) = self.half {
-            let _ = self.bytes.try_push(x);
-        }
-        if let Some(letter) = self.letter {
+        if let Some(letter) = self.letter.take() {
+            if let Some(low) = self.half.take() {
+                let before = self.digits.get(self.bytes.len()).copied();
+                self.push(before.unwrap_or(0), low);
+            }
             calls::answer(to, letter, &self.bytes)?;
+            self.bytes.clear();
         }
-        *self = Line::new();
-        to.write_all(b"\n")
+        to.byte(b'\n');
+        Ok(())
     }
 
-    // Capitals are no digits, and digits past the room do not count.
+    // Capitals are no digits.
     fn take_digit(&mut self, b: u8) {
         if b.is_ascii_uppercase() {
             return;
@@ -62,10 +66,16 @@ impl Line {
         // A digit of base 16 fits.
         let x = digit as u8;
         match self.half.take() {
-            Some(high) => {
-                let _ = self.bytes.try_push(high % 16 * 16 + x);
-            }
+            Some(high) => self.push(high, x),
             None => self.half = Some(x),
         }
+    }
+
+    // The byte of two digits. Digits past the room do not count.
+    fn push(&mut self, high: u8, low: u8) {
+        if let Some(digit) = self.digits.get_mut(self.bytes.len()) {
+            *digit = low;
+        }
+        let _ = self.bytes.try_push(high % 16 * 16 + low % 16);
     }
 }
