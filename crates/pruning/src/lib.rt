@@ -30,17 +30,16 @@ fn raise(tables: &mut Tables, s: usize, least: u32)
     tables.needs[p] = tables.needs[p].max(tables.needs[s] + least);
 }
 
-/// Leaves fewer sizes and greater needs in the tables, from the last section to the first. Where a section has no size left, no list suits.
-pub fn prune(tables: &mut Tables, head: usize) -> Option<()>
+/// The tables with fewer sizes and greater needs, from the last section to the first. Where a section has no size left, no list suits.
+pub fn prune(mut tables: Tables, head: usize) -> Option<Tables>
     requires { head ≤ 7000 }
-    ensures alike { Alike tables.old tables.new }
-    ensures pruned { MatchOption result (NoneSuits (net_in tables.old) head) (λ done. Pruned tables.old head tables.new) }
+    ensures { MatchOption result (NoneSuits (net_in tables) head) (Pruned tables head) }
 {
-    free_pump(tables);
+    free_pump(&mut tables);
     for s in (1..=tables.sections).rev() {
-        trim(tables, head, s);
-        let least = least_loss(tables, s)?;
-        raise(tables, s, least);
+        trim(&mut tables, head, s);
+        let least = least_loss(&tables, s)?;
+        raise(&mut tables, s, least);
     }
-    Some(())
+    Some(tables)
 }

@@ -47,11 +47,11 @@ fn cheapest_list(ws: &mut [u8], tables: &Tables, head: usize) -> Option<Choice>
 }
 
 /// A list of least cost, or none exactly when no list suits, whatever the workspace held. The workspace has a row of head + 1 cells for the pump and for each section.
-pub fn choose(ws: &mut [u8], mut tables: Tables, head: usize) -> Option<Choice>
+pub fn choose(ws: &mut [u8], tables: Tables, head: usize) -> Option<Choice>
     requires { (head ≤ 7000) × (4 * ((tables.sections + 1) * (head + 1)) ≤ length ws.old) }
     ensures { MatchOption result (NoneSuits (net_in tables) head)
         (λ c. Found (net_in tables) head c.cost (take tables.sections c.sizes)) }
 {
-    prune(&mut tables, head)?;
-    cheapest_list(ws, &tables, head)
+    let pruned = prune(tables, head)?;
+    cheapest_list(ws, &pruned, head)
 }

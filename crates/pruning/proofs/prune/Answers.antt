@@ -1,7 +1,7 @@
 -- Each turn takes sizes of a section out and raises its parent's need.
 -- Assumes nothing.
 use Rattle.std.proofs.Common.{rules, arith}
-use Rattle.pruning.proofs.Pruning.{alike_then, pruned_none, pruned_trimmed, pruned_stop, pruned_raised}
+use Rattle.pruning.proofs.Pruning.{pruned_none, pruned_trimmed, pruned_stop, pruned_raised}
 use Rattle.pruning.proofs.prune.Goals as goal
 
 pub loop-s-init : goal.loop-s-init
@@ -9,13 +9,10 @@ loop-s-init c =
     let e = c.free_pump.ensures in
     pruned_none e.alike e.losses e.needs (search rules)
 
-pub returns-in_err-least-clause-pruned : goal.returns-in_err-least-clause-pruned
-returns-in_err-least-clause-pruned c =
+pub returns-in_err-least : goal.returns-in_err-least
+returns-in_err-least c =
     let trimmed = pruned_trimmed c.loop-s.invariant c.trim.ensures.alike c.trim.ensures.needs c.trim.ensures.keeps in
     rw c.from_residual.ensures (pruned_stop trimmed c.loop-s.s (omega arith) (omega (arith, c.loop-s.invariant.alike.sections)) c.in_err-least.ensures)
-
-pub returns-in_err-least-clause-alike : goal.returns-in_err-least-clause-alike
-returns-in_err-least-clause-alike c = alike_then c.loop-s.invariant.alike c.trim.ensures.alike
 
 pub loop-s-preserved : goal.loop-s-preserved
 loop-s-preserved c =
