@@ -1,6 +1,9 @@
 // The fields of a job, by value.
 #![tactic(auto)]
 
+ghost use Rattle.std.specs.Prelude.{◌≡◌};
+ghost use Rattle.fields.specs.Fields.{blank_section, blank_job};
+
 /// A section of pipe with what stands at its end. Length in decimetres, elevation and free head in cm.
 #[derive(Clone, Copy, Debug, Default, PartialEq, Eq)]
 pub struct Section {
@@ -47,5 +50,24 @@ impl Job {
         ensures small { result ≤ 255 }
     {
         usize::from(self.header.sections)
+    }
+}
+
+/// A section with all fields zero.
+pub fn blank_section() -> Section
+    ensures { result ≡ blank_section }
+{
+    Section::default()
+}
+
+/// All fields zero. (The derived `Default` does not say of the arrays what stands in them.)
+#[tactic(auto, unfolding(crate::specs::Fields::blank_job))]
+pub fn blank_job() -> Job
+    ensures { result ≡ blank_job }
+{
+    Job {
+        header: Header::default(),
+        residents: [0; 12],
+        sections: [blank_section(); 64],
     }
 }
