@@ -13,7 +13,7 @@ use Rattle.answer.proofs.First.{first_none, first_found, first_next, short_found
 use Rattle.fields.specs.Fields.{service_of}
 use Rattle.record.specs.Record.{decode}
 use Rattle.acceptance.specs.Acceptance.{job_checks, job_no}
-use Rattle.acceptance.proofs.Accepting.{job_numbered, job_refused, job_passes}
+use Rattle.acceptance.proofs.Accepting.{job_numbered, job_stops, job_refused, job_passes}
 use Rattle.heating.specs.Heat.{hot_job, heat_ok}
 use Rattle.heating.specs.Calls.{heat_no}
 
@@ -52,6 +52,10 @@ module _ (b : List ℕ) (t loss room : ℕ) where
         inside = heat_in t loss (not-false _ ranges.0);
         fits = ltb-false room 8 last.0;
       }
+
+  pub heat_refused : (job_no b ≡ 0 → ⊥) → heat_no b t loss room ≡ job_no b
+  unfolding heat_no
+  heat_refused n = job_stops b _ n
 
   module _ (accepted : job_no b ≡ 0) where
     pub heat_other : (service_of (decode b) ≡ 2 → ⊥) → heat_no b t loss room ≡ 20

@@ -12,7 +12,7 @@ use borrow.Author.Tests.{eq-eqb, ltb-false}
 use Rattle.answer.specs.declared.Refusal.{Refusal}
 use Rattle.answer.specs.Answer.{refusal_number}
 use Rattle.answer.specs.Checks.{first_no, too_short}
-use Rattle.answer.proofs.First.{Numbered, first_none, short_found, short_next, first_clear, first_after, first_split, numbered_append}
+use Rattle.answer.proofs.First.{Numbered, first_none, short_found, short_next, first_clear, first_after, first_before, first_split, numbered_append}
 use Rattle.answer.proofs.Some.{first_refused, first_passed, number_at_exit}
 use Rattle.fields.specs.declared.Header.{Header}
 use Rattle.fields.specs.declared.Job.{Job}
@@ -20,7 +20,7 @@ use Rattle.fields.specs.Fields.{version_of, count_of}
 use Rattle.rules.specs.Rules.{version_ok, header_ok, field_checks}
 use Rattle.record.specs.Record.{length_of, decode}
 use Rattle.rules.proofs.HeaderBounds.{header_in}
-use Rattle.job.proofs.Shape.{header_checks, header_numbered, headed, shaped, few}
+use Rattle.job.proofs.Shape.{header_checks, header_numbered, header_clear, headed, shaped, few}
 use Rattle.job.specs.Calls.{shape_checks, read_checks, read_no, read_job, write_checks, write_no, copy_checks, copy_no}
 
 shape_numbered : (b : List ℕ) → Numbered (shape_checks b)
@@ -62,9 +62,13 @@ read_numbered b = numbered_append (shape_checks b) (field_checks (decode b)) (sh
 
 -- copying: the reader's number where it finds something, else 14
 module _ (b : List ℕ) (room : ℕ) where
-  pub copy_refused : (r : Refusal) → refusal_number r ≡ read_no b → refusal_number r ≡ copy_no b room
+  pub copy_refused : (read_no b ≡ 0 → ⊥) → copy_no b room ≡ read_no b
   unfolding copy_no copy_checks read_no
-  copy_refused r e = first_refused (read_checks b) ((too_short room (length b), 14) ∷ []) (read_numbered b) r e
+  copy_refused n = first_before (read_checks b) ((too_short room (length b), 14) ∷ []) (read_numbered b) n
+
+  pub copy_exit : (r : Refusal) → refusal_number r ≡ read_no b → refusal_number r ≡ copy_no b room
+  unfolding copy_no copy_checks read_no
+  copy_exit r e = first_refused (read_checks b) ((too_short room (length b), 14) ∷ []) (read_numbered b) r e
 
   pub copy_room : read_no b ≡ 0 → copy_no b room ≡ first_no ((too_short room (length b), 14) ∷ [])
   unfolding copy_no copy_checks read_no
@@ -81,8 +85,8 @@ module _ (job : Job) (room : ℕ) where
     unfolding write_no write_checks
     write_rest = first_after (header_checks job.header) _ (header_numbered job.header) clear
 
-    pub write_fields : (r : Refusal) → refusal_number r ≡ first_no (field_checks job) → refusal_number r ≡ write_no job room
-    write_fields r e = first_refused (field_checks job) _ (fields_numbered job) r e ∙ sym write_rest
+    pub fields_exit : (r : Refusal) → refusal_number r ≡ first_no (field_checks job) → refusal_number r ≡ write_no job room
+    fields_exit r e = first_refused (field_checks job) _ (fields_numbered job) r e ∙ sym write_rest
 
     module _ (fields : first_no (field_checks job) ≡ 0) where
       pub write_room : write_no job room ≡ first_no ((too_short room (length_of (version_of job) (count_of job)), 14) ∷ [])
@@ -93,6 +97,11 @@ module _ (job : Job) (room : ℕ) where
 
       pub write_done : length_of (version_of job) (count_of job) ≤ room → write_no job room ≡ 0
       write_done h = write_room ∙ short_next room (length_of (version_of job) (count_of job)) [] h ∙ first_none
+
+  -- neither 2 nor 3
+  module _ (version : version_ok job.header ≡ true) (head : header_ok job.header ≡ true) where
+    pub write_fields : (first_no (field_checks job) ≡ 0 → ⊥) → write_no job room ≡ first_no (field_checks job)
+    write_fields n = write_rest (header_clear job.header version head) ∙ first_before (field_checks job) _ (fields_numbered job) n
 
 -- what holds where the writer finds nothing
 pub record Writable (job : Job) (room : ℕ) : Type 0 where
@@ -122,4 +131,4 @@ few_head h e = (header_in h (headed h e).range).sections.high
 -- the outcomes of reading and of writing, in turn
 pub ruleset outcomes_read = (number_at_exit, read_refused, read_passed, shaped, few)
 
-pub ruleset outcomes_written = (number_at_exit, few_head, write_header, write_fields, write_short, write_done)
+pub ruleset outcomes_written = (number_at_exit, few_head, write_header, fields_exit, write_short, write_done)

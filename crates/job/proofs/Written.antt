@@ -1,13 +1,14 @@
 -- A buffer that a job was written into: the record at its front, and what reading it gives.
 -- Assumes nothing.
-use mathlib.Core.Path.{◌≡◌, sym, ◌∙◌}
+use mathlib.Core.Path.{◌≡◌, sym, ap, ◌∙◌}
 use mathlib.Core.List.{List}
+use Prim.{tt}
 use Prim.Native.Nat.{ℕ, ◌≤◌}
 use native.Mathlib.Omega.{arith}
 use lib.ListN.{length, take}
 use lib.Seq.{take_at}
 use borrow.Author.Tests.{eq-eqb, ne_eqb}
-use Rattle.std.specs.Prelude.{Result, Ok, Err, IfOk}
+use Rattle.std.specs.Prelude.{Result, Ok, Err, IfOk, IsErrAnd}
 use Rattle.basis.specs.Stored.{stored}
 use Rattle.basis.proofs.Stored.{stored_front, stored_length}
 use Rattle.answer.specs.declared.Refusal.{Refusal}
@@ -28,6 +29,12 @@ unfolding read_job
 job_read (Ok job) b number fields = fields ∙ sym (read_accepted b (sym number))
 job_read (Err refusal) b number fields =
     sym (rw (← number, ne_eqb (refusal_number refusal) 0 (λ none. omega (arith, refusal_some refusal))))
+
+-- also where a `?` ends the reading
+pub fields_at_exit : (r : Result Job Refusal) (refusal : Refusal) (b : List ℕ) → IsErrAnd r (λ e. e ≡ refusal) → refusal_number refusal ≡ read_no b →
+    job_in r ≡ read_job b
+fields_at_exit (Ok job) refusal b err number = absurd err
+fields_at_exit (Err other) refusal b err number = job_read (Err other) b (ap refusal_number err ∙ number) tt
 
 -- what the writer gives: a number, and the buffer after it
 module _ (job : Job) (out₀ : List ℕ) {out : List ℕ} {n : ℕ} (number : n ≡ write_no job (length out₀))

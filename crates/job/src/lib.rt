@@ -6,7 +6,7 @@ ghost use Rattle.answer.specs.Answer.{number_of};
 ghost use Rattle.answer.specs.Checks.{first_no, buffer_after};
 ghost use Rattle.rules.specs.Rules.{version_ok, header_ok};
 ghost use Rattle.record.specs.Record.{decode, encode};
-ghost use Rattle.job.specs.Calls.{shape_checks, read_no, write_no, copy_no, job_in, WrittenRead};
+ghost use Rattle.job.specs.Calls.{shape_checks, read_no, read_job, write_no, copy_no, job_in, WrittenRead};
 
 use answer::Refusal;
 use fields::{Header, Job};
@@ -43,11 +43,12 @@ fn shape_refusal(b: &[u8]) -> Result<(), Refusal>
     Ok(())
 }
 
-/// Any bytes give a job or a number from 1 to 7.
+/// Any bytes give a job or a number from 1 to 7, whose fields, `job_in`, are all zero.
 #[tactic(auto, using(crate::proofs::Decided::outcomes_read), unfolding(record::specs::Record::decode, record::specs::Record::header_at))]
 pub fn read(b: &[u8]) -> Result<Job, Refusal>
     ensures number { number_of result ≡ read_no b.now }
     ensures job { IfOk result (λ job. job ≡ decode b.now) }
+    ensures fields { job_in result ≡ read_job b.now }
 {
     shape_refusal(b)?;
     let job = decoding::job_of(b);
@@ -80,7 +81,7 @@ pub fn write(job: Job, out: &mut [u8]) -> Result<(), Refusal>
 }
 
 /// Reads a record and writes it again.
-#[tactic(auto, using(answer::proofs::Some::number_at_exit, crate::proofs::Decided::copy_refused, crate::proofs::Decided::read_accepted, crate::proofs::RoundTrip::copied))]
+#[tactic(auto, using(answer::proofs::Some::number_at_exit, crate::proofs::Decided::copy_exit, crate::proofs::Decided::read_accepted, crate::proofs::RoundTrip::copied))]
 pub fn copy(b: &[u8], out: &mut [u8]) -> Result<(), Refusal>
     ensures number { number_of result ≡ copy_no b.now (length out.old) }
     ensures buffer { out.new ≡ buffer_after (number_of result) b.now out.old }

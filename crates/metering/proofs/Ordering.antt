@@ -15,7 +15,7 @@ use Rattle.answer.proofs.First.{first_none, first_found, first_next, short_found
 use Rattle.record.specs.Record.{decode}
 use Rattle.demand.specs.Demand.{mean_of, house_flow}
 use Rattle.acceptance.specs.Acceptance.{job_checks, job_no}
-use Rattle.acceptance.proofs.Accepting.{job_numbered, job_refused, job_passes}
+use Rattle.acceptance.proofs.Accepting.{job_numbered, job_stops, job_refused, job_passes}
 use Rattle.meters.specs.Meters.{meters_ok, none_qualifies}
 use Rattle.metering.specs.Calls.{meter_length, meter_no}
 
@@ -35,9 +35,13 @@ module _ (b meters : List ℕ) (room : ℕ) where
       let last = first_clear _ 18 _ (omega arith) room.1 in
       record { accepted = parts.0; listed = not-false _ list.0; some = last.0 }
 
-  pub meter_refused : (r : Refusal) → refusal_number r ≡ job_no b → refusal_number r ≡ meter_no b meters room
+  pub meter_refused : (job_no b ≡ 0 → ⊥) → meter_no b meters room ≡ job_no b
   unfolding meter_no
-  meter_refused r e = job_refused b _ r e
+  meter_refused n = job_stops b _ n
+
+  pub meter_exit : (r : Refusal) → refusal_number r ≡ job_no b → refusal_number r ≡ meter_no b meters room
+  unfolding meter_no
+  meter_exit r e = job_refused b _ r e
 
   module _ (accepted : job_no b ≡ 0) where
     pub meter_listed : meters_ok meters ≡ false → meter_no b meters room ≡ 17
@@ -61,4 +65,4 @@ module _ (b meters : List ℕ) (room : ℕ) where
         meter_done e = last ∙ first_next 18 [] e ∙ first_none
 
 -- the refusals before a meter is looked for, in turn
-pub ruleset refusals = (number_at_exit, meter_refused, meter_listed, meter_short)
+pub ruleset refusals = (number_at_exit, meter_exit, meter_listed, meter_short)
