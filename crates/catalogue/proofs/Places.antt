@@ -1,4 +1,4 @@
--- Size s lies within the catalogue; its rows are a part of their length.
+-- Size s lies within the catalogue, and so does the size before it; its rows are a part of their length.
 -- Assumes nothing.
 use mathlib.Core.Path.{◌≡◌, ap, ◌∙◌}
 use mathlib.Core.List.{List}
@@ -19,6 +19,9 @@ next s m h =
 module _ {cat : List ℕ} {s : ℕ} (z : Sized cat s) where
   pub sized_room : size_from cat s + size_length (rows_of cat) ≤ length cat
   sized_room = omega (arith, z.fits, next s (size_length (rows_of cat)) z.low)
+
+  pub sized_before : 1 < s → Sized cat (s - 1)
+  sized_before h = record { low = omega arith; high = omega (arith, z.high); rows = z.rows; fits = omega (arith, sized_room) }
 
   -- the part as the code hands it on, from 4 bytes after where the size begins
   pub part_handed : (a n : ℕ) → a ≡ size_from cat s → n ≡ rows_of cat → part cat (a + 4) (a + 4 + 8 * n - (a + 4)) ≡ part_of cat s

@@ -48,6 +48,9 @@ module _ (job : Job) (n n' : ℕ → ℕ) (same : (kind : ℕ) → 0 < kind → 
   pub m_same : m_of job n ≡ m_of job n'
   m_same = m_agree job job n n' refl share_same
 
+  pub weighted_same : fixture_sum_of job n ≡ fixture_sum_of job n'
+  weighted_same = weighted_agree job job n n' refl share_same
+
   pub flow_same : flow_of job n ≡ flow_of job n'
   flow_same = flow_agree job job n n' refl share_same same
 

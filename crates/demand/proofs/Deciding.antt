@@ -1,6 +1,6 @@
 -- Checks 8 and 9: the number that they give, each test after those before it.
 -- Assumes nothing.
-use mathlib.Core.Path.{◌≡◌, ◌∙◌}
+use mathlib.Core.Path.{◌≡◌, sym, ◌∙◌}
 use mathlib.Core.Bool.{Bool, true, false}
 use Prim.Native.Nat.{ℕ, ◌≤◌, ◌<◌}
 use borrow.Author.Tests.{lt-ltb, le-ltb}
@@ -25,6 +25,41 @@ module _ {job : Job} (r : Rooted job) where
 
   pub house_fixtures : fixtures_of (served_of job 0) ≡ fixtures_of (house_of job)
   house_fixtures = fixtures_same (served_of job 0) (house_of job) (λ kind a b. served_house r kind)
+
+-- each test in turn, of any job
+module _ (job : Job) where
+  pub over_house : 400000000 < m_of job (house_of job) → first_no (demand_checks job) ≡ 8
+  unfolding demand_checks first_no over_sum
+  over_house h = rw (lt-ltb 400000000 (m_of job (house_of job)) h)
+
+  module _ (m : m_of job (house_of job) ≤ 400000000) where
+    pub over_hour : 400000000 < hour_sum_of job → first_no (demand_checks job) ≡ 8
+    unfolding demand_checks first_no over_sum
+    over_hour h = rw (le-ltb 400000000 (m_of job (house_of job)) m, lt-ltb 400000000 (hour_sum_of job) h)
+
+    module _ (hour : hour_sum_of job ≤ 400000000) where
+      not_over : over_sum job ≡ false
+      unfolding over_sum
+      not_over = rw (le-ltb 400000000 (m_of job (house_of job)) m, le-ltb 400000000 (hour_sum_of job) hour)
+
+      pub table_one_house : needs_table_one (m_of job (house_of job)) (fixtures_of (house_of job)) ≡ true → first_no (demand_checks job) ≡ 9
+      unfolding demand_checks first_no over_probability
+      table_one_house e = rw (not_over, e)
+
+      module _ (house : needs_table_one (m_of job (house_of job)) (fixtures_of (house_of job)) ≡ false) where
+        pub table_one_any : any_to (count_of job) (λ i. needs_table_one (m_of job (served_of job i)) (fixtures_of (served_of job i))) ≡ true →
+            first_no (demand_checks job) ≡ 9
+        unfolding demand_checks first_no over_probability
+        table_one_any e = rw (not_over, house, e)
+
+        module _ (any : any_to (count_of job) (λ i. needs_table_one (m_of job (served_of job i)) (fixtures_of (served_of job i))) ≡ false) where
+          pub table_one_hour : needs_table_one (hour_sum_of job) (fixtures_of (house_of job)) ≡ true → first_no (demand_checks job) ≡ 9
+          unfolding demand_checks first_no over_probability
+          table_one_hour e = rw (not_over, house, any, e)
+
+          pub table_one_not : needs_table_one (hour_sum_of job) (fixtures_of (house_of job)) ≡ false → first_no (demand_checks job) ≡ 0
+          unfolding demand_checks first_no over_probability
+          table_one_not e = rw (not_over, house, any, e)
 
 -- the test of section i, by what its sums and its set give
 abbrev pub section_test : Job → ℕ → Bool
@@ -51,35 +86,38 @@ found {job} valid m f h =
       sections_are = any_ext (count_of job) (section_test job) _ (λ i p q. rw (valid_fixtures valid i));
     }
 
+-- and by what is found
 module _ {job : Job} {m fixtures hour : ℕ} (k : Found job m fixtures hour) where
-  pub over_house : 400000000 < m → 8 ≡ first_no (demand_checks job)
-  unfolding demand_checks first_no over_sum
-  over_house h = rw (← k.m_is, lt-ltb 400000000 m h)
+  pub found_over_house : 400000000 < m → 8 ≡ first_no (demand_checks job)
+  found_over_house h = sym (over_house job (rw k.m_is at h))
 
   module _ (low : m ≤ 400000000) where
-    pub over_hour : 400000000 < hour → 8 ≡ first_no (demand_checks job)
-    unfolding demand_checks first_no over_sum
-    over_hour h = rw (← k.m_is, ← k.hour_is, le-ltb 400000000 m low, lt-ltb 400000000 hour h)
+    house_low : m_of job (house_of job) ≤ 400000000
+    house_low = rw k.m_is at low
+
+    pub found_over_hour : 400000000 < hour → 8 ≡ first_no (demand_checks job)
+    found_over_hour h = sym (over_hour job house_low (rw k.hour_is at h))
 
     module _ (few : hour ≤ 400000000) where
-      not_over : over_sum job ≡ false
-      unfolding over_sum
-      not_over = rw (← k.m_is, ← k.hour_is, le-ltb 400000000 m low, le-ltb 400000000 hour few)
+      hour_low : hour_sum_of job ≤ 400000000
+      hour_low = rw k.hour_is at few
 
-      pub table_one_house : true ≡ needs_table_one m fixtures → 9 ≡ first_no (demand_checks job)
-      unfolding demand_checks first_no over_probability
-      table_one_house e = rw (not_over, ← k.m_is, ← k.fixtures_is, ← e)
+      pub found_table_one_house : true ≡ needs_table_one m fixtures → 9 ≡ first_no (demand_checks job)
+      found_table_one_house e = sym (table_one_house job house_low hour_low (sym (rw (k.m_is, k.fixtures_is) at e)))
 
       module _ (house : false ≡ needs_table_one m fixtures) where
-        pub table_one_any : true ≡ any_section job → 9 ≡ first_no (demand_checks job)
-        unfolding demand_checks first_no over_probability
-        table_one_any e = rw (not_over, ← k.m_is, ← k.fixtures_is, ← house, ← k.sections_are, ← e)
+        house_not : needs_table_one (m_of job (house_of job)) (fixtures_of (house_of job)) ≡ false
+        house_not = sym (rw (k.m_is, k.fixtures_is) at house)
+
+        pub found_table_one_any : true ≡ any_section job → 9 ≡ first_no (demand_checks job)
+        found_table_one_any e = sym (table_one_any job house_low hour_low house_not (sym (e ∙ k.sections_are)))
 
         module _ (any : false ≡ any_section job) where
-          pub table_one_hour : true ≡ needs_table_one hour fixtures → 9 ≡ first_no (demand_checks job)
-          unfolding demand_checks first_no over_probability
-          table_one_hour e = rw (not_over, ← k.m_is, ← k.fixtures_is, ← k.hour_is, ← house, ← k.sections_are, ← any, ← e)
+          any_not : any_to (count_of job) (λ i. needs_table_one (m_of job (served_of job i)) (fixtures_of (served_of job i))) ≡ false
+          any_not = sym (any ∙ k.sections_are)
 
-          pub table_one_not : false ≡ needs_table_one hour fixtures → 0 ≡ first_no (demand_checks job)
-          unfolding demand_checks first_no over_probability
-          table_one_not e = rw (not_over, ← k.m_is, ← k.fixtures_is, ← k.hour_is, ← house, ← k.sections_are, ← any, ← e)
+          pub found_table_one_hour : true ≡ needs_table_one hour fixtures → 9 ≡ first_no (demand_checks job)
+          found_table_one_hour e = sym (table_one_hour job house_low hour_low house_not any_not (sym (rw (k.hour_is, k.fixtures_is) at e)))
+
+          pub found_table_one_not : false ≡ needs_table_one hour fixtures → 0 ≡ first_no (demand_checks job)
+          found_table_one_not e = sym (table_one_not job house_low hour_low house_not any_not (sym (rw (k.hour_is, k.fixtures_is) at e)))

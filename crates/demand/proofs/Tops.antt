@@ -6,12 +6,20 @@ use native.Mathlib.Omega.{arith}
 use native.Mathlib.Nat.{mul-le-mul, mul-le-mul_left}
 use Rattle.basis.specs.Round.{up}
 use Rattle.basis.proofs.Round.{up_le}
+use Rattle.basis.proofs.Within.{Within}
 use Rattle.norms.specs.declared.Norm.{Norm}
 use Rattle.norms.specs.Norms.{norm_of}
 use Rattle.norms.proofs.Bounds.{NormIn, norm_in}
 
+-- the products of a share of n of the house's fixtures
+pub record ShareFits (norm : Norm) (residents n house : ℕ) : Type 0 where
+  pub norms : NormIn norm
+  pub people : 25000 * norm.hour * residents ≤ 491512500000
+  pub over : 25000 * norm.hour * residents * n ≤ 2029310116312500000
+  pub under : Within 90 1114750350 (9 * norm.fixture * house)
+
 -- the products of a share, whatever number of the house's fixtures x is
-pub record ShareFits (norm : Norm) (residents : ℕ) : Type 0 where
+pub record SharesFit (norm : Norm) (residents : ℕ) : Type 0 where
   pub norms : NormIn norm
   pub people : 25000 * norm.hour * residents ≤ 491512500000
   pub over : (x : ℕ) → x ≤ 4128705 → 25000 * norm.hour * residents * x ≤ 2029310116312500000
@@ -30,15 +38,14 @@ people_top r x h = mul-le-mul {n₂ = 400} {m₂ = 65535} h (omega arith)
 pub day_top : {norm : Norm} → NormIn norm → {residents : ℕ} → residents < 65536 → norm.day * residents ≤ 26214000
 day_top {norm} i r = people_top r norm.day i.day.high
 
--- of what `norm_of` gives for a kind
-module _ {norm : Norm} (service : ℕ) {kind : ℕ} (e : norm ≡ norm_of service kind) (low : 1 ≤ kind) (high : kind ≤ 12) where
-  pub known : NormIn norm
-  known = rw e (norm_in service kind low high)
+-- of a norm within its bounds
+module _ {norm : Norm} (i : NormIn norm) where
+  pub hourly_top : {share : ℕ} → share ≤ 32767500000 → share * norm.hourly ≤ 9830250000000
+  hourly_top s = mul-le-mul {n₂ = 32767500000} {m₂ = 300} s i.hourly.high
 
-  module _ {residents : ℕ} (small : residents < 65536) where
-    pub share_fits : ShareFits norm residents
-    share_fits =
-        let i : NormIn norm = known in
+  module _ {residents : ℕ} (r : residents < 65536) where
+    shares_top : SharesFit norm residents
+    shares_top =
         let p : 25000 * norm.hour * residents ≤ 491512500000 = mul-le-mul {n₂ = 7500000} {m₂ = 65535} (omega arith) (omega arith) in
         record {
           norms = i;
@@ -48,10 +55,26 @@ module _ {norm : Norm} (service : ℕ) {kind : ℕ} (e : norm ≡ norm_of servic
           some = λ x h. mul-le-mul {n₁ = 90} {m₁ = 1} (omega arith) h;
         }
 
+    pub share_fits : {n house : ℕ} → n ≤ 4128705 → 0 < house → house ≤ 4128705 → ShareFits norm residents n house
+    share_fits {n} {house} a b d =
+        let f = shares_top in
+        record { norms = i; people = f.people; over = f.over n a; under = record { low = f.some house b; high = f.under house d } }
+
     pub hour_fits : HourFits norm residents
     hour_fits =
-        let i : NormIn norm = known in
         record { norms = i; people = mul-le-mul {n₂ = 30000000} {m₂ = 65535} (omega arith) (omega arith) }
+
+-- of what `norm_of` gives for a kind
+module _ {norm : Norm} (service : ℕ) {kind : ℕ} (e : norm ≡ norm_of service kind) (low : 1 ≤ kind) (high : kind ≤ 12) where
+  pub known : NormIn norm
+  known = rw e (norm_in service kind low high)
+
+  module _ {residents : ℕ} (small : residents < 65536) where
+    pub kind_shares_fit : SharesFit norm residents
+    kind_shares_fit = shares_top known small
+
+    pub kind_hour_fits : HourFits norm residents
+    kind_hour_fits = hour_fits known small
 
 -- a share, and a share times its norm
 pub share_top : {share a b : ℕ} → share ≡ up a b → a ≤ 2029310116312500000 → 90 ≤ b → share ≤ 22547890181250000
@@ -65,8 +88,8 @@ module _ {norm : Norm} {residents share : ℕ} (f : HourFits norm residents) (e 
   hour_share_top =
       rw e (up_le (100000 * norm.hour * residents) 32767500000 (omega arith) (omega (arith, mul-le-mul_left 32767500000 f.norms.hourly.low)))
 
-  pub hourly_top : share * norm.hourly ≤ 9830250000000
-  hourly_top = mul-le-mul {n₂ = 32767500000} {m₂ = 300} hour_share_top f.norms.hourly.high
+  pub hour_weighted_top : share * norm.hourly ≤ 9830250000000
+  hour_weighted_top = hourly_top f.norms hour_share_top
 
 -- the mean hour is at most the day
 pub mean_top : (day : ℕ) {hours : ℕ} → 0 < hours → up day hours ≤ day

@@ -62,3 +62,6 @@ module _ {job : Job} (r : Valid job) where
 
     pub residents_match : 0 < house_of job kind → 0 < residents_of job kind
     residents_match h = pos_of_ne-zero (λ z. not_both _ _ even.1 (eq-eqb (residents_of job kind) 0 z) (lt-ltb 0 (house_of job kind) h))
+
+    pub house_match : 0 < residents_of job kind → 0 < house_of job kind
+    house_match h = pos_of_ne-zero (λ z. not_both _ _ even.0 (lt-ltb 0 (residents_of job kind) h) (eq-eqb (house_of job kind) 0 z))

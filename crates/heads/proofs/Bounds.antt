@@ -2,6 +2,7 @@
 -- Assumes nothing.
 use mathlib.Core.List.{List}
 use Prim.Native.Nat.{ℕ, ◌+◌, ◌≤◌, ◌<◌}
+use native.Mathlib.Nat.{le_trans}
 use native.Mathlib.Omega.{arith}
 use lib.IntN.{pos}
 use lib.ListN.{get_or}
@@ -14,10 +15,11 @@ use Rattle.rules.proofs.HeaderBounds.{HeaderIn, header_in}
 use Rattle.rules.proofs.SectionBounds.{SectionIn}
 use Rattle.rules.proofs.Kept.{rooted_of, sections_in}
 use Rattle.rules.proofs.Elevation.{elevation_small}
-use Rattle.heads.specs.Heads.{reach_of, greatest_to, required_of}
+use Rattle.heads.specs.Heads.{reach_of, greatest_to, required_of, dictating_of}
 use Rattle.heads.specs.Steps.{Given}
 use Rattle.heads.proofs.Signed.{add_mag}
 use Rattle.heads.proofs.Loss.{parent_lower, path_within}
+use Rattle.basis.proofs.Lowest.{lowest_within}
 use Rattle.heads.proofs.Maximum.{Reached, greatest_reached}
 
 module _ {job : Job} {losses : List ℕ} (g : Given job losses) where
@@ -49,3 +51,7 @@ module _ {job : Job} {losses : List ℕ} (g : Given job losses) where
   unfolding required_of
   required_small =
       add_mag (pos job.header.meter) (greatest_to (count_of job) (reach_of job (λ i. get_or losses i 0))) 268373829 (omega (arith, given_head.meter, greatest_small))
+
+  pub dictating_small : (loss : ℕ → ℕ) → dictating_of job loss ≤ 63
+  unfolding dictating_of
+  dictating_small loss = le_trans (lowest_within (count_of job) _) given_few

@@ -28,6 +28,9 @@ not_less a b e = grind (arith, ints)
 pub le_total : (a b : ℤ) → le_z a b ≡ false → le_z b a ≡ true
 le_total a b e = grind (arith, ints)
 
+pub le_both : (a b : ℤ) → le_z a b ≡ true → le_z b a ≡ true → a ≡ b
+le_both a b h k = grind (arith, ints)
+
 module _ (a b : ℤ) where
   pub greater_second : le_z a b ≡ true → greater a b ≡ b
   unfolding greater

@@ -20,6 +20,9 @@ use Rattle.nets.specs.Tables.{top, Sound}
 use Rattle.nets.proofs.Heads.{head_bound, head_least, suits_head}
 
 module _ (a : ℕ) where
+  pub keeps_self : (N : Net) → Keeps a N N
+  keeps_self N = record { back = λ z u. (u, refl, refl); forth = λ z u. (z, u, omega arith, omega arith) }
+
   pub keeps_then : {N M L : Net} → Keeps a N M → Keeps a M L → Keeps a N L
   keeps_then k j =
       record {

@@ -69,16 +69,26 @@ module _ {b cat list : List ℕ} {room long : ℕ} {job : Job} {figures : List F
         top = λ i low high. rw (loss_at i low high) (r.at.small i low (omega arith)).loss;
       }
 
+  pub rated_result : result_bytes job (λ i. (get_or figures i blank_figure).velocity) (λ i. get_or (losses_in figures) i 0) ≡ rate_bytes job cat list
+  unfolding rate_bytes result_bytes
+  rated_result =
+      rw (
+        heads_same job (valid_rooted r.accepted.valid) rated_count.low (λ i. get_or (losses_in figures) i 0) (losses_of job cat list) loss_at,
+        concat_ext (count_of job) (λ i. bytes_of 2 (get_or figures i blank_figure).velocity ++ bytes_of 4 (get_or (losses_in figures) i 0))
+            (λ i. bytes_of 2 (rated_figure job cat list i).velocity ++ bytes_of 4 (rated_figure job cat list i).loss)
+            (λ i low high. rw (figure_at i low high, loss_at i low high)),
+      )
+
   -- by the sections' figures alone
   module _ {sections : List Figure} (s : Alone (count_of job) figures sections) where
     section_figure : (i : ℕ) → 0 < i → i ≤ count_of job → figure_of sections i ≡ rated_figure job cat list i
     section_figure i low high = s.each i low high ∙ figure_at i low high
 
-    pub rated_result : (l : List ℕ) → 9 ≤ length l →
+    pub rated_stored : (l : List ℕ) → 9 ≤ length l →
         stored (stored l 0 (heads_bytes job (λ i. get_or (losses_in figures) i 0))) 9
         (concat_to (length sections) (λ i. drop 4 (figure_bytes (figure_of sections i)))) ≡ stored l 0 (rate_bytes job cat list)
     unfolding rate_bytes result_bytes
-    rated_result l h =
+    rated_stored l h =
         rw (
           s.long,
           heads_same job (valid_rooted r.accepted.valid) rated_count.low (λ i. get_or (losses_in figures) i 0) (losses_of job cat list) loss_at,

@@ -2,10 +2,10 @@
 -- Assumes nothing.
 use mathlib.Core.Path.{◌≡◌}
 use mathlib.Core.Logic.{⊎_elim}
-use mathlib.Core.Bool.{true}
-use Prim.Native.Nat.{ℕ, ◌≤◌}
+use mathlib.Core.Bool.{true, not}
+use Prim.Native.Nat.{ℕ, ◌≤◌, ◌<◌}
 use native.Mathlib.Omega.{arith}
-use lib.Dec.{leb}
+use lib.Dec.{leb, eqb}
 use borrow.Author.Tests.{leb-true, le-leb, eq-eqb, ne_eqb, eqb-true}
 use Rattle.std.proofs.lemmas.Bool.{cases_eq}
 use Rattle.basis.specs.Range.{within}
@@ -18,6 +18,10 @@ use Rattle.rules.specs.Rules.{version_ok, service_ok, header_ok}
 pub version_in : (h : Header) → version_ok h ≡ true → Within 1 2 h.version
 unfolding version_ok
 version_in h e = within_in 1 2 h.version e
+
+pub in_version : (h : Header) → Within 1 2 h.version → version_ok h ≡ true
+unfolding version_ok
+in_version h b = in_within 1 2 h.version b
 
 -- the service is at most 2, and total with version 1
 pub record ServiceIn (version service : ℕ) : Type 0 where
@@ -40,6 +44,15 @@ in_service h b =
     ⊎_elim
     (λ (one : h.version ≡ 1). rw (eq-eqb h.version 1 one, eq-eqb h.service 0 (b.total one)))
     (λ (other : h.version ≡ 1 → ⊥). rw (ne_eqb h.version 1 other, le-leb h.service 2 b.most))
+    (cases_eq h.version 1)
+
+-- cold and hot pass but with version 1
+pub service_line : (h : Header) → 0 < h.service → h.service ≤ 2 → service_ok h ≡ not (eqb h.version 1)
+unfolding service_ok
+service_line h some most =
+    ⊎_elim
+    (λ (one : h.version ≡ 1). rw (eq-eqb h.version 1 one, ne_eqb h.service 0 (λ e. omega arith)))
+    (λ (other : h.version ≡ 1 → ⊥). rw (ne_eqb h.version 1 other, le-leb h.service 2 most))
     (cases_eq h.version 1)
 
 pub record HeaderIn (h : Header) : Type 0 where

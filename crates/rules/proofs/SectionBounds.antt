@@ -1,4 +1,4 @@
--- The rules of a section's own fields as a record of bounds, from the test.
+-- The rules of a section's own fields as a record of bounds, from the test and back.
 -- Assumes nothing.
 use mathlib.Core.Path.{◌≡◌, sym, ◌∙◌}
 use mathlib.Core.Bool.{true, ◌&&◌}
@@ -6,11 +6,11 @@ use mathlib.Core.Logic.{⊎_elim}
 use Prim.Native.Nat.{ℕ, ◌≤◌, ◌<◌}
 use native.Mathlib.Omega.{arith}
 use lib.Dec.{leb, ltb, eqb}
-use borrow.Author.Tests.{leb-true, ltb-true, eqb-true, eq-eqb, ne_eqb}
+use borrow.Author.Tests.{leb-true, le-leb, ltb-true, lt-ltb, eqb-true, eq-eqb, ne_eqb}
 use Rattle.std.proofs.lemmas.Bool.{cases_eq}
 use Rattle.basis.specs.Range.{within}
 use Rattle.basis.proofs.Bools.{left, right}
-use Rattle.basis.proofs.Within.{Within, within_in}
+use Rattle.basis.proofs.Within.{Within, within_in, in_within}
 use Rattle.fields.specs.declared.Section.{Section}
 use Rattle.rules.specs.Rules.{kind_ok, elevation_ok, section_ok}
 
@@ -49,6 +49,11 @@ module _ (s : Section) where
       record { twelve = t; bare = λ z. absurd (n z); fitted = λ _. leb-true 1 s.fixtures (right (leb s.kind 12) _ b) })
       (cases_eq s.kind 0)
 
+  pub in_kind : KindIn s → kind_ok s ≡ true
+  in_kind k =
+      ⊎_elim (λ z. kind_bare z ∙ rw (eq-eqb s.fixtures 0 (k.bare z).0, eq-eqb s.free 0 (k.bare z).1))
+      (λ n. kind_fitted n ∙ rw (le-leb s.kind 12 k.twelve, le-leb 1 s.fixtures (k.fitted (omega arith)))) (cases_eq s.kind 0)
+
 module _ (i : ℕ) (s : Section) where
   pub section_in : section_ok i s ≡ true → SectionIn i s
   unfolding section_ok
@@ -63,3 +68,14 @@ module _ (i : ℕ) (s : Section) where
         elevation = left _ _ e₃;
         free = leb-true s.free 1000 (right (elevation_ok s.elevation) _ e₃);
       }
+
+  pub in_section : SectionIn i s → section_ok i s ≡ true
+  unfolding section_ok
+  in_section b =
+      rw (
+        lt-ltb s.parent i b.parent,
+        in_kind s b.kinds,
+        in_within 1 5000 s.decimetres b.decimetres,
+        b.elevation,
+        le-leb s.free 1000 b.free,
+      )

@@ -5,13 +5,13 @@ use Rattle.std.proofs.Math.Nat.{mul-zero}
 use Rattle.basis.proofs.Round.{up_zero}
 use Rattle.fields.specs.Fields.{residents_of}
 use Rattle.demand.specs.Demand.{norm_at}
-use Rattle.demand.proofs.Tops.{HourFits, hour_fits, hour_share_top, hourly_top}
+use Rattle.demand.proofs.Tops.{HourFits, kind_hour_fits, hour_share_top, hour_weighted_top}
 use Rattle.demand.proofs.sums.hour_part.Goals as goal
 use Rattle.demand.proofs.sums.hour_part.Goals.{After-norm_of-hour}
 
 -- the products fit, by the bounds of the norms
 fits : (c : After-norm_of-hour) → HourFits c.norm_of-hour.result c.from-residents.result
-fits c = hour_fits _ c.norm_of-hour.ensures c.requires.0 c.requires.1 (omega arith)
+fits c = kind_hour_fits _ c.norm_of-hour.ensures c.requires.0 c.requires.1 (omega arith)
 
 pub returns-then-residents-eq0 : goal.returns-then-residents-eq0
 returns-then-residents-eq0 c =
@@ -36,7 +36,7 @@ divide_up-shares-requires c = let f = fits (goal.at.divide_up-shares-requires c)
 pub overflow_mul-result : goal.overflow_mul-result
 overflow_mul-result c =
     let f = fits (goal.at.overflow_mul-result c).After-norm_of-hour in
-    omega (arith, hourly_top f c.divide_up-shares.ensures)
+    omega (arith, hour_weighted_top f c.divide_up-shares.ensures)
 
 pub returns : goal.returns
 returns c =
@@ -46,5 +46,5 @@ returns c =
       share_is = rw (← norm, ← c.from-residents.ensures) c.divide_up-shares.ensures;
       share_top = hour_share_top f c.divide_up-shares.ensures;
       weighted_is = rw norm;
-      weighted_top = hourly_top f c.divide_up-shares.ensures;
+      weighted_top = hour_weighted_top f c.divide_up-shares.ensures;
     }

@@ -6,13 +6,13 @@ use Rattle.fields.specs.Fields.{residents_of}
 use Rattle.demand.specs.Demand.{norm_at}
 use Rattle.demand.proofs.Equations.{share_by}
 use Rattle.demand.proofs.Shares.{by_zero}
-use Rattle.demand.proofs.Tops.{ShareFits, share_fits, share_top, fixture_top}
+use Rattle.demand.proofs.Tops.{SharesFit, kind_shares_fit, share_top, fixture_top}
 use Rattle.demand.proofs.sums.part_of.Goals as goal
 use Rattle.demand.proofs.sums.part_of.Goals.{After-norm_of-hour}
 
 -- the products fit, by the bounds of the norms
-fits : (c : After-norm_of-hour) → ShareFits c.norm_of-hour.result c.from-residents.result
-fits c = share_fits _ c.norm_of-hour.ensures c.requires.0 c.requires.1 (omega arith)
+fits : (c : After-norm_of-hour) → SharesFit c.norm_of-hour.result c.from-residents.result
+fits c = kind_shares_fit _ c.norm_of-hour.ensures c.requires.0 c.requires.1 (omega arith)
 
 pub returns-then-n-eq0 : goal.returns-then-n-eq0
 unfolding share_by
