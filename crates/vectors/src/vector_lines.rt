@@ -27,18 +27,21 @@ impl Line {
 
     /// One more byte of the input. A comment is printed as it comes.
     pub fn take(&mut self, b: u8, to: &mut Output) -> io::Result<()> {
-        if b == b'\n' {
-            return self.end(to);
-        }
         match self.letter {
-            None => self.letter = Some(b),
-            Some(b'#') => {}
+            _ if b == b'\n' => return self.end(to),
+            Some(b'#') => to.byte(b),
             Some(_) => self.take_digit(b),
-        }
-        if self.letter == Some(b'#') {
-            to.byte(b);
+            None => self.begin(b, to),
         }
         Ok(())
+    }
+
+    // The first byte is the letter.
+    fn begin(&mut self, b: u8, to: &mut Output) {
+        self.letter = Some(b);
+        if b == b'#' {
+            to.byte(b);
+        }
     }
 
     // The letter asks for a call of the bytes that follow it. A digit without another comes after the last digit that stood at its place.
