@@ -17,6 +17,7 @@ for tool in $(1); do
 			rt) use="Rattle, which proves and builds the crates" ;;
 			cargo) use="Rust, which builds and tests the command" ;;
 			cc) use="a C compiler, with which cargo links" ;;
+			nm) use="binutils, by which a test reads the archive's names" ;;
 			python3) use="Python 3, which runs the model of the tests" ;;
 		esac
 		echo "make: $$tool is missing: $$use" >&2
@@ -27,10 +28,10 @@ if [ "$$missing" = 1 ]; then exit 1; fi
 endef
 
 # The stored vectors are the model's; every crate is proved, the must-fail edits are tried and the programs run; then the archive
-# is made of what was proved (tools/archive.sh), and the Rust side is built and tested with it and the sheet program that ran. An
+# is made of what was proved (tools/archive.sh), and the Rust side is built and tested with it and the two programs that ran. An
 # edit that no longer fits the text fails too. The last line is rt's verdict.
 test:
-	@$(call need,rt cargo cc python3)
+	@$(call need,rt cargo cc nm python3)
 	verdict=$$(mktemp)
 	trap 'rm -f "$$verdict"' EXIT
 	sh model/check.sh
@@ -40,7 +41,7 @@ test:
 	if grep -Eq '^rt: ok.*, [1-9][0-9]* bad' "$$verdict"; then echo "make: some must-fail edits no longer fit the text" >&2; exit 1; fi
 	bash tools/archive.sh $${own:+anew}
 	mkdir -p target/bin
-	cp crates/sheet/out/sheet target/bin/sheet
+	cp crates/sheet/out/sheet crates/vectors/out/vectors target/bin/
 	cargo test --release --offline --manifest-path office/Cargo.toml
 	tail -n 1 "$$verdict"
 
@@ -76,11 +77,13 @@ target/built: target/bin/sheet target/staticlib/liborder.a $(shell find office/s
 
 # rt leaves a program in its crate's out/ once it has run it, here on no input.
 target/bin/sheet: $(crates)
+target/bin/vectors: $(crates)
+target/bin/sheet target/bin/vectors:
 	@$(call need,rt)
 	mkdir -p target/bin
-	echo "proving the sheet program, which takes minutes the first time: target/sheet.log"
-	(cd crates/sheet && rt run < /dev/null) > target/sheet.log 2>&1 || { tail -n 40 target/sheet.log; exit 1; }
-	cp crates/sheet/out/sheet target/bin/sheet
+	echo "proving the program $(@F), which takes minutes the first time: target/$(@F).log"
+	(cd crates/$(@F) && rt run < /dev/null) > target/$(@F).log 2>&1 || { tail -n 40 target/$(@F).log; exit 1; }
+	cp crates/$(@F)/out/$(@F) $@
 
 target/staticlib/liborder.a: $(crates) tools/archive.sh
 	@$(call need,rt)

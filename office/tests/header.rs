@@ -43,6 +43,19 @@ fn the_example_in_c_is_compiled_and_run_against_all_calls() {
     }
 }
 
+/// A caller without a C library has two functions to write.
+#[test]
+fn the_archive_asks_for_memcpy_and_memset_alone() {
+    let listed = Command::new("nm").arg("-u").arg(archive()).output().expect("nm is there: it comes with the linker");
+    assert!(listed.status.success(), "{}", String::from_utf8_lossy(&listed.stderr));
+    let text = String::from_utf8(listed.stdout).expect("names");
+    // A line of a name has its kind before it; others name the archive's members.
+    let mut asked: Vec<&str> = text.lines().filter_map(|line| Some(line.trim().split_once(' ')?.1)).collect();
+    asked.sort();
+    asked.dedup();
+    assert_eq!(asked, ["memcpy", "memset"]);
+}
+
 /// Each number has one line, and the ABI's number is the one that the example prints.
 #[test]
 fn the_header_lists_every_refusal() {

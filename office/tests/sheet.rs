@@ -1,6 +1,8 @@
 //! The sheet program, `target/bin/sheet`, on whole inputs and outputs: what no contract can say. What it prints is held to the
 //! model, and on the stored inputs to the Python model's text too.
 
+#[path = "tools/program.rs"]
+mod program;
 #[path = "tools/sheet.rs"]
 mod sheet;
 // A sheet's vector has one part.
@@ -8,16 +10,11 @@ mod sheet;
 #[path = "tools/stored.rs"]
 mod stored;
 
+use program::{TOP, ended, feed, output};
 use std::fs::File;
-use std::io::{Read, Write};
 use std::os::unix::process::ExitStatusExt;
 use std::path::Path;
-use std::process::{Child, Command, ExitStatus, Stdio};
-use std::thread;
-use std::time::{Duration, Instant};
-
-/// The top of the repository.
-const TOP: &str = concat!(env!("CARGO_MANIFEST_DIR"), "/..");
+use std::process::{Child, Command, Stdio};
 
 fn file(name: &str) -> Vec<u8> {
     std::fs::read(Path::new(TOP).join(name)).unwrap_or_else(|why| panic!("{name}: {why}"))
@@ -28,46 +25,13 @@ fn text(name: &str) -> String {
 }
 
 fn program(output: Stdio) -> Child {
-    let path = Path::new(TOP).join("target/bin/sheet");
-    assert!(
-        path.is_file(),
-        "there is no target/bin/sheet; `make target/bin/sheet` at the top of the repository makes it"
-    );
-    Command::new(path).stdin(Stdio::piped()).stdout(output).stderr(Stdio::piped()).spawn().expect("the program starts")
-}
-
-/// Hands the program its input, this many bytes at a time. It may stop reading before the end.
-fn feed(child: &mut Child, input: &[u8], piece: usize) {
-    let mut pipe = child.stdin.take().expect("its input is a pipe");
-    for some in input.chunks(piece) {
-        if pipe.write_all(some).is_err() {
-            return;
-        }
-    }
-}
-
-/// The end of a program that has to end by itself.
-fn ended(mut child: Child) -> ExitStatus {
-    let start = Instant::now();
-    while start.elapsed() < Duration::from_secs(60) {
-        if let Some(status) = child.try_wait().expect("the program can be waited for") {
-            let mut error = String::new();
-            child.stderr.take().expect("a pipe").read_to_string(&mut error).expect("text");
-            assert_eq!(error, "");
-            return status;
-        }
-        thread::sleep(Duration::from_millis(2));
-    }
-    let _ = child.kill();
-    panic!("the program did not end");
+    program::program("sheet", Stdio::piped(), output)
 }
 
 fn printed_in_pieces(input: &[u8], piece: usize) -> String {
     let mut child = program(Stdio::piped());
-    let mut output = child.stdout.take().expect("its output is a pipe");
     feed(&mut child, input, piece);
-    let mut text = String::new();
-    output.read_to_string(&mut text).expect("the output is text");
+    let text = output(&mut child);
     assert_eq!(ended(child).code(), Some(0));
     text
 }
