@@ -6,7 +6,7 @@
 mod program;
 
 use office::model::alpha::alpha;
-use program::{LIMIT, ended, feed, output, program, stuck};
+use program::{LIMIT, ended, feed, not_ended, output, program};
 use std::io::Write;
 use std::os::fd::OwnedFd;
 use std::os::unix::net::UnixDatagram;
@@ -33,14 +33,17 @@ fn printed(input: &str) -> String {
     text
 }
 
-/// A line's last digit without another comes after the last digit that an earlier line had at its place, else after 0.
+/// A single last digit is the lower half of its byte. The upper half is the last digit that the latest earlier line with that
+/// byte had in it, or 0.
 #[test]
-fn a_last_digit_without_another() {
-    assert_eq!(printed(&asking("0000ff5")), coefficients(&[0xff05]));
-    let lines = [asking("0000ffff"), asking("0000ff5"), asking("0000ff50"), asking("0000ff5")].concat();
-    let found = coefficients(&[0xffff, 0xfff5, 0xff50, 0xff05]);
+fn a_single_last_digit() {
     assert_ne!(alpha(0xfff5), alpha(0xff05));
-    assert_eq!(printed(&lines), found);
+    assert_eq!(printed(&asking("0000ff5")), coefficients(&[0xff05]));
+    let lines = ["0000ffff", "0000ff5", "0000ff50", "0000ff5", "0000ff7"].map(asking).concat();
+    assert_eq!(printed(&lines), coefficients(&[0xffff, 0xfff5, 0xff50, 0xff05, 0xff57]));
+    // A line that doesn't come as far, of three bytes of m, has no answer and leaves the digit.
+    let lines = ["0000ffff", "0000ff", "0000ff5"].map(asking).concat();
+    assert_eq!(printed(&lines), [coefficients(&[0xffff]), "\n".to_string(), coefficients(&[0xfff5])].concat());
 }
 
 /// 65,536 bytes have come before their lines are answered, and the pipe holds as many more: who writes nearly all of these and
@@ -56,32 +59,30 @@ fn a_writer_that_reads_late() {
     let (tell, told) = mpsc::channel();
     thread::spawn(move || {
         for some in input.as_bytes().chunks(4096) {
-            if pipe.write_all(some).is_err() {
-                return;
-            }
+            pipe.write_all(some).expect("the program reads to the end");
             // So that the program reads this much by itself.
             thread::sleep(Duration::from_millis(5));
         }
         let _ = tell.send(());
     });
     if told.recv_timeout(LIMIT).is_err() {
-        stuck(&mut child);
+        not_ended(&mut child);
     }
     assert_eq!(output(&mut child), answer.repeat(lines));
     assert_eq!(ended(child).code(), Some(0));
 }
 
-/// At a terminal each end of input (Ctrl-D) has the lines before it answered, and one with nothing before it ends the program.
-/// A socket of datagrams gives a program the same reads: what is sent at once is one read, and an end is a read of no bytes.
+/// At a terminal an end of input (Ctrl-D) is the end of a chunk, and one with nothing before it is the program's. A socket of
+/// datagrams gives a program the same reads: what is sent at once is one read, and an end is a read of no bytes.
 #[test]
 fn lines_after_an_end_of_input() {
     let (typed, seen) = UnixDatagram::pair().expect("two sockets");
-    let mut child = program("vectors", OwnedFd::from(seen).into(), Stdio::piped());
-    for some in
-        [asking("0000ffff"), String::new(), asking("0001ffff"), asking("0002ffff"), String::new(), String::new()]
-    {
+    typed.set_write_timeout(Some(LIMIT)).expect("a limit");
+    let [one, two, three, four] = ["0000ffff", "0001ffff", "0002ffff", "0003ffff"].map(asking);
+    for some in [&one, "", &two, "", &three, "", "", &four] {
         typed.send(some.as_bytes()).expect("sent");
     }
+    let mut child = program("vectors", OwnedFd::from(seen).into(), Stdio::piped());
     let text = output(&mut child);
     assert_eq!(ended(child).code(), Some(0));
     assert_eq!(text, coefficients(&[0xffff, 0x1ffff, 0x2ffff]));

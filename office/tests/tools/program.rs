@@ -22,14 +22,11 @@ pub fn program(name: &str, input: Stdio, output: Stdio) -> Child {
     Command::new(path).stdin(input).stdout(output).stderr(Stdio::piped()).spawn().expect("the program starts")
 }
 
-/// Hands the program its input, this many bytes at a time. It may stop reading before the end.
+/// Hands the program its input, this many bytes at a time, while the test goes on. It may stop reading before the end.
 pub fn feed(child: &mut Child, input: &[u8], piece: usize) {
     let mut pipe = child.stdin.take().expect("its input is a pipe");
-    for some in input.chunks(piece) {
-        if pipe.write_all(some).is_err() {
-            return;
-        }
-    }
+    let input = input.to_vec();
+    thread::spawn(move || input.chunks(piece).try_for_each(|some| pipe.write_all(some)));
 }
 
 /// All that a program prints that has to end by itself.
@@ -40,7 +37,7 @@ pub fn output(child: &mut Child) -> String {
         let mut text = String::new();
         let _ = tell.send(pipe.read_to_string(&mut text).map(|_| text));
     });
-    told.recv_timeout(LIMIT).map_or_else(|_| stuck(child), |text| text.expect("the output is text"))
+    told.recv_timeout(LIMIT).map_or_else(|_| not_ended(child), |text| text.expect("the output is text"))
 }
 
 /// The end of a program that has to end by itself.
@@ -55,11 +52,12 @@ pub fn ended(mut child: Child) -> ExitStatus {
         }
         thread::sleep(Duration::from_millis(2));
     }
-    stuck(&mut child)
+    not_ended(&mut child)
 }
 
-/// It doesn't stay behind.
-pub fn stuck(child: &mut Child) -> ! {
+/// Ends a program that did not end by itself, and the test.
+pub fn not_ended(child: &mut Child) -> ! {
     let _ = child.kill();
+    let _ = child.wait();
     panic!("the program did not end");
 }
