@@ -21,7 +21,7 @@ fn main(rt: HostRuntime) {
     let _ = answer_all(&mut rt.stdin(), &mut to);
 }
 
-// A chunk is full before its lines are answered, or its input has ended: who writes a whole chunk may read the answers after it.
+// A chunk is full before its lines are answered, or its input has ended, so that who writes before it reads is not held up at once. What is held of the answers is written at the end.
 fn answer_all(input: &mut impl Read, to: &mut Output) -> io::Result<()> {
     let mut line = Line::new();
     let mut chunk = [0u8; 65536];
